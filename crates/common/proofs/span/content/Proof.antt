@@ -1,0 +1,25 @@
+-- `content` meets its contract. Assumes nothing.
+use Rattle.common.specs.LeafLaws.{stretch-order, stretch-inside, stretch-bytes}
+use borrow.Author.Needs.{needs}
+use Rattle.common.proofs.span.content.Statement.{statement}
+use Rattle.common.proofs.span.content.Tie as tie
+
+content-bounds-requires : tie.Need-content-bounds-requires
+content-bounds-requires c κs = search needs
+
+sub-result : tie.Need-sub-result
+sub-result c = search stretch-order
+
+part-result-start : tie.Need-part-result-start
+part-result-start c = search stretch-order
+
+part-result-end : tie.Need-part-result-end
+part-result-end c = search stretch-inside
+
+returns : tie.Need-returns
+returns c = search stretch-bytes
+
+pub content-spec : {M : Type 1} → statement M
+content-spec =
+    tie.close
+    (tie.spec content-bounds-requires sub-result part-result-start part-result-end returns)

@@ -1,0 +1,28 @@
+-- The stretch of a text that a span names. Assumes nothing.
+use mathlib.Core.Path.{_≡_}
+use mathlib.Core.Bool.{Bool, true, false, _&&_}
+use mathlib.Core.List.{List}
+use Prim.Native.Nat.{ℕ, _-_, min}
+use lib.Dec.{leb}
+use lib.ListN.{length, take, drop}
+use Rattle.common.specs.declared.span.Bounds.{Bounds}
+
+abbrev pub bounds : ℕ → ℕ → Bounds
+bounds a e = record { start = a; end = e }
+
+abbrev pub pick : Bool → Bounds → Bounds → Bounds
+pick true a b = a
+pick false a b = b
+
+-- the span's own bounds; "a span that is reversed or past the text gives the empty stretch at its start, or at the text's end where
+-- the start is past that"
+abbrev pub stretch : ℕ → ℕ → ℕ → Bounds
+stretch len a e = pick (leb a e && leb e len) (bounds a e) (bounds (min a len) (min a len))
+
+-- the bytes of a text between two bounds
+abbrev pub cut : List ℕ → Bounds → List ℕ
+cut s b = take (b .end - b .start) (drop (b .start) s)
+
+-- what `content` promises: the bytes that stand in the stretch
+pub record Stretch (s : List ℕ) (a e : ℕ) (r : List ℕ) : Type 0 where
+  pub bytes : r ≡ cut s (stretch (length s) a e)

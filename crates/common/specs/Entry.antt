@@ -1,0 +1,78 @@
+-- Lists of entries as runs of numbers: rows of one width, the test that their places are in order, and numbers written into a run. Assumes nothing.
+use mathlib.Core.Path.{_≡_}
+use mathlib.Core.Bool.{Bool, true, _&&_}
+use mathlib.Core.List.{List, [], _∷_, _++_}
+use Prim.Native.Nat.{ℕ, zero, suc, _+_, _-_, _*_, _/_, _≤_, _<_}
+use lib.Dec.{leb, ltb}
+use lib.ListN.{length, getD, take, drop, set}
+use Rattle.common.specs.Turn.{Turn, go, stop, found, allFound, Adv}
+
+-- the numbers of a list of entries, one entry behind the other
+abbrev pub flatten : {A : Type 0} → (A → List ℕ) → List A → List ℕ
+flatten flat [] = []
+flatten flat (a ∷ l) = flat a ++ flatten flat l
+
+-- the first n rows of w numbers each
+abbrev pub rows : ℕ → ℕ → List ℕ → List (List ℕ)
+rows w zero l = []
+rows w (suc n) l = take w l ∷ rows w n (drop w l)
+
+-- the place where a row starts
+abbrev pub startOf : List ℕ → ℕ
+startOf row = getD row 0 0
+
+-- the place where a row ends
+abbrev pub stopOf : List ℕ → ℕ
+stopOf row = getD row 1 0
+
+-- the number of rows of width w that a run has room for
+abbrev pub room : ℕ → List ℕ → ℕ
+room w l = length l / w
+
+-- the test that rows are in order, apart, none of them empty, from `from` on and up to len
+abbrev pub shaped : ℕ → ℕ → List (List ℕ) → Bool
+shaped from len [] = true
+shaped from len (r ∷ l) = leb from (startOf r) && ltb (startOf r) (stopOf r) && leb (stopOf r) len && shaped (stopOf r) len l
+
+-- rows that are in order, apart, none of them empty, from `from` on and up to len
+abbrev pub Shaped : ℕ → ℕ → List (List ℕ) → Type 0
+Shaped from len [] = Unit {0}
+Shaped from len (r ∷ l) = (from ≤ startOf r) × (startOf r < stopOf r) × (stopOf r ≤ len) × Shaped (stopOf r) len l
+
+-- out with l written over its front
+abbrev pub over : List ℕ → List ℕ → List ℕ
+over l out = l ++ drop (length l) out
+
+-- out with the numbers of l set at k, k + 1 and so on
+abbrev pub putAt : ℕ → List ℕ → List ℕ → List ℕ
+putAt k [] out = out
+putAt k (x ∷ l) out = putAt (k + 1) l (set out k x)
+
+-- the numbers of what a turn finds
+abbrev pub numbers : {A : Type 0} → (A → List ℕ) → Turn A → List ℕ
+numbers flat (go n) = []
+numbers flat (stop v) = []
+numbers flat (found a n) = flat a
+
+-- ---- what a loop over entries knows
+
+-- a loop that has tested the first k of n rows, the last of which ends at low
+pub record Shaping (w : ℕ) (l : List ℕ) (n len from k low : ℕ) : Type 0 where
+  pub wide : 2 ≤ w
+  pub within : k ≤ n
+  pub same : shaped from len (rows w n l) ≡ shaped low len (rows w (n - k) (drop (k * w) l))
+
+-- a run `out` that was `out₀` and has the numbers of `all` before `rest` in its first k places
+pub record Written (all rest out₀ out : List ℕ) (k : ℕ) : Type 0 where
+  pub fits : length all ≤ length out₀
+  pub long : length out ≡ length out₀
+  pub front : all ≡ take k out ++ rest
+  pub back : drop k out ≡ drop k out₀
+  pub within : k ≤ length out
+
+-- a loop at q that writes what is found from `from` on, w numbers each, over the front of `out₀`, and stands at place k of `out`
+pub record Building {A : Type 0} (Lies : ℕ → ℕ → A → Type 0) (step : ℕ → Turn A) (flat : A → List ℕ) (w len from : ℕ) (out₀ out : List ℕ) (q k : ℕ) : Type 0 where
+  pub adv : Adv Lies step len
+  pub wide : (a : A) → length (flat a) ≡ w
+  pub inside : q ≤ len
+  pub wrote : Written (flatten flat (allFound step len from)) (flatten flat (allFound step len q)) out₀ out k

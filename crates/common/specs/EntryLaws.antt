@@ -1,0 +1,266 @@
+-- The laws of lists of entries as runs of numbers, and the rules of the loops that test and write them. Assumes nothing.
+use mathlib.Core.Path.{_≡_, refl, sym, ap, _∙_}
+use mathlib.Core.Bool.{Bool, true, false, _&&_}
+use mathlib.Core.List.{List, [], _∷_, _++_, map, append-assoc, append-nil}
+use Prim.Native.Nat.{ℕ, zero, suc, _+_, _-_, _*_, _^_, _≤_, _<_}
+use native.Mathlib.Numerals.{add-one}
+use native.Mathlib.Nat.{add-assoc, zero-mul, sub-zero, suc-mul, le-div-iff-mul-le, div-mul-le-self, mul-le-mul-right, mul-comm, eq-of-mul-eq-mul-left}
+use native.Mathlib.Omega.{arith}
+use lib.Dec.{T, leb, ltb, leb→le, ltb→lt}
+use borrow.Author.Tests.{leb-true, ltb-true, le-leb, lt-ltb}
+use lib.ListN.{length, getD, take, drop, set, length-append, length-set, take-append-drop}
+use lib.Seq.{take-at, drop-at, getD-take, getD-drop, drop-drop, drop-set-lt, take-suc-set, length-take-le, append-snoc}
+use borrow.Author.Needs.{scaled-fits}
+use mir.Val.{Fits}
+use mir.Syntax.{w32, w64}
+use Rattle.common.specs.Turn.{Turn, go, found, thenCollect, collect, allFound, Adv, Has, Stops}
+use Rattle.common.specs.TurnLaws.{by-turn, turn-ahead, collect-go, collect-found, collect-stop, stops-is, has-is, finds-is}
+use Rattle.common.specs.Entry.{flatten, rows, startOf, stopOf, room, shaped, Shaped, over, putAt, Shaping, Written, numbers, Building}
+
+-- ---- entries as rows
+module _ {A : Type 0} (flat : A → List ℕ) (w : ℕ) (wide : (a : A) → length (flat a) ≡ w) where
+  pub length-flatten : (l : List A) → length (flatten flat l) ≡ length l * w
+  length-flatten [] = sym (zero-mul w)
+  length-flatten (a ∷ l) = length-append (flat a) (flatten flat l) ∙ omega (arith, wide a, length-flatten l, suc-mul (length l) w)
+
+  pub rows-flatten : (l : List A) (rest : List ℕ) → rows w (length l) (flatten flat l ++ rest) ≡ map flat l
+  rows-flatten [] rest = refl
+  rows-flatten (a ∷ l) rest = rw (append-assoc (flat a) (flatten flat l) rest, take-at (flat a) (flatten flat l ++ rest) w (wide a), drop-at (flat a) (flatten flat l ++ rest) w (wide a), rows-flatten l rest)
+
+pub length-rows : (w n : ℕ) (l : List ℕ) → length (rows w n l) ≡ n
+length-rows w zero l = refl
+length-rows w (suc n) l = ap suc (length-rows w n (drop w l))
+
+-- the number j of row k
+pub rows-at : (w n k j : ℕ) (l : List ℕ) → k < n → j < w → getD (getD (rows w n l) k []) j 0 ≡ getD l (k * w + j) 0
+rows-at w zero k j l h i = absurd (omega arith)
+rows-at w (suc n) zero j l h i =
+    let e : 0 * w + j ≡ j = omega arith in
+    rw e (getD-take w l j 0 i)
+rows-at w (suc n) (suc k) j l h i =
+    let e : suc k * w + j ≡ w + (k * w + j) = omega (arith, suc-mul k w) in
+    rows-at w n k j (drop w l) (omega arith) i ∙ getD-drop w l (k * w + j) 0 ∙ rw e
+
+pub rows-next : (n w : ℕ) → (n + 1) * w ≡ n * w + w
+rows-next n w = omega arith
+
+-- ---- room
+pub room-fits : (w n : ℕ) (out : List ℕ) → n ≤ room w out → n * w ≤ length out
+room-fits w n out h = omega (arith, mul-le-mul-right w h, div-mul-le-self (length out) w)
+
+pub fits-room : (w n : ℕ) (out : List ℕ) → 0 < w → n * w ≤ length out → n ≤ room w out
+fits-room w n out p h = le-div-iff-mul-le p .1 h
+
+-- ---- places in order
+both : (a b : Bool) → (a && b) ≡ true → (a ≡ true) × (b ≡ true)
+both true b e = (refl, e)
+both false b e = let z : _≡_ {A = ℕ} 0 1 = cc in absurd (omega arith)
+
+pub shaped-holds : (from len : ℕ) (l : List (List ℕ)) → shaped from len l ≡ true → Shaped from len l
+shaped-holds from len [] e = tt
+shaped-holds from len (r ∷ l) e =
+    let x = both (leb from (startOf r) && ltb (startOf r) (stopOf r) && leb (stopOf r) len) (shaped (stopOf r) len l) e in
+    let y = both (leb from (startOf r) && ltb (startOf r) (stopOf r)) (leb (stopOf r) len) (x .0) in
+    let z = both (leb from (startOf r)) (ltb (startOf r) (stopOf r)) (y .0) in
+    (leb-true from (startOf r) (z .0), ltb-true (startOf r) (stopOf r) (z .1), leb-true (stopOf r) len (y .1), shaped-holds (stopOf r) len l (x .1))
+
+pub holds-shaped : (from len : ℕ) (l : List (List ℕ)) → Shaped from len l → shaped from len l ≡ true
+holds-shaped from len [] h = refl
+holds-shaped from len (r ∷ l) h = rw (le-leb from (startOf r) (h .0), lt-ltb (startOf r) (stopOf r) (h .1), le-leb (stopOf r) len (h .2), holds-shaped (stopOf r) len l (h .3))
+
+pub fails-shaped : (from len : ℕ) (l : List (List ℕ)) → (Shaped from len l → ⊥) → false ≡ shaped from len l
+fails-shaped from len l n = by (shaped from len l) refl
+  where
+    by : (t : Bool) → shaped from len l ≡ t → false ≡ t
+    by true e = absurd (n (shaped-holds from len l e))
+    by false e = refl
+
+pub shaped-later : (q n len : ℕ) (l : List (List ℕ)) → q ≤ n → Shaped n len l → Shaped q len l
+shaped-later q n len [] h s = tt
+shaped-later q n len (r ∷ l) h s = (omega arith, s .1, s .2, s .3)
+
+-- the rows of all that is found, where each lies between two places
+module _ {A : Type 0} {Lies : ℕ → ℕ → A → Type 0} {step : ℕ → Turn A} {len : ℕ} (adv : Adv Lies step len) (flat : A → List ℕ)
+    (apart : (q n : ℕ) (a : A) → Lies q n a → (q ≤ startOf (flat a)) × (startOf (flat a) < stopOf (flat a)) × (stopOf (flat a) ≤ n)) where
+  pub collect-shaped : (f q : ℕ) → q ≤ len → Shaped q len (map flat (collect step f q))
+  unfolding collect
+  collect-shaped zero q h = tt
+  collect-shaped (suc f) q h =
+      by-turn adv (λ t. Shaped q len (map flat (thenCollect (collect step f) t))) q h
+      (λ n m i. shaped-later q n len (map flat (collect step f n)) (omega arith) (collect-shaped f n i)) (λ v m i. tt)
+      (λ a n m i w. let l = apart q n a w in (l .0, l .1, omega arith, shaped-later (stopOf (flat a)) n len (map flat (collect step f n)) (l .2) (collect-shaped f n i)))
+
+-- ---- a loop over n rows of width w that tests their places
+module _ {w n len from : ℕ} {l : List ℕ} where
+  pub shaping-first : T (leb 2 w) → Shaping w l n len from 0 from
+  shaping-first h = record { wide = leb→le 2 w h; within = omega arith; same = rw (zero-mul w, sub-zero n) }
+
+  module _ {k low : ℕ} (i : Shaping w l n len from k low) where
+    pub shaping-end : n ≤ k → true ≡ shaped from len (rows w n l)
+    shaping-end h =
+        let e : n - k ≡ 0 = omega arith in
+        rw (i .same, e)
+
+    module _ (h : k < n) where
+      -- the row that stands at k
+      row-at : rows w (n - k) (drop (k * w) l) ≡ take w (drop (k * w) l) ∷ rows w (n - (k + 1)) (drop ((k + 1) * w) l)
+      row-at =
+          let e : n - k ≡ suc (n - (k + 1)) = omega arith in
+          let f : (k + 1) * w ≡ k * w + w = omega arith in
+          rw (e, f) (ap (λ (r : List ℕ). take w (drop (k * w) l) ∷ rows w (n - (k + 1)) r) (drop-drop w (k * w) l))
+
+      start-at : startOf (take w (drop (k * w) l)) ≡ getD l (k * w) 0
+      start-at =
+          let e : k * w + 0 ≡ k * w = omega arith in
+          getD-take w (drop (k * w) l) 0 0 (omega arith) ∙ getD-drop (k * w) l 0 0 ∙ rw e
+
+      stop-at : stopOf (take w (drop (k * w) l)) ≡ getD l (k * w + 1) 0
+      stop-at = getD-take w (drop (k * w) l) 1 0 (omega arith) ∙ getD-drop (k * w) l 1 0
+
+      pub shaping-again : low ≤ getD l (k * w) 0 → getD l (k * w) 0 < getD l (k * w + 1) 0 → getD l (k * w + 1) 0 ≤ len → Shaping w l n len from (k + 1) (getD l (k * w + 1) 0)
+      shaping-again x y z =
+          record {
+            wide = i .wide;
+            within = omega arith;
+            same =
+                i .same ∙ ap (shaped low len) row-at
+                ∙ rw (start-at, stop-at, le-leb low (getD l (k * w) 0) x, lt-ltb (getD l (k * w) 0) (getD l (k * w + 1) 0) y, le-leb (getD l (k * w + 1) 0) len z);
+          }
+
+      bad : ((low ≤ getD l (k * w) 0) × (getD l (k * w) 0 < getD l (k * w + 1) 0) × (getD l (k * w + 1) 0 ≤ len) → ⊥) → false ≡ shaped from len (rows w n l)
+      bad f =
+          rw (i .same, row-at)
+          (fails-shaped low len (take w (drop (k * w) l) ∷ rows w (n - (k + 1)) (drop ((k + 1) * w) l)) (λ s. f (omega (arith, start-at), omega (arith, start-at, stop-at), omega (arith, stop-at))))
+
+      pub shaping-early : getD l (k * w) 0 < low → false ≡ shaped from len (rows w n l)
+      shaping-early x = bad (λ s. omega arith)
+
+      pub shaping-empty : getD l (k * w + 1) 0 ≤ getD l (k * w) 0 → false ≡ shaped from len (rows w n l)
+      shaping-empty x = bad (λ s. omega arith)
+
+      pub shaping-long : len < getD l (k * w + 1) 0 → false ≡ shaped from len (rows w n l)
+      shaping-long x = bad (λ s. omega arith)
+
+-- ---- numbers written over the front of a run
+pub written-none : {all out : List ℕ} → length all ≤ length out → Written all all out out 0
+written-none h = record { fits = h; long = refl; front = refl; back = refl; within = omega arith }
+
+module _ {all rest out₀ out : List ℕ} {k : ℕ} (i : Written all rest out₀ out k) where
+  pub written-size : k + length rest ≡ length all
+  written-size = omega (arith, ap length (i .front) ∙ length-append (take k out) rest, length-take-le k out (i .within))
+
+  -- there is room for what is to come
+  pub written-room : k + length rest ≤ length out
+  written-room = omega (arith, written-size, i)
+
+pub written-one : {all rest out₀ out : List ℕ} {k x : ℕ} → Written all (x ∷ rest) out₀ out k → Written all rest out₀ (set out k x) (k + 1)
+written-one {all} {rest} {out₀} {out} {k} {x} i =
+    let h : k < length out = omega (arith, written-room i) in
+    record {
+      fits = i .fits;
+      long = length-set out k x ∙ i .long;
+      front = i .front ∙ rw (add-one, take-suc-set out k x h) (sym (append-snoc (take k out) x rest));
+      back = rw add-one (drop-set-lt (suc k) out k x (omega arith)) ∙ sym (drop-drop 1 k out) ∙ ap (drop 1) (i .back) ∙ drop-drop 1 k out₀;
+      within = rw length-set (omega arith);
+    }
+
+-- an entry of any width
+pub written-put : {all rest out₀ out : List ℕ} {k : ℕ} (x : List ℕ) → Written all (x ++ rest) out₀ out k → Written all rest out₀ (putAt k x out) (k + length x)
+written-put {k = k} [] i =
+    let e : k + 0 ≡ k = omega arith in
+    rw e i
+written-put {k = k} (a ∷ x) i =
+    let e : k + suc (length x) ≡ k + 1 + length x = omega arith in
+    rw e (written-put x (written-one i))
+
+pub written-all : {all out₀ out : List ℕ} {k : ℕ} → Written all [] out₀ out k → out ≡ over all out₀
+written-all {all} {out₀} {out} {k} i =
+    let e : all ≡ take k out = i .front ∙ append-nil (take k out) in
+    let n : length all ≡ k = ap length e ∙ length-take-le k out (i .within) in
+    rw (n, ← (i .back), e) (sym (take-append-drop k out))
+
+-- what stores at k, k + 1, k + 2 and so on leave
+pub put-three : (k a b c : ℕ) (out : List ℕ) → set (set (set out k a) (k + 1) b) (k + 2) c ≡ putAt k (a ∷ b ∷ c ∷ []) out
+put-three k a b c out = simp add-assoc
+
+pub put-four : (k a b c d : ℕ) (out : List ℕ) → set (set (set (set out k a) (k + 1) b) (k + 2) c) (k + 3) d ≡ putAt k (a ∷ b ∷ c ∷ d ∷ []) out
+put-four k a b c d out = simp add-assoc
+
+pub length-put : (k : ℕ) (l out : List ℕ) → length (putAt k l out) ≡ length out
+length-put k [] out = refl
+length-put k (x ∷ l) out = length-put (k + 1) l (set out k x) ∙ length-set out k x
+
+-- ---- a loop of turns that writes what is found: d, e and `view` as in TurnLaws
+module _ {A : Type 0} {Lies : ℕ → ℕ → A → Type 0} {step : ℕ → Turn A} {flat : A → List ℕ} {w len from : ℕ} {out : List ℕ} where
+  pub building-first : length (flatten flat (allFound step len from)) ≤ length out → ((a : A) → length (flat a) ≡ w) → from ≤ len → Adv Lies step len
+      → Building Lies step flat w len from out out from 0
+  building-first h wide i adv = record { adv = adv; wide = wide; inside = i; wrote = written-none h }
+
+  pub building-roomy : length (allFound step len from) ≤ room w out → ((a : A) → length (flat a) ≡ w) → from ≤ len → Adv Lies step len
+      → Building Lies step flat w len from out out from 0
+  building-roomy h wide i adv = building-first (omega (arith, room-fits w (length (allFound step len from)) out h, length-flatten flat w wide (allFound step len from))) wide i adv
+
+module _ {A D : Type 0} (view : D → Turn A) {Lies : ℕ → ℕ → A → Type 0} {step : ℕ → Turn A} {flat : A → List ℕ} {w len from q k : ℕ} {out₀ out : List ℕ} {d e : D}
+    (i : Building Lies step flat w len from out₀ out q k) (p : view d ≡ step q) (r : d ≡ e) where
+  pub building-go : {m : ℕ} → view e ≡ go m → Building Lies step flat w len from out₀ out m k
+  building-go c =
+      let s = sym p ∙ ap view r ∙ c in
+      record { adv = i .adv; wide = i .wide; inside = turn-ahead (i .adv) (i .inside) s .1; wrote = rw (← (collect-go (i .adv) (i .inside) s)) (i .wrote) }
+
+  pub building-go-less : {m : ℕ} → view e ≡ go m → len - m < len - q
+  building-go-less c = omega (arith, turn-ahead (i .adv) (i .inside) (sym p ∙ ap view r ∙ c))
+
+  more : {a : A} {m : ℕ} → view e ≡ found a m → Written (flatten flat (allFound step len from)) (flat a ++ flatten flat (allFound step len m)) out₀ out k
+  more c = rw (collect-found (i .adv) (i .inside) (sym p ∙ ap view r ∙ c)) at (i .wrote)
+
+  pub building-found : {m k′ : ℕ} {out′ : List ℕ} → Has (λ a n. n ≡ m) (view e) → out′ ≡ putAt k (numbers flat (view e)) out → k′ ≡ k + w → Building Lies step flat w len from out₀ out′ m k′
+  building-found {m} {k′} {out′} f o s =
+      let x = finds-is m (view e) f in
+      let l : out′ ≡ putAt k (flat (x .0)) out = o ∙ ap (λ (t : Turn A). putAt k (numbers flat t) out) (x .1) in
+      let n : k′ ≡ k + length (flat (x .0)) = omega (arith, i .wide (x .0)) in
+      record { adv = i .adv; wide = i .wide; inside = turn-ahead (i .adv) (i .inside) (sym p ∙ ap view r ∙ x .1) .1; wrote = rw (l, n) (written-put (flat (x .0)) (more (x .1))) }
+
+  pub building-found-less : (m : ℕ) → Has (λ a n. n ≡ m) (view e) → len - m < len - q
+  building-found-less m f = omega (arith, turn-ahead (i .adv) (i .inside) (sym p ∙ ap view r ∙ finds-is m (view e) f .1))
+
+  pub building-stop : Stops (view e) → out ≡ over (flatten flat (allFound step len from)) out₀
+  building-stop c = written-all (rw (collect-stop (i .adv) (i .inside) (sym p ∙ ap view r ∙ stops-is (view e) c .1)) at (i .wrote))
+
+  pub building-size : Stops (view e) → k ≡ length (allFound step len from) * w
+  building-size c =
+      let s = collect-stop (i .adv) (i .inside) (sym p ∙ ap view r ∙ stops-is (view e) c .1) in
+      omega (arith, written-size (i .wrote), ap (λ (l : List A). length (flatten flat l)) s, length-flatten flat w (i .wide) (allFound step len from))
+
+  pub building-count : (n : ℕ) → Stops (view e) → k ≡ n * w → T (ltb 0 w) → n ≡ length (allFound step len from)
+  building-count n c s h = eq-of-mul-eq-mul-left w (ltb→lt 0 w h) n (length (allFound step len from)) (mul-comm w n ∙ sym s ∙ building-size c ∙ mul-comm (length (allFound step len from)) w)
+
+  -- there is room for what is found
+  pub building-room : Has (λ a n. Unit {0}) (view e) → k + w ≤ length out
+  building-room c =
+      let x = has-is (λ a n. Unit {0}) (view e) c in
+      omega (arith, written-room (more (x .2)), length-append (flat (x .0)) (flatten flat (allFound step len (x .1))), i .wide (x .0))
+
+  pub building-here : Has (λ a n. Unit {0}) (view e) → T (ltb 0 w) → k < length out
+  building-here c h = omega (arith, building-room c, ltb→lt 0 w h)
+
+  pub building-at : (j : ℕ) → Has (λ a n. Unit {0}) (view e) → T (ltb j w) → k + j < length out
+  building-at j c h = omega (arith, building-room c, ltb→lt j w h)
+
+  -- its places in bytes, at s bytes to a number, fit 64 bits
+  pub building-here-scaled : (s : ℕ) → Has (λ a n. Unit {0}) (view e) → T (ltb 0 w) → length out₀ * s < 2 ^ 63 → Fits w64 (k * s)
+  building-here-scaled s c h b = scaled-fits k (length out₀) s (omega (arith, building-here c h, i .wrote .long)) b
+
+  pub building-scaled : (j s : ℕ) → Has (λ a n. Unit {0}) (view e) → T (ltb j w) → length out₀ * s < 2 ^ 63 → Fits w64 ((k + j) * s)
+  building-scaled j s c h b = scaled-fits (k + j) (length out₀) s (omega (arith, building-at j c h, i .wrote .long)) b
+
+-- a value of what is found that lies within the text fits 32 bits
+pub building-fits : {A D : Type 0} (view : D → Turn A) (value : A → ℕ) {Lies : ℕ → ℕ → A → Type 0} {step : ℕ → Turn A} {flat : A → List ℕ} {w len from q k x : ℕ} {out₀ out : List ℕ} {d e : D}
+    → Building Lies step flat w len from out₀ out q k → view d ≡ step q → d ≡ e → Has (λ a n. value a ≡ x) (view e) → ((q n : ℕ) (a : A) → Lies q n a → value a ≤ n) → len ≤ 4294967295 → Fits w32 x
+building-fits view value {q = q} {x = x} {e = e} i p r c g h =
+    let y = has-is (λ a n. value a ≡ x) (view e) c in
+    let l = turn-ahead (i .adv) (i .inside) (sym p ∙ ap view r ∙ y .2) in
+    record { fits = omega (arith, g q (y .1) (y .0) (l .2), l .1, y .3) }
+
+module _ {A : Type 0} {Lies : ℕ → ℕ → A → Type 0} {step : ℕ → Turn A} {flat : A → List ℕ} {w len from q k : ℕ} {out₀ out : List ℕ} (i : Building Lies step flat w len from out₀ out q k) where
+  pub building-same : length out ≡ length out₀
+  building-same = i .wrote .long

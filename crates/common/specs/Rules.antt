@@ -1,0 +1,29 @@
+-- Fence rules: as columns, and by byte. Assumes nothing.
+use mathlib.Core.Bool.{Bool, cond}
+use mathlib.Core.List.{List, [], _∷_}
+use Prim.Native.Nat.{ℕ, zero, suc}
+use lib.Dec.{ltb}
+use lib.ListN.{length, getD}
+use Rattle.common.specs.Search.{find, is}
+use Rattle.common.specs.declared.fence_tests.FenceTables.{FenceTables}
+
+-- the values of a function at n numbers from a on
+unfoldable pub tabulate : {B : Type 0} → (ℕ → B) → ℕ → ℕ → List B
+tabulate f zero a = []
+tabulate f (suc n) a = f a ∷ tabulate f n (suc a)
+
+-- the index of the first rule with a byte, else the number of rules
+abbrev pub row : List ℕ → ℕ → ℕ
+row bytes b = find (is b) bytes 0
+
+-- whether a rule has a byte
+abbrev pub hasRule : List ℕ → ℕ → Bool
+hasRule bytes b = ltb (row bytes b) (length bytes)
+
+-- the minimum of the first rule with a byte, else 0
+abbrev pub leastOf : List ℕ → List ℕ → ℕ → ℕ
+leastOf bytes mins b = cond (hasRule bytes b) (getD mins (row bytes b) 0) 0
+
+-- both by byte
+abbrev pub tablesOf : List ℕ → List ℕ → FenceTables
+tablesOf bytes mins = record { has = tabulate (hasRule bytes) 256 0; least = tabulate (leastOf bytes mins) 256 0 }

@@ -1,0 +1,47 @@
+-- Byte sets, the house classes, and the probe of a set. Assumes nothing.
+use mathlib.Core.Path.{_≡_}
+use mathlib.Core.Bool.{Bool, true, false, cond, _||_, _&&_}
+use mathlib.Core.List.{List, [], _∷_, _++_}
+use Prim.Native.Nat.{ℕ, zero, suc, _<_}
+use lib.Dec.{eqb, leb}
+use lib.ListN.{length, getD, take}
+use Rattle.common.specs.Search.{oneOf}
+use Rattle.common.specs.Rules.{tabulate}
+use Rattle.common.specs.declared.sets.Probe.{Probe}
+
+-- a byte's place in a table of 256 entries: the byte itself
+pub record Index (b r : ℕ) : Type 0 where
+  pub same : r ≡ b
+  pub below : r < 256
+
+-- "A set starts as 256 false entries and gains the accepted bytes": entry k says whether k is accepted
+abbrev pub setOf : List ℕ → List Bool
+setOf accepted = tabulate (oneOf accepted) 256 0
+
+-- "1 for a marker, 2 for a delimiter, 4 for a digit, 0 otherwise": markers - * +, delimiters . )
+abbrev pub classOf : ℕ → ℕ
+classOf b = cond (oneOf (45 ∷ 42 ∷ 43 ∷ []) b) 1 (cond (oneOf (46 ∷ 41 ∷ []) b) 2 (cond (leb 48 b && leb b 57) 4 0))
+
+-- the set of the bytes of a class
+abbrev pub classSet : ℕ → List Bool
+classSet class = tabulate (λ b. eqb (classOf b) class) 256 0
+
+-- the bytes that a set accepts, of n from b on, in rising order
+unfoldable pub acceptedFrom : List Bool → ℕ → ℕ → List ℕ
+acceptedFrom set zero b = []
+acceptedFrom set (suc n) b = elim (getD set b false) [ true ↦ b ∷ acceptedFrom set n (suc b) | false ↦ acceptedFrom set n (suc b) ]
+
+abbrev pub accepted : List Bool → List ℕ
+accepted set = acceptedFrom set 256 0
+
+-- a list's first three numbers, unused places 0
+abbrev pub firstThree : List ℕ → List ℕ
+firstThree l = take 3 (l ++ (0 ∷ 0 ∷ 0 ∷ []))
+
+-- "up to three accepted bytes in rising order, unused places 0, else none; a state made then holds the first three, count 0 and the
+-- flag off"
+abbrev pub probeOf : List ℕ → Probe
+probeOf l = record { needles = firstThree l; nn = cond (leb (length l) 3) (length l) 0; streaming = leb (length l) 3 }
+
+abbrev pub probe : List Bool → Probe
+probe set = probeOf (accepted set)

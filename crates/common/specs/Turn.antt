@@ -1,0 +1,187 @@
+-- Scans in turns: the first turn that does not only go on, all that a scan finds, what a run of steps yields, and what the places of a stretch have. Assumes nothing.
+use mathlib.Core.Path.{_≡_}
+use mathlib.Core.List.{List, [], _∷_, _++_}
+use Prim.Native.Nat.{ℕ, zero, suc, _+_, _-_, _≤_, _<_}
+use lib.ListN.{length}
+
+-- a turn of a scan that stands at a place: on from a later place; an end, at a place; or a thing found and the place that the scan goes on from
+pub data Turn (A : Type 0) : Type 0 where
+  go : ℕ → Turn A
+  stop : ℕ → Turn A
+  found : A → ℕ → Turn A
+
+module _ {A : Type 0} where
+  -- the turn itself, or what k says of the place that it only goes on from
+  abbrev pub thenScan : (ℕ → Turn A) → Turn A → Turn A
+  thenScan k (go n) = k n
+  thenScan k (stop v) = stop v
+  thenScan k (found a n) = found a n
+
+  -- the first of at most f turns from q that does not only go on
+  unfoldable pub scan : (ℕ → Turn A) → ℕ → ℕ → Turn A
+  scan step zero q = stop q
+  scan step (suc f) q = thenScan (scan step f) (step q)
+
+  -- what a turn finds, and behind it what k says of the place that it goes on from
+  abbrev pub thenCollect : (ℕ → List A) → Turn A → List A
+  thenCollect k (go n) = k n
+  thenCollect k (stop v) = []
+  thenCollect k (found a n) = a ∷ k n
+
+  -- the things that at most f turns from q find
+  unfoldable pub collect : (ℕ → Turn A) → ℕ → ℕ → List A
+  collect step zero q = []
+  collect step (suc f) q = thenCollect (collect step f) (step q)
+
+  -- the first turn from q that does not only go on, in a text of length len
+  abbrev pub firstTurn : (ℕ → Turn A) → ℕ → ℕ → Turn A
+  firstTurn step len q = scan step (suc len) q
+
+  -- the things found from q on, in a text of length len
+  abbrev pub allFound : (ℕ → Turn A) → ℕ → ℕ → List A
+  allFound step len q = collect step (suc len) q
+
+  -- the things that the first n scans find, each from where the one before went on, up to the first that finds nothing
+  unfoldable pub answers : (ℕ → Turn A) → ℕ → ℕ → ℕ → List A
+  answers step len zero q = []
+  answers step len (suc n) q = thenCollect (answers step len n) (firstTurn step len q)
+
+-- the turn with every place k further on, and f of the thing found
+abbrev pub moveT : {A B : Type 0} → (A → B) → ℕ → Turn A → Turn B
+moveT f k (go n) = go (k + n)
+moveT f k (stop v) = stop (k + v)
+moveT f k (found a n) = found (f a) (k + n)
+
+-- a step of a state: a thing and the state after it, or the state at the end
+pub data Step (A S : Type 0) : Type 0 where
+  yields : A → S → Step A S
+  ends : S → Step A S
+
+module _ {A S : Type 0} where
+  -- what a step yields, and behind it what k says of the state after it
+  abbrev pub thenDrain : (S → List A) → Step A S → List A
+  thenDrain k (yields a s) = a ∷ k s
+  thenDrain k (ends s) = []
+
+  -- the things that the first n steps from a state yield, up to the first that yields nothing
+  unfoldable pub drain : (S → Step A S) → ℕ → S → List A
+  drain next zero s = []
+  drain next (suc n) s = thenDrain (drain next n) (next s)
+
+  -- the step that a scan's answer makes, where `at n` is the state at place n
+  abbrev pub stepOf : (ℕ → S) → Turn A → Step A S
+  stepOf at (go n) = ends (at n)
+  stepOf at (stop v) = ends (at v)
+  stepOf at (found a n) = yields a (at n)
+
+module _ {A : Type 0} (at : ℕ → List A) where
+  -- the things that n places have, the first of them a
+  unfoldable pub gather : ℕ → ℕ → List A
+  gather zero a = []
+  gather (suc n) a = at a ++ gather n (suc a)
+
+  -- the things that the places from a up to e have
+  abbrev pub between : ℕ → ℕ → List A
+  between a e = gather (e - a) a
+
+  -- a stretch from a up to b whose places have nothing
+  abbrev pub None : ℕ → ℕ → Type 0
+  None a b = (k : ℕ) → a ≤ k → k < b → at k ≡ []
+
+-- ---- what the laws ask of a step
+module _ {A : Type 0} (Lies : ℕ → ℕ → A → Type 0) where
+  -- a turn at q that moves on within the text; `Lies q n a` is what holds of an a found between q and n
+  abbrev pub Ahead : ℕ → ℕ → Turn A → Type 0
+  Ahead q len (go n) = (q < n) × (n ≤ len)
+  Ahead q len (stop v) = (q ≤ v) × (v ≤ len)
+  Ahead q len (found a n) = (q < n) × (n ≤ len) × Lies q n a
+
+  -- a turn from q that moves on within the text and does not only go on
+  abbrev pub Last : ℕ → ℕ → Turn A → Type 0
+  Last q len (go n) = ⊥
+  Last q len (stop v) = (q ≤ v) × (v ≤ len)
+  Last q len (found a n) = (q < n) × (n ≤ len) × Lies q n a
+
+  -- a step all of whose turns move on within the text
+  pub record Adv (step : ℕ → Turn A) (len : ℕ) : Type 0 where
+    pub ahead : (q : ℕ) → q ≤ len → Ahead q len (step q)
+
+module _ {A : Type 0} where
+  -- a turn that only goes on, to a place of P, or is one of Q
+  abbrev pub Leads : (ℕ → Type 0) → (Turn A → Type 0) → Turn A → Type 0
+  Leads P Q (go n) = P n
+  Leads P Q (stop v) = Q (stop v)
+  Leads P Q (found a n) = Q (found a n)
+
+  -- a list of things that all have P
+  abbrev pub Each : (A → Type 0) → List A → Type 0
+  Each P [] = Unit {0}
+  Each P (a ∷ l) = P a × Each P l
+
+  -- a turn that finds nothing, or a thing that has P
+  abbrev pub OnFound : (A → Type 0) → Turn A → Type 0
+  OnFound P (go n) = Unit {0}
+  OnFound P (stop v) = Unit {0}
+  OnFound P (found a n) = P a
+
+  -- the place where a turn's answer ends
+  abbrev pub turnEnd : (A → ℕ) → Turn A → ℕ
+  turnEnd endOf (go n) = n
+  turnEnd endOf (stop v) = v
+  turnEnd endOf (found a n) = endOf a
+
+  -- a turn at q that `step′` takes too, if its answer ends before len
+  abbrev pub Keeps : (A → ℕ) → (ℕ → Turn A) → ℕ → ℕ → Turn A → Type 0
+  Keeps endOf step′ len q (go n) = step′ q ≡ go n
+  Keeps endOf step′ len q (stop v) = v < len → step′ q ≡ stop v
+  Keeps endOf step′ len q (found a n) = endOf a < len → step′ q ≡ found a n
+
+  -- a turn at q that `step′` takes too, if what it finds ends before len; at an end, `step′` finds from q on what it finds from len on
+  abbrev pub Joins : (A → ℕ) → (ℕ → Turn A) → ℕ → ℕ → ℕ → Turn A → Type 0
+  Joins endOf step′ len′ len q (go n) = step′ q ≡ go n
+  Joins endOf step′ len′ len q (stop v) = allFound step′ len′ q ≡ allFound step′ len′ len
+  Joins endOf step′ len′ len q (found a n) = endOf a < len → step′ q ≡ found a n
+
+  -- a turn at q that answers for the places from q up to the one that it goes on from, where Inv holds again
+  abbrev pub Covers : (ℕ → List A) → (ℕ → Type 0) → ℕ → ℕ → Turn A → Type 0
+  Covers at Inv len q (go n) = (q < n) × (n ≤ len) × Inv n × None at q n
+  Covers at Inv len q (stop v) = None at q len
+  Covers at Inv len q (found a n) = (n ≤ len) × Inv n × (k : ℕ) × (q ≤ k) × (k < n) × (at k ≡ a ∷ []) × None at q k × None at (suc k) n
+
+  -- a scan's answer that tells the first of `all` and the place from which on the others lie
+  abbrev pub Told : (ℕ → List A) → (ℕ → Type 0) → ℕ → List A → Turn A → Type 0
+  Told at Inv len all (go n) = ⊥
+  Told at Inv len all (stop v) = all ≡ []
+  Told at Inv len all (found a n) = (n ≤ len) × Inv n × (all ≡ a ∷ between at n len)
+
+-- ---- what a loop of turns knows
+module _ {A : Type 0} where
+  -- a turn that finds an a and goes on from an n of which P holds
+  abbrev pub Has : (A → ℕ → Type 0) → Turn A → Type 0
+  Has P (go n) = ⊥
+  Has P (stop v) = ⊥
+  Has P (found a n) = P a n
+
+  -- a turn that stops
+  abbrev pub Stops : Turn A → Type 0
+  Stops (go n) = ⊥
+  Stops (stop v) = Unit {0}
+  Stops (found a n) = ⊥
+
+  -- a turn that does not only go on
+  abbrev pub Rests : Turn A → Type 0
+  Rests t = Leads (λ n. ⊥) (λ t. Unit {0}) t
+
+module _ {A : Type 0} (Lies : ℕ → ℕ → A → Type 0) (step : ℕ → Turn A) (len from : ℕ) where
+  -- a loop at q that looks for the first turn from `from` that does not only go on
+  pub record Stands (q : ℕ) : Type 0 where
+    pub adv : Adv Lies step len
+    pub inside : q ≤ len
+    pub same : firstTurn step len from ≡ firstTurn step len q
+
+  -- a loop at q that has counted n of the things found from `from` on
+  pub record Counting (q n : ℕ) : Type 0 where
+    pub adv : Adv Lies step len
+    pub inside : q ≤ len
+    pub few : from + n ≤ q
+    pub left : n + length (allFound step len q) ≡ length (allFound step len from)

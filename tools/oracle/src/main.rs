@@ -1,0 +1,72 @@
+//! The oracle: answers questions with the Rust of meon itself.
+//!
+//! One request on each line of standard input, one line of answer on standard output.
+//! `README.md` beside this folder lists the requests.
+
+mod answer;
+mod block;
+mod context;
+mod leaves;
+mod question;
+mod scanners;
+mod words;
+
+use question::Question;
+use std::io::{self, BufRead, Write};
+use words::Words;
+
+fn main() -> io::Result<()> {
+    // A panic of the Rust is an answer, and nothing to report.
+    std::panic::set_hook(Box::new(|_| {}));
+    let mut out = io::stdout().lock();
+    for line in io::stdin().lock().split(b'\n') {
+        match respond(&line?) {
+            Ok(answer) => writeln!(out, "{answer}")?,
+            Err(why) => writeln!(out, "error {why}")?,
+        }
+        // Whoever asks may wait for this answer before the next request.
+        out.flush()?;
+    }
+    Ok(())
+}
+
+fn respond(line: &[u8]) -> Result<String, String> {
+    let line = std::str::from_utf8(line).map_err(|_| "the request isn't text".to_string())?;
+    let mut words = Words::new(line);
+    let name = words.word("a request")?;
+    if name == "block" {
+        return block::respond(&mut words).map(|sums| sums.to_string());
+    }
+    let question = find(name, &mut words)?;
+    let answer = match question {
+        Question::Alone { ask } => {
+            words.end()?;
+            question::caught(ask)
+        }
+        Question::OfText { ask } => {
+            let text = words.text()?;
+            words.end()?;
+            question::caught(|| ask(&text))
+        }
+        Question::AtPlace { places, ask } => {
+            let text = words.text()?;
+            let place = words.number("a place")?;
+            words.end()?;
+            if place < places.first {
+                return Err(format!("places begin at {}", places.first));
+            }
+            question::caught(|| ask(&text, place))
+        }
+    };
+    Ok(answer.to_string())
+}
+
+/// The question of this name, with its parameters read from `words`.
+fn find(name: &str, words: &mut Words) -> Result<Question, String> {
+    for group in [leaves::question, scanners::question, context::question] {
+        if let Some(question) = group(name, words)? {
+            return Ok(question);
+        }
+    }
+    Err(format!("unknown request {name}"))
+}
