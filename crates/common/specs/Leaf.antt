@@ -1,30 +1,15 @@
 -- What the leaves of common.rs answer, refusals in the page's order: "Order for a leaf with a place: 1, 6 where it takes rules, 2."
 -- Assumes nothing.
-use mathlib.Core.Bool.{Bool, not}
 use mathlib.Core.List.{List, [], _∷_}
 use Prim.Native.Nat.{ℕ}
-use lib.Dec.{eqb, ltb}
-use lib.ListN.{length}
 use Rattle.common.specs.Search.{is, back, lineEnd}
-use Rattle.common.specs.Refusals.{Outcome, given, refuse}
+use Rattle.common.specs.Refusals.{Outcome, given, refuse, tooLong, past, differ}
 use Rattle.common.specs.Rules.{tablesOf}
 use Rattle.common.specs.Fences.{opensLine}
 use Rattle.common.specs.Paragraph.{nextIn}
 use Rattle.common.specs.declared.fence_tests.FenceTables.{FenceTables}
 use Rattle.common.specs.declared.fence_tests.Hit.{Hit}
 use Rattle.common.specs.declared.fence_tests.Hit.the-variants.{At, End}
-
--- "a text, a replacement or an edited text is too long"
-abbrev pub tooLong : List ℕ → Bool
-tooLong s = ltb 4294967295 (length s)
-
--- "a place given to a leaf of common.rs … is past the text"
-abbrev pub past : List ℕ → ℕ → Bool
-past s p = ltb (length s) p
-
--- "a rule's columns differ in length"
-abbrev pub differ : List ℕ → List ℕ → Bool
-differ a b = not (eqb (length a) (length b))
 
 -- "first line-end byte at or after a place, else the length"
 unfoldable pub findLineEnd : List ℕ → ℕ → ℕ → Outcome

@@ -7,13 +7,16 @@ use lib.Dec.{eqb, ltb}
 use lib.ListN.{getD}
 use borrow.Author.Tests.{lt-ltb, le-ltb, eq-eqb, ne-eqb}
 use Rattle.common.specs.Promise.{Gives, gives-unique}
-use Rattle.common.specs.Refusals.{Outcome, given, refused, refuse, numberOf, told, toldFound}
+use Rattle.common.specs.Refusals.{Outcome, given, refused, refuse, numberOf, told, toldFound, toldSpan}
 use Rattle.common.specs.declared.refusal.Refusal.{Refusal}
 use Rattle.common.specs.declared.refusal.Refusal.the-variants.{TextTooLong, PlaceOutside, NoRoom, CutsOutOfOrder, ListMisshapen, ColumnsDiffer, NotAtJoint, ReplacementOpen, LineEndMark}
 use Rattle.common.specs.declared.refusal.Answer.{Answer}
 use Rattle.common.specs.declared.refusal.Answer.the-variants as answer
 use Rattle.common.specs.declared.refusal.Found.{Found}
 use Rattle.common.specs.declared.refusal.Found.the-variants as found
+use Rattle.common.specs.declared.span.Span.{Span}
+use Rattle.common.specs.declared.span.SpanFound.{SpanFound}
+use Rattle.common.specs.declared.span.SpanFound.the-variants as spanned
 
 -- a test that holds refuses, one that fails is passed
 pub refuse-now : (n : ℕ) (b : Bool) (o : Outcome) → b ≡ true → refused n ≡ refuse n b o
@@ -84,9 +87,25 @@ found-back (found.At q) = refl
 found-back found.Nothing = refl
 found-back (found.Refused r) = read-refused foundAt found.Refused r
 
+spanAt : List ℕ → SpanFound
+spanAt [] = spanned.Nothing
+spanAt (a ∷ l) = spanned.At (record { start = a; end = getD l 0 0 })
+
+span-back : (r : SpanFound) → read spanAt spanned.Refused (toldSpan r) ≡ r
+unfolding read spanAt
+span-back (spanned.At s) = refl
+span-back spanned.Nothing = refl
+span-back (spanned.Refused r) = read-refused spanAt spanned.Refused r
+
 -- two answers of one outcome are equal
 pub answer-unique : {o : Outcome} {r r′ : Answer} → Gives o (told r) → Gives o (told r′) → r ≡ r′
 answer-unique {o} {r} {r′} g g′ = sym (answer-back r) ∙ ap (read (λ l. answer.Value (getD l 0 0)) answer.Refused) (gives-unique g g′) ∙ answer-back r′
 
 pub found-unique : {o : Outcome} {r r′ : Found} → Gives o (toldFound r) → Gives o (toldFound r′) → r ≡ r′
 found-unique {o} {r} {r′} g g′ = sym (found-back r) ∙ ap (read foundAt found.Refused) (gives-unique g g′) ∙ found-back r′
+
+pub span-unique : {o : Outcome} {r r′ : SpanFound} → Gives o (toldSpan r) → Gives o (toldSpan r′) → r ≡ r′
+span-unique {o} {r} {r′} g g′ = sym (span-back r) ∙ ap (read spanAt spanned.Refused) (gives-unique g g′) ∙ span-back r′
+
+pub given-two : (a b c d : ℕ) → a ≡ c → b ≡ d → given (a ∷ b ∷ []) ≡ given (c ∷ d ∷ [])
+given-two a b c d e f = rw (e, f)

@@ -1,13 +1,17 @@
 -- The numbers of refusals, and what an answer says: its number, 0 where the input is served, and its values. Assumes nothing.
-use mathlib.Core.Bool.{Bool, true, false}
+use mathlib.Core.Bool.{Bool, true, false, not}
 use mathlib.Core.List.{List, [], _∷_}
 use Prim.Native.Nat.{ℕ}
+use lib.Dec.{eqb, ltb}
+use lib.ListN.{length}
 use Rattle.common.specs.declared.refusal.Refusal.{Refusal}
 use Rattle.common.specs.declared.refusal.Refusal.the-variants.{TextTooLong, PlaceOutside, NoRoom, CutsOutOfOrder, ListMisshapen, ColumnsDiffer, NotAtJoint, ReplacementOpen, LineEndMark}
 use Rattle.common.specs.declared.refusal.Answer.{Answer}
 use Rattle.common.specs.declared.refusal.Answer.the-variants as answer
 use Rattle.common.specs.declared.refusal.Found.{Found}
 use Rattle.common.specs.declared.refusal.Found.the-variants as found
+use Rattle.common.specs.declared.span.SpanFound.{SpanFound}
+use Rattle.common.specs.declared.span.SpanFound.the-variants as spanned
 
 -- the page's number
 abbrev pub numberOf : Refusal → ℕ
@@ -46,3 +50,21 @@ abbrev pub toldFound : Found → Outcome
 toldFound (found.At q) = given (q ∷ [])
 toldFound found.Nothing = given []
 toldFound (found.Refused r) = refused (numberOf r)
+
+abbrev pub toldSpan : SpanFound → Outcome
+toldSpan (spanned.At s) = given (s .start ∷ s .end ∷ [])
+toldSpan spanned.Nothing = given []
+toldSpan (spanned.Refused r) = refused (numberOf r)
+
+-- ---- what is refused, in the page's words
+-- "a text, a replacement or an edited text is too long"
+abbrev pub tooLong : List ℕ → Bool
+tooLong s = ltb 4294967295 (length s)
+
+-- "a place given to a leaf of `common.rs`, or a scanner state's position, is past the text"
+abbrev pub past : List ℕ → ℕ → Bool
+past s p = ltb (length s) p
+
+-- "a rule's columns differ in length"
+abbrev pub differ : List ℕ → List ℕ → Bool
+differ a b = not (eqb (length a) (length b))

@@ -1,4 +1,5 @@
 // Spans, and the stretch of text that one names.
+use crate::refusal::Refusal;
 use crate::search::lesser;
 ghost use Rattle.common.specs.Promise.{Gives};
 ghost use Rattle.common.specs.Content.{stretch, Stretch};
@@ -9,6 +10,13 @@ pub const MAX_INPUT_LEN: usize = 4294967295;
 pub struct Span {
     pub start: u32,
     pub end: u32,
+}
+
+// A span, none, or a refusal: what a scanner of spans answers.
+pub enum SpanFound {
+    At(Span),
+    Nothing,
+    Refused(Refusal),
 }
 
 // A stretch of a text: from `start` up to, not including, `end`.
