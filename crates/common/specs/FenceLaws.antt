@@ -112,8 +112,8 @@ module _ (eol b least : ℕ) (s : List ℕ) (p : ℕ) where
 pub ruleset open-rules = (opens-eol, opens-none, opens-short, opens-more, opens-yes)
 
 -- by the tables
-module _ (eol : ℕ) (has : List Bool) (least s : List ℕ) (p b : ℕ) (hb : Gives (getD s p 0) b) (y : Bool) (hy : Gives (getD has b false) y) where
-  pub opens-rule : (n : ℕ) (d : Opening) → y ≡ true → Gives (getD least b 0) n → Gives (openingOf eol b n s p) d → d ≡ opening eol has least s p
+module _ (eol : ℕ) (has : ℕ → Bool) (least : ℕ → ℕ) (s : List ℕ) (p b : ℕ) (hb : Gives (getD s p 0) b) (y : Bool) (hy : Gives (has b) y) where
+  pub opens-rule : (n : ℕ) (d : Opening) → y ≡ true → Gives (least b) n → Gives (openingOf eol b n s p) d → d ≡ opening eol has least s p
   unfolding opening
   opens-rule n d u hn hd = hd .answer ∙ simp (← (hb .answer), ← (hy .answer), u, ← (hn .answer))
 
@@ -121,30 +121,32 @@ module _ (eol : ℕ) (has : List Bool) (least s : List ℕ) (p b : ℕ) (hb : Gi
   unfolding opening
   opens-unruled u = simp (← (hb .answer), ← (hy .answer), u)
 
--- what an answer says of the line
-module _ (eol : ℕ) (has : List Bool) (least s : List ℕ) (p : ℕ) (d : Opening) (says : Gives (opening eol has least s p) d) where
-  as-one : opening eol has least s p ≡ pickOpening (opensLine eol has least s p) (Opens (runCount p (min (find (other (is (getD s p 0))) s p) (lineEnd eol s p))) (lineEnd eol s p)) Not
-  unfolding opening openingOf opensLine
-  as-one = by (getD has (getD s p 0) false)
-    where
-      by : (y : Bool) → pickOpening y (pickOpening (opensTo (getD s p 0) (getD least (getD s p 0) 0) s p (lineEnd eol s p)) (Opens (runCount p (min (find (other (is (getD s p 0))) s p) (lineEnd eol s p))) (lineEnd eol s p)) Not) Not
-          ≡ pickOpening (y && opensTo (getD s p 0) (getD least (getD s p 0) 0) s p (lineEnd eol s p)) (Opens (runCount p (min (find (other (is (getD s p 0))) s p) (lineEnd eol s p))) (lineEnd eol s p)) Not
-      by true = refl
-      by false = refl
+-- a line opens with its whole run, up to its line's end
+pub opening-is : (eol : ℕ) (has : ℕ → Bool) (least : ℕ → ℕ) (s : List ℕ) (p : ℕ)
+    → opening eol has least s p ≡ pickOpening (opensLine eol has least s p) (Opens (runCount p (min (find (other (is (getD s p 0))) s p) (lineEnd eol s p))) (lineEnd eol s p)) Not
+unfolding opening openingOf opensLine
+opening-is eol has least s p = by (has (getD s p 0))
+  where
+    by : (y : Bool) → pickOpening y (pickOpening (opensTo (getD s p 0) (least (getD s p 0)) s p (lineEnd eol s p)) (Opens (runCount p (min (find (other (is (getD s p 0))) s p) (lineEnd eol s p))) (lineEnd eol s p)) Not) Not
+        ≡ pickOpening (y && opensTo (getD s p 0) (least (getD s p 0)) s p (lineEnd eol s p)) (Opens (runCount p (min (find (other (is (getD s p 0))) s p) (lineEnd eol s p))) (lineEnd eol s p)) Not
+    by true = refl
+    by false = refl
 
+-- what an answer says of the line
+module _ (eol : ℕ) (has : ℕ → Bool) (least : ℕ → ℕ) (s : List ℕ) (p : ℕ) (d : Opening) (says : Gives (opening eol has least s p) d) where
   pub told-opens : (r e : ℕ) → d ≡ Opens r e → true ≡ opensLine eol has least s p
   told-opens r e h = by (decide (opensLine eol has least s p))
     where
       by : (opensLine eol has least s p ≡ true) ⊎ (opensLine eol has least s p ≡ false) → true ≡ opensLine eol has least s p
       by (inl u) = sym u
-      by (inr u) = absurd (let w : Not ≡ Opens r e = sym (as-one ∙ rw u) ∙ (sym (says .answer) ∙ h) in let z : _≡_ {A = ℕ} 0 1 = cc in omega arith)
+      by (inr u) = absurd (let w : Not ≡ Opens r e = sym (opening-is eol has least s p ∙ rw u) ∙ (sym (says .answer) ∙ h) in let z : _≡_ {A = ℕ} 0 1 = cc in omega arith)
 
   pub told-not : d ≡ Not → false ≡ opensLine eol has least s p
   told-not h = by (decide (opensLine eol has least s p))
     where
       by : (opensLine eol has least s p ≡ true) ⊎ (opensLine eol has least s p ≡ false) → false ≡ opensLine eol has least s p
       by (inl u) =
-          absurd (let w : Opens (runCount p (min (find (other (is (getD s p 0))) s p) (lineEnd eol s p))) (lineEnd eol s p) ≡ Not = sym (as-one ∙ rw u) ∙ (sym (says .answer) ∙ h) in let z : _≡_ {A = ℕ} 0 1 = cc in omega arith)
+          absurd (let w : Opens (runCount p (min (find (other (is (getD s p 0))) s p) (lineEnd eol s p))) (lineEnd eol s p) ≡ Not = sym (opening-is eol has least s p ∙ rw u) ∙ (sym (says .answer) ∙ h) in let z : _≡_ {A = ℕ} 0 1 = cc in omega arith)
       by (inr u) = sym u
 
 -- ---- the search for a close

@@ -37,12 +37,14 @@ opensTo b least s p e = opensRun b least s p (runEnd b s p e) e
 unfoldable pub openingOf : ℕ → ℕ → ℕ → List ℕ → ℕ → Opening
 openingOf eol b least s p = pickOpening (opensTo b least s p (lineEnd eol s p)) (Opens (runCount p (runEnd b s p (lineEnd eol s p))) (lineEnd eol s p)) Not
 
--- whether the line that begins at p opens a fence, by the first rule with the byte that stands there; and how
-unfoldable pub opensLine : ℕ → List Bool → List ℕ → List ℕ → ℕ → Bool
-opensLine eol has least s p = getD has (getD s p 0) false && opensTo (getD s p 0) (getD least (getD s p 0) 0) s p (lineEnd eol s p)
+-- whether the line that begins at p opens a fence, by the rule of the byte that stands there: `has` says whether there is one, `least`
+-- its minimum
+unfoldable pub opensLine : ℕ → (ℕ → Bool) → (ℕ → ℕ) → List ℕ → ℕ → Bool
+opensLine eol has least s p = has (getD s p 0) && opensTo (getD s p 0) (least (getD s p 0)) s p (lineEnd eol s p)
 
-unfoldable pub opening : ℕ → List Bool → List ℕ → List ℕ → ℕ → Opening
-opening eol has least s p = pickOpening (getD has (getD s p 0) false) (openingOf eol (getD s p 0) (getD least (getD s p 0) 0) s p) Not
+-- and how
+unfoldable pub opening : ℕ → (ℕ → Bool) → (ℕ → ℕ) → List ℕ → ℕ → Opening
+opening eol has least s p = pickOpening (has (getD s p 0)) (openingOf eol (getD s p 0) (least (getD s p 0)) s p) Not
 
 -- whether a run from q up to j, in a line that ends at e, closes a fence: it is "as long or longer", and the "rest is separators or
 -- tabs"

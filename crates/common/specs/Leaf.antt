@@ -1,13 +1,13 @@
 -- What the leaves of common.rs answer, refusals in the page's order: "Order for a leaf with a place: 1, 6 where it takes rules, 2."
 -- Assumes nothing.
+use mathlib.Core.Bool.{Bool, false}
 use mathlib.Core.List.{List, [], _∷_}
 use Prim.Native.Nat.{ℕ}
 use Rattle.common.specs.Search.{is, back, lineEnd}
 use Rattle.common.specs.Refusals.{Outcome, given, refuse, tooLong, past, differ}
-use Rattle.common.specs.Rules.{tablesOf}
+use Rattle.common.specs.Rules.{onByte, hasRule, leastOf}
 use Rattle.common.specs.Fences.{opensLine}
 use Rattle.common.specs.Paragraph.{nextIn}
-use Rattle.common.specs.declared.fence_tests.FenceTables.{FenceTables}
 use Rattle.common.specs.declared.fence_tests.Hit.{Hit}
 use Rattle.common.specs.declared.fence_tests.Hit.the-variants.{At, End}
 
@@ -23,10 +23,11 @@ abbrev pub toldHit : Hit → Outcome
 toldHit (At q) = given (q ∷ [])
 toldHit (End u) = given []
 
-abbrev pub nextBy : FenceTables → List ℕ → ℕ → ℕ → ℕ → Outcome
-nextBy f s from needle eol = toldHit (nextIn eol (opensLine eol (f .has) (f .least) s) s needle from)
+-- whether a line opens a fence by the columns: by the first rule with its first byte
+abbrev pub opensBy : ℕ → List ℕ → List ℕ → List ℕ → ℕ → Bool
+opensBy eol bytes mins s p = opensLine eol (onByte false (hasRule bytes)) (onByte 0 (leastOf bytes mins)) s p
 
 -- "crosses one line end; stops at the end of input, at an empty line, or where the entered line opens a fence"
 unfoldable pub nextInParagraph : List ℕ → ℕ → ℕ → ℕ → List ℕ → List ℕ → Outcome
 nextInParagraph s from needle eol bytes mins =
-    refuse 1 (tooLong s) (refuse 6 (differ bytes mins) (refuse 2 (past s from) (nextBy (tablesOf bytes mins) s from needle eol)))
+    refuse 1 (tooLong s) (refuse 6 (differ bytes mins) (refuse 2 (past s from) (toldHit (nextIn eol (opensBy eol bytes mins s) s needle from))))

@@ -11,10 +11,11 @@ use borrow.Author.Tests.{le-leb, lt-leb, leb-true, leb-false}
 use Rattle.common.specs.Promise.{Gives}
 use Rattle.common.specs.SearchLaws.{decide}
 use Rattle.common.specs.Refusals.{given}
-use Rattle.common.specs.Rules.{tablesOf}
+use Rattle.common.specs.Rules.{tabulate, entry, onByte, hasRule, leastOf, tablesOf}
+use Rattle.common.specs.TableLaws.{table-entry}
 use Rattle.common.specs.Fences.{opensLine}
 use Rattle.common.specs.Paragraph.{nextIn}
-use Rattle.common.specs.Leaf.{nextBy, toldHit}
+use Rattle.common.specs.Leaf.{opensBy, toldHit}
 use Rattle.common.specs.Content.{bounds, stretch, Stretch, cut}
 use Rattle.common.specs.declared.span.Bounds.{Bounds}
 use Rattle.common.specs.declared.fence_tests.FenceTables.{FenceTables}
@@ -23,15 +24,20 @@ use Rattle.common.specs.declared.fence_tests.Hit.the-variants.{At, End}
 
 -- ---- the next byte in a paragraph, by the tables of the columns
 module _ (s : List ℕ) (from needle eol : ℕ) (bytes mins : List ℕ) (d : Hit) (t : FenceTables) where
-  by-tables : Gives (tablesOf bytes mins) t → Gives (nextIn eol (opensLine eol (t .has) (t .least) s) s needle from) d → toldHit d ≡ nextBy (tablesOf bytes mins) s from needle eol
-  by-tables g h = ap toldHit (h .answer) ∙ ap (λ (f : FenceTables). nextBy f s from needle eol) (g .answer)
+  by-tables : Gives (tablesOf bytes mins) t → Gives (nextIn eol (opensLine eol (entry false (t .has)) (entry 0 (t .least)) s) s needle from) d
+      → toldHit d ≡ toldHit (nextIn eol (opensBy eol bytes mins s) s needle from)
+  by-tables g h =
+      ap toldHit (h .answer)
+      ∙ ap (λ (f : FenceTables). toldHit (nextIn eol (opensLine eol (entry false (f .has)) (entry 0 (f .least)) s) s needle from)) (g .answer)
+      ∙ ap (λ (f : ℕ → Bool). toldHit (nextIn eol (opensLine eol f (entry 0 (tabulate (leastOf bytes mins) 256 0)) s) s needle from)) (table-entry false (hasRule bytes))
+      ∙ ap (λ (f : ℕ → ℕ). toldHit (nextIn eol (opensLine eol (onByte false (hasRule bytes)) f s) s needle from)) (table-entry 0 (leastOf bytes mins))
 
-  pub paragraph-at : (q : ℕ) → d ≡ At q → Gives (tablesOf bytes mins) t → Gives (nextIn eol (opensLine eol (t .has) (t .least) s) s needle from) d
-      → given (q ∷ []) ≡ nextBy (tablesOf bytes mins) s from needle eol
+  pub paragraph-at : (q : ℕ) → d ≡ At q → Gives (tablesOf bytes mins) t → Gives (nextIn eol (opensLine eol (entry false (t .has)) (entry 0 (t .least)) s) s needle from) d
+      → given (q ∷ []) ≡ toldHit (nextIn eol (opensBy eol bytes mins s) s needle from)
   paragraph-at q e g h = sym (ap toldHit e) ∙ by-tables g h
 
-  pub paragraph-end : (u : ℕ) → d ≡ End u → Gives (tablesOf bytes mins) t → Gives (nextIn eol (opensLine eol (t .has) (t .least) s) s needle from) d
-      → given [] ≡ nextBy (tablesOf bytes mins) s from needle eol
+  pub paragraph-end : (u : ℕ) → d ≡ End u → Gives (tablesOf bytes mins) t → Gives (nextIn eol (opensLine eol (entry false (t .has)) (entry 0 (t .least)) s) s needle from) d
+      → given [] ≡ toldHit (nextIn eol (opensBy eol bytes mins s) s needle from)
   paragraph-end u e g h = sym (ap toldHit e) ∙ by-tables g h
 
 -- ---- stretches

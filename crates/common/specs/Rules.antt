@@ -24,6 +24,14 @@ hasRule bytes b = ltb (row bytes b) (length bytes)
 abbrev pub leastOf : List ℕ → List ℕ → ℕ → ℕ
 leastOf bytes mins b = cond (hasRule bytes b) (getD mins (row bytes b) 0) 0
 
--- both by byte
+-- the entry of a table for a number, else d
+abbrev pub entry : {B : Type 0} → B → List B → ℕ → B
+entry d l b = getD l b d
+
+-- f of a byte, d of a larger number
+abbrev pub onByte : {B : Type 0} → B → (ℕ → B) → ℕ → B
+onByte d f b = cond (ltb b 256) (f b) d
+
+-- both as tables over the bytes
 abbrev pub tablesOf : List ℕ → List ℕ → FenceTables
 tablesOf bytes mins = record { has = tabulate (hasRule bytes) 256 0; least = tabulate (leastOf bytes mins) 256 0 }

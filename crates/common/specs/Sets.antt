@@ -1,10 +1,10 @@
 -- Byte sets, the house classes, and the probe of a set. Assumes nothing.
 use mathlib.Core.Path.{_≡_}
 use mathlib.Core.Bool.{Bool, true, false, cond, _||_, _&&_}
-use mathlib.Core.List.{List, [], _∷_, _++_}
+use mathlib.Core.List.{List, [], _∷_}
 use Prim.Native.Nat.{ℕ, zero, suc, _<_}
 use lib.Dec.{eqb, leb}
-use lib.ListN.{length, getD, take}
+use lib.ListN.{length, getD}
 use Rattle.common.specs.Search.{oneOf}
 use Rattle.common.specs.Rules.{tabulate}
 use Rattle.common.specs.declared.sets.Probe.{Probe}
@@ -34,14 +34,16 @@ acceptedFrom set (suc n) b = elim (getD set b false) [ true ↦ b ∷ acceptedFr
 abbrev pub accepted : List Bool → List ℕ
 accepted set = acceptedFrom set 256 0
 
--- a list's first three numbers, unused places 0
-abbrev pub firstThree : List ℕ → List ℕ
-firstThree l = take 3 (l ++ (0 ∷ 0 ∷ 0 ∷ []))
+-- a list's first n numbers, unused places 0
+abbrev pub padded : ℕ → List ℕ → List ℕ
+padded zero l = []
+padded (suc n) [] = 0 ∷ padded n []
+padded (suc n) (x ∷ l) = x ∷ padded n l
 
 -- "up to three accepted bytes in rising order, unused places 0, else none; a state made then holds the first three, count 0 and the
 -- flag off"
 abbrev pub probeOf : List ℕ → Probe
-probeOf l = record { needles = firstThree l; nn = cond (leb (length l) 3) (length l) 0; streaming = leb (length l) 3 }
+probeOf l = record { needles = padded 3 l; nn = cond (leb (length l) 3) (length l) 0; streaming = leb (length l) 3 }
 
 abbrev pub probe : List Bool → Probe
 probe set = probeOf (accepted set)

@@ -1,5 +1,5 @@
 -- Laws of tables of 256 entries: how a loop fills one, and the tables of fence rules and of byte sets. Assumes nothing.
-use mathlib.Core.Path.{_≡_, refl, sym, ap, _∙_}
+use mathlib.Core.Path.{_≡_, refl, sym, ap, _∙_, fun-ext}
 use mathlib.Core.Bool.{Bool, true, false, cond, _||_, _&&_, or-true}
 use mathlib.Core.List.{List, [], _∷_, _++_, append-assoc}
 use mathlib.Core.Logic.{_⊎_, inl, inr, ⊎-elim}
@@ -14,8 +14,8 @@ use borrow.Author.Tests.{eq-eqb, ne-eqb, eqb-true, eqb-false, lt-ltb, le-ltb, lt
 use Rattle.common.specs.Promise.{Gives}
 use Rattle.common.specs.Search.{is, oneOf, find}
 use Rattle.common.specs.SearchLaws.{decide, clash, is-yes, is-no, find-here, find-next, find-end}
-use Rattle.common.specs.Rules.{tabulate, row, hasRule, leastOf, tablesOf}
-use Rattle.common.specs.Sets.{Index, setOf, classOf, classSet, acceptedFrom, accepted, firstThree, probeOf, probe}
+use Rattle.common.specs.Rules.{tabulate, row, hasRule, leastOf, entry, onByte, tablesOf}
+use Rattle.common.specs.Sets.{Index, setOf, classOf, classSet, acceptedFrom, accepted, padded, probe}
 
 -- ---- the table of a function
 module _ {B : Type 0} where
@@ -30,6 +30,20 @@ module _ {B : Type 0} where
   tabulate-at f (suc n) a zero d h = ap f (sym (add-zero a))
   tabulate-at f (suc n) a (suc k) d h = tabulate-at f n (suc a) k d (omega arith) ∙ ap f (suc-add a k ∙ sym (add-suc a k))
 
+  tabulate-past : (f : ℕ → B) (n a k : ℕ) (d : B) → n ≤ k → getD (tabulate f n a) k d ≡ d
+  unfolding tabulate
+  tabulate-past f zero a k d h = refl
+  tabulate-past f (suc n) a zero d h = absurd (not-suc-le-zero h)
+  tabulate-past f (suc n) a (suc k) d h = tabulate-past f n (suc a) k d (omega arith)
+
+  -- the entries of a function's table over the bytes are its values on bytes
+  pub table-entry : (d : B) (f : ℕ → B) → entry d (tabulate f 256 0) ≡ onByte d f
+  table-entry d f = fun-ext (λ b. by b (decide (ltb b 256)))
+    where
+      by : (b : ℕ) → (ltb b 256 ≡ true) ⊎ (ltb b 256 ≡ false) → getD (tabulate f 256 0) b d ≡ onByte d f b
+      by b (inl u) = tabulate-at f 256 0 b d (ltb-true b 256 u) ∙ ap f (zero-add b) ∙ sym (rw u)
+      by b (inr u) = tabulate-past f 256 0 b d (ltb-false b 256 u) ∙ sym (rw u)
+
   -- a list of 256 entries that holds the values of f
   pub record Table (d : B) (l : List B) (f : ℕ → B) : Type 0 where
     pub long : length l ≡ 256
@@ -42,6 +56,9 @@ module _ {B : Type 0} where
 
   pub table-same : (d : B) (l : List B) (f f′ : ℕ → B) → ((k : ℕ) → k < 256 → f′ k ≡ f k) → Table d l f → Table d l f′
   table-same d l f f′ same w = record { long = w .long; at = λ k h. w .at k h ∙ sym (same k h) }
+
+  pub table-of : (d : B) (f : ℕ → B) → Table d (tabulate f 256 0) f
+  table-of d f = record { long = length-tabulate f 256 0; at = λ k h. tabulate-at f 256 0 k d h ∙ ap f (zero-add k) }
 
   -- one entry is stored
   pub table-set : (d : B) (l : List B) (f f′ : ℕ → B) (x : ℕ) (v : B) → x < 256 → f′ x ≡ v → ((k : ℕ) → (k ≡ x → ⊥) → f′ k ≡ f k) → Table d l f → Table d (set l x v) f′
@@ -209,7 +226,7 @@ split s (suc m) n b = rw (suc-add, add-suc) (by (decide (getD s b false)) (split
 pub record Probing (s : List Bool) (needles : List ℕ) (n b : ℕ) : Type 0 where
   pub few : n ≤ 3
   pub count : n ≡ length (acceptedFrom s b 0)
-  pub held : needles ≡ firstThree (acceptedFrom s b 0)
+  pub held : needles ≡ padded 3 (acceptedFrom s b 0)
   pub within : b ≤ 256
 
 pub probing-first : (s : List Bool) → Probing s (replicate 3 0) 0 0
@@ -233,11 +250,11 @@ module _ (s : List Bool) (needles : List ℕ) (n b : ℕ) (w : Probing s needles
   probing-no e = record {
     few = w .few;
     count = w .count ∙ ap length (sym (next-no e));
-    held = w .held ∙ ap firstThree (sym (next-no e));
+    held = w .held ∙ ap (padded 3) (sym (next-no e));
     within = omega arith;
   }
 
-  stored : (l : List ℕ) → length l < 3 → set (firstThree l) (length l) b ≡ firstThree (l ++ (b ∷ []))
+  stored : (l : List ℕ) → length l < 3 → set (padded 3 l) (length l) b ≡ padded 3 (l ++ (b ∷ []))
   stored [] i = refl
   stored (x ∷ []) i = refl
   stored (x ∷ y ∷ []) i = refl
@@ -247,7 +264,7 @@ module _ (s : List Bool) (needles : List ℕ) (n b : ℕ) (w : Probing s needles
   probing-yes e d = record {
     few = omega (arith, w .few);
     count = omega (arith, w .count, ap length (next-yes e), length-append (acceptedFrom s b 0) (b ∷ []));
-    held = rw (w .held, w .count) (stored (acceptedFrom s b 0) (omega (arith, w .few, w .count))) ∙ ap firstThree (sym (next-yes e));
+    held = rw (w .held, w .count) (stored (acceptedFrom s b 0) (omega (arith, w .few, w .count))) ∙ ap (padded 3) (sym (next-yes e));
     within = omega arith;
   }
 
@@ -256,7 +273,7 @@ module _ (s : List Bool) (needles : List ℕ) (n b : ℕ) (w : Probing s needles
       let z : 256 ≡ b + suc (255 - b) = omega arith in
       ap (λ (m : ℕ). acceptedFrom s m 0) z ∙ split s b (suc (255 - b)) 0 ∙ rw zero-add (ap (λ (l : List ℕ). acceptedFrom s b 0 ++ l) (taken-yes s (255 - b) b e))
 
-  three : (l m : List ℕ) (x : ℕ) → length l ≡ 3 → firstThree l ≡ firstThree (l ++ (x ∷ m))
+  three : (l m : List ℕ) (x : ℕ) → length l ≡ 3 → padded 3 l ≡ padded 3 (l ++ (x ∷ m))
   three [] m x i = absurd (omega arith)
   three (p ∷ []) m x i = absurd (omega arith)
   three (p ∷ q ∷ []) m x i = absurd (omega arith)
@@ -267,13 +284,13 @@ module _ (s : List Bool) (needles : List ℕ) (n b : ℕ) (w : Probing s needles
   probing-many e d =
       let l : length (acceptedFrom s b 0) ≡ 3 = omega (arith, w .count) in
       let m : 3 < length (accepted s) = omega (arith, ap length (rest e), length-append (acceptedFrom s b 0) (b ∷ acceptedFrom s (255 - b) (suc b))) in
-      let f : needles ≡ firstThree (accepted s) = w .held ∙ three (acceptedFrom s b 0) (acceptedFrom s (255 - b) (suc b)) b l ∙ ap firstThree (sym (rest e)) in
+      let f : needles ≡ padded 3 (accepted s) = w .held ∙ three (acceptedFrom s b 0) (acceptedFrom s (255 - b) (suc b)) b l ∙ ap (padded 3) (sym (rest e)) in
       simp (f, lt-leb (length (accepted s)) 3 m)
 
 pub probing-all : (s : List Bool) (needles : List ℕ) (n b : ℕ) → Probing s needles n b → 256 ≤ b → record { needles = needles; nn = n; streaming = true } ≡ probe s
 probing-all s needles n b w h =
     let z : b ≡ 256 = omega (arith, w .within) in
     let c : n ≡ length (accepted s) = rw z at (w .count) in
-    let f : needles ≡ firstThree (accepted s) = rw z at (w .held) in
+    let f : needles ≡ padded 3 (accepted s) = rw z at (w .held) in
     let m : length (accepted s) ≤ 3 = omega (arith, w .few) in
     simp (f, c, le-leb (length (accepted s)) 3 m)

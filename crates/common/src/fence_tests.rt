@@ -13,8 +13,9 @@ use crate::search::run_end;
 use crate::sets::accepts;
 use crate::sets::index;
 use crate::sets::number_of;
+ghost use mathlib.Core.Bool.{false};
 ghost use Rattle.common.specs.Promise.{Gives};
-ghost use Rattle.common.specs.Rules.{tablesOf};
+ghost use Rattle.common.specs.Rules.{entry, tablesOf};
 ghost use Rattle.common.specs.Fences.{runCount, openingOf, opening, opensLine, closesTo, closing, closeScan};
 ghost use Rattle.common.specs.Paragraph.{nextIn};
 ghost use Rattle.common.specs.Steps.{CloseTurned, NextTurned};
@@ -100,7 +101,7 @@ fn opens_with(src: &[u8], pos: usize, eol: u8, byte: u8, least: u8) -> Opening
 
 // Does the line that begins at `pos` open a fence, by the first rule with the byte that stands there?
 pub fn fence_opens(src: &[u8], pos: usize, eol: u8, has: &[bool; 256], least: &[u8; 256]) -> Opening
-    ensures { λ r. ⌜ Gives (opening eol (now (has .entry)) (now (least .entry)) (now (src .entry)) pos) r ⌝ }
+    ensures { λ r. ⌜ Gives (opening eol (entry false (now (has .entry))) (entry 0 (now (least .entry))) (now (src .entry)) pos) r ⌝ }
 {
     let b = byte_at(src, pos);
     if accepts(has, b) {
@@ -117,7 +118,7 @@ pub fn fence_opens_line(
     has: &[bool; 256],
     least: &[u8; 256],
 ) -> bool
-    ensures { λ r. ⌜ Gives (opensLine eol (now (has .entry)) (now (least .entry)) (now (src .entry)) ls) r ⌝ }
+    ensures { λ r. ⌜ Gives (opensLine eol (entry false (now (has .entry))) (entry 0 (now (least .entry))) (now (src .entry)) ls) r ⌝ }
 {
     match fence_opens(src, ls, eol, has, least) {
         Opening::Opens(_, _) => true,
@@ -199,7 +200,7 @@ fn next_turn(
     has: &[bool; 256],
     least: &[u8; 256],
 ) -> NextTurn
-    ensures { λ r. ⌜ NextTurned eol (opensLine eol (now (has .entry)) (now (least .entry)) (now (src .entry))) (now (src .entry)) needle j r ⌝ }
+    ensures { λ r. ⌜ NextTurned eol (opensLine eol (entry false (now (has .entry))) (entry 0 (now (least .entry))) (now (src .entry))) (now (src .entry)) needle j r ⌝ }
 {
     let q = find_either(src, j, needle, eol);
     if q >= src.len() {
@@ -230,7 +231,7 @@ pub fn next_in(
     has: &[bool; 256],
     least: &[u8; 256],
 ) -> Hit
-    ensures { λ r. ⌜ Gives (nextIn eol (opensLine eol (now (has .entry)) (now (least .entry)) (now (src .entry))) (now (src .entry)) needle from) r ⌝ }
+    ensures { λ r. ⌜ Gives (nextIn eol (opensLine eol (entry false (now (has .entry))) (entry 0 (now (least .entry))) (now (src .entry))) (now (src .entry)) needle from) r ⌝ }
 {
     let mut j = from;
     loop {

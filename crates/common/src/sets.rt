@@ -1,8 +1,8 @@
 // Byte sets: predicates on bytes as tables of 256 entries.
 use crate::classes::CLASSES;
 ghost use mathlib.Core.Bool.{false};
-ghost use lib.ListN.{getD};
 ghost use Rattle.common.specs.Promise.{Gives};
+ghost use Rattle.common.specs.Rules.{entry};
 ghost use Rattle.common.specs.Sets.{Index, setOf, classOf, classSet, probe};
 
 // A byte's place in a table of 256 entries.
@@ -14,14 +14,14 @@ pub fn index(b: u8) -> usize
 
 // Whether a set accepts a byte.
 pub fn accepts(set: &[bool; 256], b: u8) -> bool
-    ensures { λ r. ⌜ Gives (getD (now (set .entry)) b false) r ⌝ }
+    ensures { λ r. ⌜ Gives (entry false (now (set .entry)) b) r ⌝ }
 {
     set[b as usize]
 }
 
 // The entry of a table for a byte.
 pub fn number_of(table: &[u8; 256], b: u8) -> u8
-    ensures { λ r. ⌜ Gives (getD (now (table .entry)) b 0) r ⌝ }
+    ensures { λ r. ⌜ Gives (entry 0 (now (table .entry)) b) r ⌝ }
 {
     table[b as usize]
 }

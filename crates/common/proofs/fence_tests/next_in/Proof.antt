@@ -2,13 +2,15 @@
 use borrow.Author.Needs.{needs}
 use Prim.Native.Nat.{_-_}
 use lib.ListN.{length}
+use mathlib.Core.Bool.{false}
+use Rattle.common.specs.Rules.{entry}
 use Rattle.common.specs.Fences.{opensLine}
 use Rattle.common.specs.ParagraphLaws.{Nexts, next-rules}
 use Rattle.common.proofs.fence_tests.next_in.Statement.{statement}
 use Rattle.common.proofs.fence_tests.next_in.Tie as tie
 
 abbrev Inv-loop : tie.InvT-loop
-Inv-loop src from needle eol has least j₀ j = Nexts eol (opensLine eol has least src) src needle from j
+Inv-loop src from needle eol has least j₀ j = Nexts eol (opensLine eol (entry false has) (entry 0 least) src) src needle from j
 
 abbrev μ-loop : tie.MeasureT-loop
 μ-loop src from needle eol has least j₀ j = length src - j
