@@ -1,0 +1,58 @@
+-- What building answers and writes. Assumes nothing.
+use mathlib.Core.Path.{_≡_}
+use mathlib.Core.Bool.{Bool, true, false, _||_}
+use mathlib.Core.List.{List, [], _∷_}
+use Prim.Native.Nat.{ℕ, _+_, _*_, _≤_}
+use lib.Dec.{ltb, eqb}
+use lib.ListN.{length}
+use Rattle.common.specs.Entry.{flatten, room as roomOf, over, putAt}
+use Rattle.common.specs.Refusals.{Outcome, given, refuse, tooLong, differ}
+use Rattle.common.specs.declared.grammar.Grammar.{Grammar}
+use Rattle.context.specs.Region.{Caused, pair}
+use Rattle.context.specs.Regions.{regions}
+use Rattle.context.specs.Columns.{Columns, gramOf}
+
+-- a run with room for region n, whose two places fit 32 bits
+pub record Puts (n start end : ℕ) (out : List ℕ) : Type 0 where
+  pub room : n * 2 + 2 ≤ length out
+  pub low : start ≤ 4294967295
+  pub high : end ≤ 4294967295
+
+pub record Put (n start end : ℕ) (out out′ : List ℕ) (r : ℕ) : Type 0 where
+  pub next : r ≡ n + 1
+  pub list : out′ ≡ putAt (n * 2) (start ∷ end ∷ []) out
+
+-- regions written over the front of a run, and how many
+pub record Wrote (l : List Caused) (out out′ : List ℕ) (n : ℕ) : Type 0 where
+  pub count : n ≡ length l
+  pub list : out′ ≡ over (flatten pair l) out
+
+-- "a rule's columns differ in length"
+abbrev pub unequal : Columns → Bool
+unequal c = differ (c .fenceBytes) (c .fenceMins) || (differ (c .symBytes) (c .symCounts) || (differ (c .openers) (c .closers) || differ (c .openers) (c .openCounts)))
+
+-- "the answer has more regions … than there is room for"
+abbrev pub full : List Caused → List ℕ → Bool
+full l out = ltb (roomOf 2 out) (length l)
+
+abbrev pub unless : Bool → List ℕ → List ℕ → List ℕ
+unless true a b = a
+unless false a b = b
+
+-- what filling a run with regions answers and leaves
+pub record Filled (l : List Caused) (out out′ : List ℕ) (o : Outcome) : Type 0 where
+  pub answer : o ≡ refuse 3 (full l out) (given (length l ∷ []))
+  pub list : out′ ≡ unless (full l out) out (over (flatten pair l) out)
+
+-- "For building: 1, 6, 3."; else the count
+unfoldable pub builtAnswer : Grammar → Columns → List ℕ → List ℕ → Outcome
+builtAnswer g c s out = refuse 1 (tooLong s) (refuse 6 (unequal c) (refuse 3 (full (regions (gramOf g c) s) out) (given (length (regions (gramOf g c) s) ∷ []))))
+
+-- "Success writes the regions from place 0 … and changes nothing beyond them"; a refusal changes nothing
+unfoldable pub builtList : Grammar → Columns → List ℕ → List ℕ → List ℕ
+builtList g c s out = unless (tooLong s) out (unless (unequal c) out (unless (full (regions (gramOf g c) s) out) out (over (flatten pair (regions (gramOf g c) s)) out)))
+
+-- the promise of building: its answer, and the list that it leaves
+pub record Built (g : Grammar) (c : Columns) (s out out′ : List ℕ) (o : Outcome) : Type 0 where
+  pub answer : o ≡ builtAnswer g c s out
+  pub list : out′ ≡ builtList g c s out

@@ -1,0 +1,11 @@
+pub mod Region
+pub mod Grammar
+pub mod Regions
+pub mod Columns
+pub mod Tables
+pub mod Ahead
+pub mod Views
+pub mod StepLaws
+pub mod ColumnLaws
+pub mod Build
+pub mod BuildLaws
