@@ -1,0 +1,3 @@
+pub mod House
+pub mod Page
+pub mod Marked

@@ -1,0 +1,13 @@
+-- The marked examples, all under one statement: the table computes from the definitions. Assumes nothing.
+use mathlib.Core.Path.{refl}
+use Rattle.common.specs.Search.{is, either, oneOf, other, holds, firstOf, firstPlace, find, back, lineStart}
+use Rattle.common.specs.Fences.{opensLine, closesTo, closing}
+use Rattle.common.specs.Paragraph.{endsAt, paragraphEnd, nextIn}
+use Rattle.common.specs.Turn.{scan, collect}
+use Rattle.context.specs.Regions.{shutPlace, oddBefore, symTurn, asymTurn, inline, regionTurn, regions}
+use Rattle.context.specs.Columns.{searched, openRule, symRule}
+use Rattle.marked.specs.Page.{All, page}
+
+pub marked : All page
+unfolding is either oneOf other holds firstOf firstPlace find back lineStart opensLine closesTo closing endsAt paragraphEnd nextIn scan collect shutPlace oddBefore symTurn asymTurn inline regionTurn regions searched openRule symRule
+marked = (refl, (refl, (refl, (refl, (refl, (refl, (refl, (refl, (refl, (refl, (refl, tt)))))))))))

@@ -1,0 +1,1 @@
+// The marked examples of document 01, proved from the definitions together: see specs/Marked.antt.
