@@ -378,3 +378,16 @@ last-fits Lies view value {step} {len} {q} {x} {e = e} p r c adv g h l =
     let y = has-is (λ a n. value a ≡ x) (view e) c in
     let w : value (y .0) ≤ len = subst (OnFound (λ a. value a ≤ len)) (sym p ∙ ap view r ∙ y .2) (scan-each adv (λ a. value a ≤ len) (λ q n a i w. omega (arith, g q n a w)) (suc len) q h) in
     record { fits = omega (arith, y .3) }
+
+-- lists k q that keep to the turns at each place q are what is found from there
+module _ {A : Type 0} {Lies : ℕ → ℕ → A → Type 0} {step : ℕ → Turn A} {len : ℕ} (adv : Adv Lies step len) (k : ℕ → List A) (keeps : (q : ℕ) → q ≤ len → k q ≡ thenCollect k (step q)) where
+  pub collect-only : (f q : ℕ) → q ≤ len → len - q < f → collect step f q ≡ k q
+  unfolding collect
+  collect-only zero q h l = absurd (not-suc-le-zero l)
+  collect-only (suc f) q h l =
+      by-turn adv (λ t. thenCollect (collect step f) t ≡ thenCollect k t) q h (λ n m i. collect-only f n i (omega arith)) (λ v m i. refl)
+      (λ a n m i w. ap (λ (l : List A). a ∷ l) (collect-only f n i (omega arith)))
+      ∙ sym (keeps q h)
+
+  pub all-only : (q : ℕ) → q ≤ len → allFound step len q ≡ k q
+  all-only q h = collect-only (suc len) q h (omega arith)

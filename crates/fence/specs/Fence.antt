@@ -1,0 +1,119 @@
+-- What the fence scanner finds. Assumes nothing.
+use mathlib.Core.Bool.{Bool, true, false, _&&_, _||_}
+use mathlib.Core.List.{List, [], _∷_}
+use Prim.Native.Nat.{ℕ, _+_}
+use lib.Dec.{ltb}
+use lib.ListN.{length}
+use Rattle.common.specs.Search.{find, is, other, holds, firstPlace, lineStart, lineEnd, nextLine}
+use Rattle.common.specs.Fences.{runCount, opensRun, closesRun}
+use Rattle.common.specs.Refusals.{Outcome, given, refuse, tooLong, past}
+use Rattle.common.specs.Turn.{Turn, go, stop, found, firstTurn, allFound}
+use Rattle.fence.specs.declared.FenceIter.{FenceIter}
+use Rattle.fence.specs.declared.Turn.{Turn as Told}
+use Rattle.fence.specs.declared.Turn.the-variants.{Go, Stop, Found}
+
+-- a fence: where it starts, and where it ends
+pub record Fence : Type 0 where
+  pub start : ℕ
+  pub end : ℕ
+
+-- a fresh state
+abbrev pub fresh : ℕ → ℕ → ℕ → ℕ → ℕ → FenceIter
+fresh byte min eol sep tab = record { byte = byte; min = min; eol = eol; sep = sep; tab = tab; pos = 0 }
+
+-- the state at another place
+abbrev pub at : FenceIter → ℕ → FenceIter
+at g q = record { byte = g .byte; min = g .min; eol = g .eol; sep = g .sep; tab = g .tab; pos = q }
+
+-- the end of the fence byte's run that begins at p: "With a fence byte equal to the line end the run is counted on across lines"
+abbrev pub runEnd : FenceIter → List ℕ → ℕ → ℕ
+runEnd g s p = find (other (is (g .byte))) s p
+
+-- the end of the line that the run ends in, and the place after it
+abbrev pub runLine : FenceIter → List ℕ → ℕ → ℕ
+runLine g s p = lineEnd (g .eol) s (runEnd g s p)
+
+abbrev pub after : FenceIter → List ℕ → ℕ → ℕ
+after g s p = nextLine (length s) (runLine g s p)
+
+-- whether a run of the fence byte begins its line at p
+unfoldable pub begins : FenceIter → List ℕ → ℕ → Bool
+begins g s p = lineStart (g .eol) s p && holds (is (g .byte)) s p
+
+-- "A fence begins its line, has a run of at least min and at least 1, and no further fence byte on that line."
+unfoldable pub opens : FenceIter → List ℕ → ℕ → Bool
+opens g s p = begins g s p && opensRun (g .byte) (g .min) s p (runEnd g s p) (runLine g s p)
+
+-- "It is closed by the first later line whose run is as long or longer and whose rest is separators or tabs."
+unfoldable pub closes : FenceIter → ℕ → List ℕ → ℕ → Bool
+closes g count s q = begins g s q && closesRun (g .sep) (g .tab) count s q (runEnd g s q) (runLine g s q)
+
+abbrev pub closedAt : FenceIter → List ℕ → Bool → ℕ → ℕ
+closedAt g s true q = after g s q
+closedAt g s false q = length s
+
+-- "The span ends after the closing line's line end, or at the text's end."
+unfoldable pub closeEnd : FenceIter → ℕ → List ℕ → ℕ → ℕ
+closeEnd g count s from = closedAt g s (ltb (firstPlace (closes g count s) from (length s)) (length s)) (firstPlace (closes g count s) from (length s))
+
+-- the fence that opens at p
+abbrev pub fenceAt : FenceIter → List ℕ → ℕ → Fence
+fenceAt g s p = record { start = p; end = closeEnd g (runCount p (runEnd g s p)) s (after g s p) }
+
+-- the next fence from q on
+abbrev pub nextAt : FenceIter → List ℕ → ℕ → Bool → ℕ → Turn Fence
+nextAt g s q true p = found (fenceAt g s p) (fenceAt g s p .end)
+nextAt g s q false p = stop q
+
+unfoldable pub nextFence : FenceIter → List ℕ → ℕ → Turn Fence
+nextFence g s q = nextAt g s q (ltb (firstPlace (opens g s) q (length s)) (length s)) (firstPlace (opens g s) q (length s))
+
+-- all fences of a text: "The scan goes on from the span's end."
+unfoldable pub fences : FenceIter → List ℕ → List Fence
+fences g s = allFound (nextFence g s) (length s) 0
+
+-- ---- the step, which follows the Rust in where it stays when nothing is left: at the place from which no fence byte was found
+abbrev pub pickTurn : Bool → Turn Fence → Turn Fence → Turn Fence
+pickTurn true a b = a
+pickTurn false a b = b
+
+-- a line that begins with a run of the fence byte at p
+abbrev pub openLine : FenceIter → List ℕ → ℕ → Turn Fence
+openLine g s p = pickTurn (opensRun (g .byte) (g .min) s p (runEnd g s p) (runLine g s p)) (found (fenceAt g s p) (fenceAt g s p .end)) (go (after g s p))
+
+abbrev pub openFrom : FenceIter → List ℕ → ℕ → ℕ → Turn Fence
+openFrom g s q p = pickTurn (ltb p (length s)) (pickTurn (lineStart (g .eol) s p) (openLine g s p) (go (p + 1))) (stop q)
+
+-- one turn at q: the next fence byte, and what it opens
+unfoldable pub openTurn : FenceIter → List ℕ → ℕ → Turn Fence
+openTurn g s q = openFrom g s q (find (is (g .byte)) s q)
+
+abbrev pub view : Told → Turn Fence
+view (Go n) = go n
+view (Stop v) = stop v
+view (Found a b) = found (record { start = a; end = b }) b
+
+unfoldable pub firstOpen : FenceIter → List ℕ → Turn Fence
+firstOpen g s = firstTurn (openTurn g s) (length s) (g .pos)
+
+abbrev pub spanOf : Turn Fence → Outcome
+spanOf (go n) = given []
+spanOf (stop v) = given []
+spanOf (found f n) = given (f .start ∷ f .end ∷ [])
+
+abbrev pub placeOf : Turn Fence → ℕ
+placeOf (go n) = n
+placeOf (stop v) = v
+placeOf (found f n) = n
+
+-- "For a scanner: 1, 2."
+unfoldable pub answer : FenceIter → List ℕ → Outcome
+answer g s = refuse 1 (tooLong s) (refuse 2 (past s (g .pos)) (spanOf (firstOpen g s)))
+
+abbrev pub unless : Bool → FenceIter → FenceIter → FenceIter
+unless true a b = a
+unless false a b = b
+
+-- a refusal hands the state back as it was
+unfoldable pub state : FenceIter → List ℕ → FenceIter
+state g s = unless (tooLong s || past s (g .pos)) g (at g (placeOf (firstOpen g s)))

@@ -1,0 +1,4 @@
+pub mod Fence
+pub mod Steps
+pub mod Laws
+pub mod Run

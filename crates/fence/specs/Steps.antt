@@ -1,0 +1,38 @@
+-- What the functions promise of a turn of the search for a close and of a step, and the step that a run takes. Assumes nothing.
+use mathlib.Core.Path.{_≡_}
+use mathlib.Core.List.{List}
+use Prim.Native.Nat.{ℕ, _≤_, _<_}
+use lib.ListN.{length}
+use Rattle.common.specs.Promise.{Steps}
+use Rattle.common.specs.Refusals.{toldSpan}
+use Rattle.common.specs.Turn.{Step, yields, ends, stepOf}
+use Rattle.common.specs.declared.span.SpanFound.{SpanFound}
+use Rattle.common.specs.declared.span.SpanFound.the-variants as spanned
+use Rattle.fence.specs.Fence.{Fence, at, closeEnd, firstOpen, answer, state}
+use Rattle.fence.specs.declared.FenceIter.{FenceIter}
+use Rattle.fence.specs.declared.FenceStep.{FenceStep}
+use Rattle.fence.specs.declared.CloseTurn.{CloseTurn}
+use Rattle.fence.specs.declared.CloseTurn.the-variants.{Go, End}
+
+-- the search from q goes on from a later place, or it has its answer
+unfoldable pub CloseTurned : FenceIter → ℕ → List ℕ → ℕ → CloseTurn → Type 0
+CloseTurned g count s q (Go n) = (q < n) × (n ≤ length s) × (closeEnd g count s q ≡ closeEnd g count s n)
+CloseTurned g count s q (End n) = n ≡ closeEnd g count s q
+
+-- the promise of `next` for its result
+abbrev pub Kept : FenceIter → List ℕ → FenceStep → Type 0
+Kept g s r = Steps (answer g s) (state g s) (toldSpan (r .found)) (r .next)
+
+-- ---- steps of a run
+-- the step that an answer and the state that comes with it make: a fence and the state after it, or the state at the end
+abbrev pub stepWith : FenceIter → SpanFound → Step Fence FenceIter
+stepWith n (spanned.At p) = yields (record { start = p .start; end = p .end }) n
+stepWith n spanned.Nothing = ends n
+stepWith n (spanned.Refused r) = ends n
+
+abbrev pub toldStep : FenceStep → Step Fence FenceIter
+toldStep r = stepWith (r .next) (r .found)
+
+-- the step from a state within a text of at most 4,294,967,295 bytes
+unfoldable pub stepped : FenceIter → List ℕ → Step Fence FenceIter
+stepped g s = stepOf (at g) (firstOpen g s)
