@@ -43,8 +43,8 @@ Shaped from len (r ∷ l) = (from ≤ startOf r) × (startOf r < stopOf r) × (s
 abbrev pub over : List ℕ → List ℕ → List ℕ
 over l out = l ++ drop (length l) out
 
--- out with the numbers of l set at k, k + 1 and so on
-abbrev pub putAt : ℕ → List ℕ → List ℕ → List ℕ
+-- out with the elements of l set at k, k + 1 and so on; all other places stay as they are
+abbrev pub putAt : {A : Type 0} → ℕ → List A → List A → List A
 putAt k [] out = out
 putAt k (x ∷ l) out = putAt (k + 1) l (set out k x)
 

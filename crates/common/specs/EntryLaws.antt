@@ -186,9 +186,20 @@ put-three k a b c out = simp add-assoc
 pub put-four : (k a b c d : ℕ) (out : List ℕ) → set (set (set (set out k a) (k + 1) b) (k + 2) c) (k + 3) d ≡ putAt k (a ∷ b ∷ c ∷ d ∷ []) out
 put-four k a b c d out = simp add-assoc
 
-pub length-put : (k : ℕ) (l out : List ℕ) → length (putAt k l out) ≡ length out
-length-put k [] out = refl
-length-put k (x ∷ l) out = length-put (k + 1) l (set out k x) ∙ length-set out k x
+-- what is written keeps the length, and stands behind what was before it
+module _ {A : Type 0} where
+  pub length-put : (k : ℕ) (l out : List A) → length (putAt k l out) ≡ length out
+  length-put k [] out = refl
+  length-put k (x ∷ l) out = length-put (k + 1) l (set out k x) ∙ length-set out k x
+
+  pub put-front : (k : ℕ) (l out : List A) → k + length l ≤ length out → take (k + length l) (putAt k l out) ≡ take k out ++ l
+  put-front k [] out h =
+      let z : k + 0 ≡ k = omega arith in
+      rw z (sym (append-nil (take k out)))
+  put-front k (x ∷ l) out h =
+      let z : k + suc (length l) ≡ k + 1 + length l = omega arith in
+      let i : k < length out = omega arith in
+      rw z (put-front (k + 1) l (set out k x) (omega (arith, length-set out k x)) ∙ rw (add-one, take-suc-set out k x i) (append-snoc (take k out) x l))
 
 -- ---- a loop of turns that writes what is found: d, e and `view` as in TurnLaws
 module _ {A : Type 0} {Lies : ℕ → ℕ → A → Type 0} {step : ℕ → Turn A} {flat : A → List ℕ} {w len from : ℕ} {out : List ℕ} where

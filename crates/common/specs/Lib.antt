@@ -20,3 +20,5 @@ pub mod Turn
 pub mod TurnLaws
 pub mod Entry
 pub mod EntryLaws
+pub mod Items
+pub mod ItemLaws

@@ -4,6 +4,7 @@
 mod classes; // the table of the house classes
 pub mod fence_tests; // what a line says of fences, and the search for a close
 pub mod grammar; // the grammar bytes, and the house's
+pub mod items; // what both item scanners ask of a line
 pub mod refusal; // refusals and answers
 pub mod search; // the searches that all else stands on: they refuse nothing
 pub mod sets; // byte sets, the house classes, the probe

@@ -1,0 +1,9 @@
+pub mod Frames
+pub mod Cont
+pub mod Steps
+pub mod MarkLaws
+pub mod TurnLaws
+pub mod StepLaws
+pub mod StackLaws
+pub mod FrameLaws
+pub mod Run

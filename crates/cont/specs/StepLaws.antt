@@ -1,0 +1,139 @@
+-- Laws of the step, the rules of the functions that make it, and that its promise leaves one result. Assumes nothing.
+use mathlib.Core.Path.{_≡_, refl, sym, ap, _∙_}
+use mathlib.Core.List.{List}
+use mathlib.Core.Bool.{Bool, true, false, _||_}
+use Prim.Native.Nat.{ℕ, _-_, _≤_, _<_, min}
+use lib.Dec.{ltb}
+use lib.ListN.{length, replicate}
+use borrow.Author.Tests.{lt-ltb, le-ltb, ltb-false}
+use Rattle.common.specs.Promise.{Gives, Steps, steps-unique}
+use Rattle.common.specs.Refusals.{Outcome, toldSpan}
+use Rattle.common.specs.RefusalLaws.{span-unique}
+use Rattle.common.specs.SearchLaws.{clash}
+use Rattle.common.specs.Turn.{Step, yields, ends}
+use Rattle.common.specs.declared.span.Span.{Span}
+use Rattle.common.specs.declared.span.SpanFound.{SpanFound}
+use Rattle.common.specs.declared.span.SpanFound.the-variants as spanned
+use Rattle.common.specs.declared.refusal.Refusal.the-variants.{TextTooLong, PlaceOutside}
+use Rattle.cont.specs.declared.Closed.{Closed}
+use Rattle.cont.specs.declared.ContIter.{ContIter}
+use Rattle.cont.specs.declared.ContStep.{ContStep}
+use Rattle.cont.specs.Frames.{frame}
+use Rattle.common.specs.Entry.{putAt}
+use Rattle.cont.specs.Cont.{marksOf, closing, firstShut, standing, moved, drained, firstOf, stepped, spanOf, stateOf, outside, misplaced, answer, state, fresh}
+use Rattle.cont.specs.Steps.{Scanned, Served, Kept, stepWith, toldStep}
+use Rattle.cont.specs.TurnLaws.{closing-length}
+
+-- ---- the tests of a state
+module _ (len pos cap n k i : ℕ) where
+  pub outside-pos : len < pos → Gives (outside len pos cap n k i) true
+  unfolding outside
+  outside-pos a = record { answer = simp (lt-ltb len pos a) }
+
+  pub outside-cap : pos ≤ len → 32 < cap → Gives (outside len pos cap n k i) true
+  unfolding outside
+  outside-cap a b = record { answer = simp (le-ltb len pos a, lt-ltb 32 cap b) }
+
+  pub outside-open : pos ≤ len → cap ≤ 32 → 32 < n → Gives (outside len pos cap n k i) true
+  unfolding outside
+  outside-open a b c = record { answer = simp (le-ltb len pos a, le-ltb 32 cap b, lt-ltb 32 n c) }
+
+  pub outside-pending : pos ≤ len → cap ≤ 32 → n ≤ 32 → 32 < k → Gives (outside len pos cap n k i) true
+  unfolding outside
+  outside-pending a b c d = record { answer = simp (le-ltb len pos a, le-ltb 32 cap b, le-ltb 32 n c, lt-ltb 32 k d) }
+
+  pub outside-last : pos ≤ len → cap ≤ 32 → n ≤ 32 → k ≤ 32 → Gives (outside len pos cap n k i) (ltb k i)
+  unfolding outside
+  outside-last a b c d = record { answer = simp (le-ltb len pos a, le-ltb 32 cap b, le-ltb 32 n c, le-ltb 32 k d) }
+
+pub ruleset outside-rules = (outside-pos, outside-cap, outside-open, outside-pending, outside-last)
+
+or-false : (a b : Bool) → (a || b) ≡ false → (a ≡ false) × (b ≡ false)
+or-false true b e = absurd (clash refl e)
+or-false false b e = (refl, e)
+
+module _ (g : ContIter) (s : List ℕ) where
+  pub served : {y : Bool} → y ≡ false → Gives (misplaced g s) y → length s ≤ 4294967295 → Served g s
+  unfolding outside
+  served t a h =
+      let b = or-false _ _ (sym (a .answer) ∙ t) in
+      let c = or-false _ _ (b .0) in
+      let d = or-false _ _ (c .0) in
+      let e = or-false _ _ (d .0) in
+      record {
+        short = h;
+        inside = ltb-false (length s) (g .pos) (e .0);
+        nests = ltb-false 32 (g .cap) (e .1);
+        opens = ltb-false 32 (g .«open_len») (d .1);
+        waits = ltb-false 32 (g .«pending_len») (c .1);
+        drawn = ltb-false (g .«pending_len») (g .«pending_idx») (b .1);
+      }
+
+  unrefused : Served g s → misplaced g s ≡ false
+  unrefused v =
+      sym (outside-last (length s) (g .pos) (g .cap) (g .«open_len») (g .«pending_len») (g .«pending_idx») (v .inside) (v .nests) (v .opens) (v .waits) .answer)
+      ∙ le-ltb (g .«pending_len») (g .«pending_idx») (v .drawn)
+
+  -- ---- the step, by the ways that it takes
+  pub step-drains : {x : Outcome} {n : ContIter} → g .«pending_idx» < g .«pending_len» → Steps (spanOf (drained g)) (stateOf (drained g)) x n → Steps (spanOf (stepped g s)) (stateOf (stepped g s)) x n
+  unfolding stepped
+  step-drains h w = record { answer = rw (lt-ltb (g .«pending_idx») (g .«pending_len») h) (w .answer); next = rw (lt-ltb (g .«pending_idx») (g .«pending_len») h) (w .next) }
+
+  module _ {o : List ℕ} {r : Closed} {p : List Span} (h : g .«pending_len» ≤ g .«pending_idx») (w : Scanned (firstShut (marksOf g) s (standing g)) (length s) o r) (f : Gives (putAt 0 (closing o (r .end) (r .from) (r .held - r .from)) (g .pending)) p) where
+    -- the state once the closed frames are pending
+    abbrev Refilled : ContIter
+    Refilled = moved g (r .pos) o (r .from) p (r .held - r .from) 0
+
+    refills : stepped g s ≡ firstOf Refilled
+    unfolding stepped
+    refills =
+        rw (le-ltb (g .«pending_idx») (g .«pending_len») h, ← (w .tells), f .answer) (ap (λ (k : ℕ). firstOf (moved g (r .pos) o (r .from) (putAt 0 (closing o (r .end) (r .from) (r .held - r .from)) (g .pending)) k 0)) (closing-length o (r .end) (r .from) (r .held - r .from)))
+
+    pub step-closes : {x : Outcome} {n : ContIter} → 0 < r .held - r .from → Steps (spanOf (drained (moved g (r .pos) o (r .from) p (r .held - r .from) 0))) (stateOf (drained (moved g (r .pos) o (r .from) p (r .held - r .from) 0))) x n → Steps (spanOf (stepped g s)) (stateOf (stepped g s)) x n
+    step-closes i v =
+        let e : stepped g s ≡ drained Refilled = rw (refills, lt-ltb 0 (r .held - r .from) i) in
+        record { answer = rw e (v .answer); next = rw e (v .next) }
+
+    pub step-ends : r .held - r .from ≤ 0 → Steps (spanOf (stepped g s)) (stateOf (stepped g s)) (toldSpan spanned.Nothing) (moved g (r .pos) o (r .from) p (r .held - r .from) 0)
+    step-ends i =
+        let e : stepped g s ≡ ends Refilled = rw (refills, le-ltb 0 (r .held - r .from) i) in
+        record { answer = rw e; next = rw e }
+
+  -- ---- the entry
+  pub next-long : 4294967295 < length s → Steps (answer g s) (state g s) (toldSpan (spanned.Refused TextTooLong)) g
+  unfolding answer state
+  next-long h = record { answer = rw (lt-ltb 4294967295 (length s) h); next = rw (lt-ltb 4294967295 (length s) h) }
+
+  module _ (h : length s ≤ 4294967295) {y : Bool} where
+    pub next-misplaced : y ≡ true → Gives (misplaced g s) y → Steps (answer g s) (state g s) (toldSpan (spanned.Refused PlaceOutside)) g
+    unfolding answer state
+    next-misplaced t a =
+        record { answer = rw (le-ltb 4294967295 (length s) h, ← (a .answer), t); next = rw (le-ltb 4294967295 (length s) h, ← (a .answer), t) }
+
+    pub next-served : {x : Outcome} {n : ContIter} → y ≡ false → Gives (misplaced g s) y → Steps (spanOf (stepped g s)) (stateOf (stepped g s)) x n → Steps (answer g s) (state g s) x n
+    unfolding answer state
+    next-served t a w =
+        record { answer = rw (le-ltb 4294967295 (length s) h, ← (a .answer), t) (w .answer); next = rw (le-ltb 4294967295 (length s) h, ← (a .answer), t) (w .next) }
+
+-- ---- a fresh state
+pub fresh-given : (byte eol sep tab nest cap : ℕ) → Gives (min nest 32) cap → Gives (fresh byte eol sep tab nest) (record { byte = byte; eol = eol; sep = sep; tab = tab; cap = cap; pos = 0; «open» = replicate 32 0; «open_len» = 0; pending = replicate 32 (frame 0 0); «pending_len» = 0; «pending_idx» = 0 })
+fresh-given byte eol sep tab nest cap g = record { answer = rw (g .answer) }
+
+-- ---- two results of a step that keep its promise are one
+pub next-unique : (g : ContIter) (s : List ℕ) (r r′ : ContStep) → Kept g s r → Kept g s r′ → (r .found ≡ r′ .found) × (r .next ≡ r′ .next)
+next-unique g s r r′ w w′ = (span-unique {o = answer g s} (record { answer = w .answer }) (record { answer = w′ .answer }), steps-unique w w′ .1)
+
+-- ---- a result that keeps the promise for a state that is served is the step
+pub kept-step : (g : ContIter) (s : List ℕ) (r : ContStep) → Served g s → Kept g s r → toldStep r ≡ stepped g s
+unfolding answer state
+kept-step g s r v w = by (stepped g s) (simp (short, unrefused g s v) at (w .answer)) (simp (short, unrefused g s v) at (w .next))
+  where
+    short : ltb 4294967295 (length s) ≡ false
+    short = le-ltb 4294967295 (length s) (v .short)
+
+    is-found : (d : SpanFound) → toldSpan (r .found) ≡ toldSpan d → r .found ≡ d
+    is-found d e = span-unique {o = toldSpan d} {r = r .found} {r′ = d} (record { answer = e }) (record { answer = refl })
+
+    by : (c : Step Span ContIter) → toldSpan (r .found) ≡ spanOf c → r .next ≡ stateOf c → toldStep r ≡ c
+    by (yields f h) e n = ap (stepWith (r .next)) (is-found (spanned.At f) e) ∙ ap (yields f) n
+    by (ends h) e n = ap (stepWith (r .next)) (is-found spanned.Nothing e) ∙ ap ends n
