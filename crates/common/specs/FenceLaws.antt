@@ -1,17 +1,17 @@
 -- Laws of what lines say of fences: the ways out of the functions that ask. Assumes nothing.
-use mathlib.Core.Path.{_≡_, refl, sym, ap, subst, _∙_}
-use mathlib.Core.Bool.{Bool, true, false, not, _||_, _&&_, and-false}
-use mathlib.Core.List.{List, [], _∷_, _++_}
+use mathlib.Core.Path.{_≡_, refl, sym, subst, _∙_}
+use mathlib.Core.Bool.{Bool, true, false, _&&_, and-false}
+use mathlib.Core.List.{List}
 use mathlib.Core.Logic.{_⊎_, inl, inr, ⊎-elim}
-use Prim.Native.Nat.{ℕ, zero, suc, _+_, _-_, _≤_, _<_, min, max}
+use Prim.Native.Nat.{ℕ, _+_, _-_, _≤_, _<_, min}
 use native.Mathlib.Omega.{arith}
-use lib.Dec.{eqb, ltb, leb}
+use lib.Dec.{ltb, leb}
 use lib.ListN.{length, getD}
 use borrow.Author.Tests.{lt-ltb, le-ltb, ltb-true, ltb-false, le-leb, lt-leb}
 use Rattle.common.specs.Promise.{Gives}
 use Rattle.common.specs.Search.{is, either, other, holds, firstPlace, find, Sought, lineStart, lineEnd, nextLine}
-use Rattle.common.specs.SearchLaws.{decide, is-yes, is-no, is-true, is-false, either-true, either-false, other-yes, other-false, holds-in, holds-past, holds-true, first-none, first-end, first-over, first-here, find-ge, find-le, find-end, find-next, find-before, find-at, find-is, find-over, find-hit, line-one}
-use Rattle.common.specs.Fences.{runCount, opensTo, openingOf, opensLine, opening, pickOpening, closesTo, closing, closeScan, closeAt}
+use Rattle.common.specs.SearchLaws.{decide, is-yes, is-no, is-true, is-false, either-true, either-false, other-yes, other-false, holds-in, holds-past, holds-true, first-none, first-end, first-over, first-here, find-ge, find-end, find-before, find-at, find-is, find-over, find-hit, line-one}
+use Rattle.common.specs.Fences.{runCount, opensTo, openingOf, opensLine, opening, pickOpening, closesTo, closing, closeScan}
 use Rattle.common.specs.Steps.{CloseTurned}
 use Rattle.common.specs.declared.grammar.Grammar.{Grammar}
 use Rattle.common.specs.declared.fence_tests.Opening.{Opening}

@@ -1,5 +1,5 @@
 -- What a line says of fences, and where a fence is closed. Assumes nothing.
-use mathlib.Core.Path.{_≡_}
+
 use mathlib.Core.Bool.{Bool, true, false, _&&_}
 use mathlib.Core.List.{List}
 use Prim.Native.Nat.{ℕ, _-_, min}

@@ -1,23 +1,22 @@
 -- Laws of items that lead a line: the leading bytes of a part of a text, walks back, lines, the needles of a set, and a scanner's step. Assumes nothing.
-use mathlib.Core.Path.{_≡_, refl, sym, ap, subst, _∙_, fun-ext}
+use mathlib.Core.Path.{_≡_, refl, sym, ap, _∙_, fun-ext}
 use mathlib.Core.Bool.{Bool, true, false, cond, _||_, _&&_, or-true}
-use mathlib.Core.List.{List, [], _∷_, _++_}
+use mathlib.Core.List.{List, [], _∷_}
 use mathlib.Core.Logic.{_⊎_, inl, inr, ⊎-elim}
 use Prim.Native.Nat.{ℕ, zero, suc, _+_, _-_, _≤_, _<_, min}
-use native.Mathlib.Nat.{not-suc-le-zero}
 use native.Mathlib.Numerals.{add-one}
 use native.Mathlib.Omega.{arith}
-use lib.Dec.{eqb, ltb, leb}
+use lib.Dec.{eqb, ltb}
 use lib.ListN.{length, getD, take, drop, length-drop, length-take, drop-of-length-le, List·getD-eq-default}
 use lib.Seq.{drop-cons, getD-take, slice, slice-empty, slice-cons, length-slice}
-use borrow.Author.Tests.{eqb-true, eq-eqb, lt-ltb, le-ltb, ltb-true, ltb-false, le-leb}
+use borrow.Author.Tests.{eqb-true, eq-eqb, lt-ltb, le-ltb, ltb-true, ltb-false}
 use Rattle.common.specs.Promise.{Gives, Steps}
 use Rattle.common.specs.Search.{is, either, oneOf, other, holds, find, Sought, back, lineStart, lineEnd, nextLine}
-use Rattle.common.specs.SearchLaws.{decide, clash, and-true, is-true, either-true, other-yes, other-no, holds-in, holds-true, find-ge, find-le, find-at, find-end, find-here, find-next, back-le, back-run, back-stop, start-zero, line-one, line-next}
+use Rattle.common.specs.SearchLaws.{decide, clash, and-true, is-true, either-true, other-yes, other-no, holds-in, holds-true, find-ge, find-le, find-end, find-here, find-next, back-le, back-run, back-stop, start-zero, line-one, line-next}
 use Rattle.common.specs.Sets.{acceptedFrom, accepted, probeOf, probe}
 use Rattle.common.specs.Refusals.{Outcome, given, refused, numberOf}
 use Rattle.common.specs.RefusalLaws.{answer-unique, found-unique}
-use Rattle.common.specs.Turn.{Turn, go, stop, found, allFound, None, Ahead, Adv, Covers}
+use Rattle.common.specs.Turn.{Turn, found, allFound, None, Ahead, Adv, Covers}
 use Rattle.common.specs.TurnLaws.{collect-covers}
 use Rattle.common.specs.Items.{ItemGrammar, blank, has, Apart, lineBytes, leading, beyond, leads, itemFrom, lineFound, itemAt, itemsOf, readTurn, said, placeOf, answerBy, stateBy}
 use Rattle.common.specs.declared.refusal.Refusal.{Refusal}

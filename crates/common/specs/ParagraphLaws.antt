@@ -1,16 +1,16 @@
 -- Laws of paragraphs: the ways out of the search for a byte in one. Assumes nothing.
-use mathlib.Core.Path.{_≡_, refl, sym, ap, subst, _∙_}
-use mathlib.Core.Bool.{Bool, true, false, not, _||_, _&&_, and-false, or-true}
+use mathlib.Core.Path.{_≡_, refl, sym, subst, _∙_}
+use mathlib.Core.Bool.{Bool, true, false, and-false, or-true}
 use mathlib.Core.List.{List}
 use mathlib.Core.Logic.{_⊎_, inl, inr, ⊎-elim}
-use Prim.Native.Nat.{ℕ, zero, suc, _+_, _-_, _≤_, _<_, max}
+use Prim.Native.Nat.{ℕ, _+_, _-_, _≤_, _<_}
 use native.Mathlib.Omega.{arith}
-use lib.Dec.{eqb, ltb, leb}
+use lib.Dec.{eqb, ltb}
 use lib.ListN.{length, getD}
 use borrow.Author.Tests.{eq-eqb, ne-eqb, lt-ltb, le-ltb, ltb-true, ltb-false, le-leb, lt-leb}
 use Rattle.common.specs.Promise.{Gives}
 use Rattle.common.specs.Search.{is, either, holds, firstPlace, find, Sought}
-use Rattle.common.specs.SearchLaws.{decide, is-yes, is-no, is-false, either-true, either-false, holds-in, holds-past, first-none, first-end, first-over, first-is, first-ge, find-ge, find-end, find-before, find-at, find-is, find-over}
+use Rattle.common.specs.SearchLaws.{decide, is-yes, is-no, either-true, either-false, holds-in, holds-past, first-none, first-end, first-over, first-is, first-ge, find-ge, find-end, find-before, find-at, find-is, find-over}
 use Rattle.common.specs.Paragraph.{endsAt, paragraphEnd, nextIn}
 use Rattle.common.specs.Steps.{NextTurned}
 use Rattle.common.specs.declared.fence_tests.Hit.{Hit}

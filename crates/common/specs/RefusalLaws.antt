@@ -3,7 +3,7 @@ use mathlib.Core.Path.{_≡_, refl, sym, ap, _∙_}
 use mathlib.Core.Bool.{Bool, true, false, not}
 use mathlib.Core.List.{List, [], _∷_}
 use Prim.Native.Nat.{ℕ}
-use lib.Dec.{eqb, ltb}
+use lib.Dec.{eqb}
 use lib.ListN.{getD}
 use borrow.Author.Tests.{lt-ltb, le-ltb, eq-eqb, ne-eqb}
 use Rattle.common.specs.Promise.{Gives, gives-unique}
@@ -14,7 +14,6 @@ use Rattle.common.specs.declared.refusal.Answer.{Answer}
 use Rattle.common.specs.declared.refusal.Answer.the-variants as answer
 use Rattle.common.specs.declared.refusal.Found.{Found}
 use Rattle.common.specs.declared.refusal.Found.the-variants as found
-use Rattle.common.specs.declared.span.Span.{Span}
 use Rattle.common.specs.declared.span.SpanFound.{SpanFound}
 use Rattle.common.specs.declared.span.SpanFound.the-variants as spanned
 

@@ -1,20 +1,20 @@
 -- Laws of tables of 256 entries: how a loop fills one, and the tables of fence rules and of byte sets. Assumes nothing.
 use mathlib.Core.Path.{_≡_, refl, sym, ap, _∙_, fun-ext}
 use mathlib.Core.Bool.{Bool, true, false, cond, _||_, _&&_, or-true}
-use mathlib.Core.List.{List, [], _∷_, _++_, append-assoc}
+use mathlib.Core.List.{List, [], _∷_, _++_}
 use mathlib.Core.Logic.{_⊎_, inl, inr, ⊎-elim}
 use Prim.Native.Nat.{ℕ, zero, suc, _+_, _-_, _≤_, _<_}
 use native.Mathlib.Nat.{not-suc-le-zero, add-zero, add-suc, suc-add, zero-add}
 use native.Mathlib.Numerals.{add-one}
 use native.Mathlib.Omega.{arith}
-use lib.Dec.{eqb, ltb, leb}
-use lib.ListN.{length, getD, set, take, drop, replicate, length-set, length-replicate, getD-replicate, length-append}
-use lib.Seq.{ext-getD, getD-set-same, getD-set-other, take-suc, take-all, take-append-le}
+use lib.Dec.{eqb, ltb}
+use lib.ListN.{length, getD, set, take, replicate, length-set, length-replicate, getD-replicate, length-append}
+use lib.Seq.{ext-getD, getD-set-same, getD-set-other, take-suc, take-all}
 use borrow.Author.Tests.{eq-eqb, ne-eqb, eqb-true, eqb-false, lt-ltb, le-ltb, ltb-true, ltb-false, le-leb, lt-leb}
 use Rattle.common.specs.Promise.{Gives}
 use Rattle.common.specs.Search.{is, oneOf, find}
-use Rattle.common.specs.SearchLaws.{decide, clash, is-yes, is-no, find-here, find-next, find-end}
-use Rattle.common.specs.Rules.{tabulate, row, hasRule, leastOf, entry, onByte, tablesOf}
+use Rattle.common.specs.SearchLaws.{decide, is-yes, is-no, find-here, find-next, find-end}
+use Rattle.common.specs.Rules.{tabulate, hasRule, leastOf, entry, onByte, tablesOf}
 use Rattle.common.specs.Sets.{Index, setOf, classOf, classSet, acceptedFrom, accepted, padded, probe}
 
 -- ---- the table of a function

@@ -18,7 +18,6 @@ use Rattle.common.specs.SearchLaws.{decide, and-true, holds-in}
 use Rattle.cont.specs.declared.Marks.{Marks}
 use Rattle.cont.specs.Frames.{markAt, afterMark, marksFrom, marks}
 use Rattle.common.specs.Entry.{putAt}
-use Rattle.cont.specs.Cont.{}
 use Rattle.cont.specs.Steps.{Peels, Opens}
 
 module _ (m : Marks) (s : List ℕ) where

@@ -8,8 +8,8 @@ use native.Mathlib.Nat.{not-suc-le-zero}
 use native.Mathlib.Numerals.{add-one}
 use native.Mathlib.Omega.{arith}
 use lib.Dec.{ltb}
-use lib.ListN.{length, getD, take, drop, set, length-append, length-take, length-drop, length-set, length-replicate, drop-of-length-le}
-use lib.Seq.{take-all, drop-nil, take-take, take-suc-set, append-snoc, drop-cons, getD-take, length-take-le}
+use lib.ListN.{length, getD, take, drop, length-append, length-take, length-drop, length-replicate, drop-of-length-le}
+use lib.Seq.{take-all, drop-nil, take-take, drop-cons, getD-take, length-take-le}
 use borrow.Author.Tests.{ltb-true, ltb-false, lt-ltb, le-ltb}
 use Rattle.common.specs.Search.{is, holds, find, lineStart, lineEnd}
 use Rattle.common.specs.SearchLaws.{decide, find-ge, find-le, find-before, find-at, clash, holds-in, line-one, line-next}

@@ -1,25 +1,24 @@
 -- Every turn of the region scan moves on within the text, over any grammar; so a text's regions are in order. Assumes nothing.
-use mathlib.Core.Path.{_≡_, refl, sym as inv, subst, _∙_}
+use mathlib.Core.Path.{_≡_, refl}
 use mathlib.Core.Bool.{Bool, true, false, not, _&&_}
 use mathlib.Core.List.{List, [], _∷_}
-use mathlib.Core.Logic.{_⊎_, inl, inr}
 use Prim.Native.Nat.{ℕ, zero, suc, _+_, _-_, _*_, _/_, _≤_, _<_, min}
 use native.Mathlib.Omega.{arith}
 use lib.Dec.{eqb, ltb}
 use lib.ListN.{length, getD}
-use borrow.Author.Tests.{ltb-true, ltb-false, eq-eqb}
+use borrow.Author.Tests.{ltb-true, eq-eqb}
 use Rattle.common.specs.Search.{find, is, other, lineEnd, nextLine}
-use Rattle.common.specs.SearchLaws.{decide, clash, and-true, is-yes, is-true, other-no, find-ge, find-le, find-next, find-at, first-ge, first-le}
+use Rattle.common.specs.SearchLaws.{clash, and-true, is-yes, is-true, other-no, find-ge, find-le, find-next, find-at, first-ge, first-le}
 use Rattle.common.specs.Paragraph.{endsAt, paragraphEnd, hitAt, nextIn}
-use Rattle.common.specs.Turn.{Turn, go, stop, found, thenCollect, collect, firstTurn, allFound, Ahead, Last, Adv}
+use Rattle.common.specs.Turn.{Turn, go, stop, found, thenCollect, collect, firstTurn, Ahead, Last, Adv}
 use Rattle.common.specs.TurnLaws.{by-turn, adv-weaken, scan-last}
 use Rattle.common.specs.declared.fence_tests.Hit.{Hit}
 use Rattle.common.specs.declared.fence_tests.Hit.the-variants.{At, End}
 use Rattle.context.specs.declared.region.Cause.{Cause}
-use Rattle.context.specs.declared.region.Cause.the-variants.{Fence, Symmetric, Asymmetric}
-use Rattle.context.specs.Region.{Region, Caused, InOrder}
+use Rattle.context.specs.declared.region.Cause.the-variants.{Symmetric, Asymmetric}
+use Rattle.context.specs.Region.{Region, InOrder}
 use Rattle.context.specs.Grammar.{Rule, plain, sym, asym, Gram}
-use Rattle.context.specs.Regions.{pick, shutPlace, fencedTo, fenced, escaped, nextOf, symRun, symAfter, symTurn, asymAfter, asymTurn, pairOf, openPair, inline, regionAt, regionTurn, regions}
+use Rattle.context.specs.Regions.{pick, shutPlace, fencedTo, fenced, escaped, nextOf, symAfter, symTurn, asymAfter, asymTurn, pairOf, openPair, inline, regionTurn, regions}
 
 -- a region that is not empty, between the place that a turn stood at and the one that it goes on from
 abbrev pub Lies : {T : Type 0} → ℕ → ℕ → Region T → Type 0

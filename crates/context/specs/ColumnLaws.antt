@@ -1,13 +1,13 @@
 -- Laws of the search bytes and of rules as tables. Assumes nothing.
 use mathlib.Core.Path.{_≡_, refl, sym as inv, ap, _∙_}
-use mathlib.Core.Bool.{Bool, true, false, cond, _||_, or-true}
+use mathlib.Core.Bool.{Bool, true, false, cond}
 use mathlib.Core.List.{List, [], _∷_, _++_}
-use mathlib.Core.Logic.{_⊎_, inl, inr, ⊎-elim}
+use mathlib.Core.Logic.{_⊎_, inl, inr}
 use Prim.Native.Nat.{ℕ, zero, suc, _+_, _-_, _≤_, _<_}
 use native.Mathlib.Nat.{not-suc-le-zero}
 use native.Mathlib.Numerals.{add-one}
 use native.Mathlib.Omega.{arith}
-use lib.Dec.{eqb, leb, ltb}
+use lib.Dec.{leb, ltb}
 use lib.ListN.{length, getD, take, drop, set, length-append, drop-of-length-le, replicate, List·getD-eq-default}
 use lib.Seq.{drop-cons}
 use borrow.Author.Tests.{le-leb, lt-leb, leb-false, lt-ltb, le-ltb}
@@ -15,7 +15,7 @@ use Rattle.common.specs.Promise.{Gives}
 use Rattle.common.specs.Search.{oneOf, is, find}
 use Rattle.common.specs.SearchLaws.{decide, is-yes, is-no, find-here, find-next, find-end}
 use Rattle.common.specs.Sets.{padded, Index}
-use Rattle.common.specs.Rules.{tabulate, row, hasRule}
+use Rattle.common.specs.Rules.{tabulate}
 use Rattle.common.specs.TableLaws.{Table, table-is, table-same, table-set, table-start, table-of}
 use Rattle.context.specs.Grammar.{Rule, plain, sym, asym}
 use Rattle.context.specs.Columns.{gained, gainedAll, noBytes, withByte, gathered, asBytes, searchBytes, pickRule, openRule, symRule, fenceRow}

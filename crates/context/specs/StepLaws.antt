@@ -1,15 +1,15 @@
 -- Laws of the builder's turns: the ways out of the functions that take them. Assumes nothing.
 use mathlib.Core.Path.{_≡_, refl, sym as inv, ap, subst, _∙_, fun-ext}
-use mathlib.Core.Bool.{Bool, true, false, not, _||_, _&&_}
-use mathlib.Core.List.{List, [], _∷_}
-use mathlib.Core.Logic.{_⊎_, inl, inr, ⊎-elim}
-use Prim.Native.Nat.{ℕ, _+_, _-_, _*_, _^_, _%_, _≤_, _<_, min, max}
+use mathlib.Core.Bool.{Bool, true, false, not, _&&_}
+use mathlib.Core.List.{List, []}
+use mathlib.Core.Logic.{_⊎_, inl, inr}
+use Prim.Native.Nat.{ℕ, _+_, _-_, _*_, _^_, _%_, _≤_, _<_}
 use native.Mathlib.Omega.{arith}
 use mir.Val.{Fits}
 use mir.Syntax.{w64}
 use lib.Dec.{eqb, ltb}
 use lib.ListN.{length, getD, take}
-use borrow.Author.Tests.{eq-eqb, ne-eqb, lt-ltb, le-ltb, ltb-true, ltb-false}
+use borrow.Author.Tests.{eq-eqb, ne-eqb, lt-ltb, le-ltb}
 use Rattle.common.specs.Promise.{Gives}
 use Rattle.common.specs.Search.{find, is, other, oneOf, back, Sought, lineStart, lineEnd, nextLine, firstPlace}
 use Rattle.common.specs.SearchLaws.{decide, find-end}
@@ -27,8 +27,8 @@ use Rattle.common.specs.declared.fence_tests.Close.{Close}
 use Rattle.common.specs.declared.fence_tests.Close.the-variants as close
 use Rattle.context.specs.Region.{Caused, caused}
 use Rattle.context.specs.Grammar.{Rule, plain, sym, asym, Gram}
-use Rattle.context.specs.Regions.{pick, oddBefore, symAfter, symTurn, asymAfter, asymTurn, pairOf, openPair, inline, shutPlace, fencedTo, fenced, regionTurn, nextRegion}
-use Rattle.context.specs.Tables.{fenceGram, gramBy, openingAt, closedBy, fencedBy, symPair, asymPair, inlineBy, ruleBy, ruleAt}
+use Rattle.context.specs.Regions.{oddBefore, symAfter, symTurn, asymAfter, asymTurn, pairOf, openPair, inline, shutPlace, fencedTo, fenced, regionTurn, nextRegion}
+use Rattle.context.specs.Tables.{fenceGram, gramBy, openingAt, closedBy, fencedBy, symPair, asymPair, inlineBy, ruleBy}
 use Rattle.context.specs.Views.{viewHit, placed}
 use Rattle.context.specs.Ahead.{Met, next-met}
 use Rattle.context.specs.declared.region.Cause.the-variants.{Fence, Symmetric, Asymmetric}

@@ -1,5 +1,5 @@
 -- The house rules of document 01. Assumes nothing.
-use mathlib.Core.List.{List, [], _∷_}
+use mathlib.Core.List.{[], _∷_}
 use Rattle.common.specs.Grammars.{house}
 use Rattle.context.specs.Grammar.{Gram}
 use Rattle.context.specs.Columns.{Columns, columns, gramOf}
