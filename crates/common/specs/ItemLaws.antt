@@ -20,9 +20,7 @@ use Rattle.common.specs.Turn.{Turn, found, allFound, None, Ahead, Adv, C
 use Rattle.common.specs.TurnLaws.{collect-covers}
 use Rattle.common.specs.Items.{ItemGrammar, blank, has, Apart, lineBytes, leading, beyond, leads, itemFrom, lineFound, itemAt, itemsOf, readTurn, said, placeOf, answerBy, stateBy}
 use Rattle.common.specs.declared.refusal.Refusal.{Refusal}
-use Rattle.common.specs.declared.refusal.Answer.{Answer}
 use Rattle.common.specs.declared.refusal.Answer.the-variants as answer
-use Rattle.common.specs.declared.refusal.Found.{Found}
 use Rattle.common.specs.declared.refusal.Found.the-variants as told
 
 -- a property of what a test picks, by cases
@@ -401,10 +399,11 @@ module _ {A S : Type 0} (values : A → List ℕ) (at : S → ℕ → S) (g : S)
     step-served w = (w .answer ∙ sym served-answer, w .next ∙ sym served-state)
 
     -- by what a `match` told of the code's value d of the scan's answer; `view` says which answer such a value stands for
-    pub step-seen : {D : Type 0} (view : D → Turn A) (d e : D) (r : S) → d ≡ e → Gives t (view d) → Gives (at g (placeOf (view e))) r → Steps (answerBy values s p t) (stateBy at g s p t) (said values (view e)) r
-    step-seen view d e r f w v =
+    pub step-seen : {D : Type 0} (view : D → Turn A) (d e : D) (o : Outcome) (r : S) → d ≡ e → Gives t (view d) → o ≡ said values (view e) → Gives (at g (placeOf (view e))) r
+        → Steps (answerBy values s p t) (stateBy at g s p t) o r
+    step-seen view d e o r f w u v =
         let x : view e ≡ t = sym (ap view f) ∙ w .answer in
-        record { answer = ap (said values) x ∙ served-answer; next = v .answer ∙ ap (λ (y : Turn A). at g (placeOf y)) x ∙ served-state }
+        record { answer = u ∙ ap (said values) x ∙ served-answer; next = v .answer ∙ ap (λ (y : Turn A). at g (placeOf y)) x ∙ served-state }
 
 -- ---- the numbers of refusals
 pub number-same : (r r′ : Refusal) → numberOf r ≡ numberOf r′ → r ≡ r′

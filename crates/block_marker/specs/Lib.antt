@@ -1,0 +1,3 @@
+pub mod Marker
+pub mod MarkerLaws
+pub mod MarkerRun

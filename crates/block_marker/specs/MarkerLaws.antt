@@ -1,0 +1,319 @@
+-- Laws of the marker items: the item of a line by searches, the ways out of the turns, and that both scans find the items of the lines. Assumes nothing.
+use mathlib.Core.Path.{_≡_, refl, sym, ap, subst, _∙_}
+use mathlib.Core.Bool.{Bool, true, false, cond, _&&_, and-false}
+use mathlib.Core.List.{List, [], _∷_}
+use mathlib.Core.Logic.{_⊎_, inl, inr, ⊎-elim}
+use Prim.Native.Nat.{ℕ, suc, _+_, _-_, _≤_, _<_}
+use native.Mathlib.Omega.{arith}
+use lib.Dec.{ltb}
+use lib.ListN.{length, getD, take, drop}
+use lib.Seq.{getD-take, slice, length-slice}
+use borrow.Author.Tests.{lt-ltb, le-ltb, ltb-true, ltb-false}
+use Rattle.common.specs.Promise.{Gives}
+use Rattle.common.specs.Search.{is, either, other, holds, find, Sought, back, lineStart, lineEnd, nextLine}
+use Rattle.common.specs.SearchLaws.{decide, clash, and-true, is-no, other-yes, other-no, other-false, holds-in, holds-true, find-ge, find-le, find-before, find-at, find-is, find-over, line-next}
+use Rattle.common.specs.Turn.{go, stop, found, allFound, None, Ahead, Adv, Covers}
+use Rattle.common.specs.TurnLaws.{collect-covers}
+use Rattle.common.specs.Items.{ItemGrammar, grammar, blank, Apart, leading, beyond, leads, itemFrom, lineFound, itemAt, itemsOf, readTurn}
+use Rattle.common.specs.ItemLaws.{both, other-true, leading-is, beyond-is, leading-beyond, marked, from-drop, marked-tests, Parted, marked-parted, parted-marked, AtMost, most-from, Walked, walked, walked-is, start-after, AtLine, at-start, line-size, line-length, no-line, on-line, line-rest, read-adv, read-items, blank-refused, accepted-blank, blank-inside, accepted-inside}
+use Rattle.block_marker.specs.Marker.{mark, markLine, markers, streamHit, streamTurn, lineTurn}
+use Rattle.block_marker.specs.declared.MarkerItem.{MarkerItem}
+
+-- ---- the item of a line by searches: u is the text up to the line's end, p the first byte from a on that is no separator or tab
+module _ (g : ItemGrammar) (u : List ℕ) (a p : ℕ) (h : a ≤ length u) (e : find (other (blank g)) u a ≡ p) where
+  mark-search : markLine g a (drop a u) ≡ cond (marked g u p) (mark (getD u p 0) (p + 2) (length u) ∷ []) []
+  unfolding markLine
+  mark-search =
+      let l = find-ge (other (blank g)) u a in
+      let m = find-le (other (blank g)) u a h in
+      let k : a + length (leading (blank g) (drop a u)) ≡ p = omega (arith, ap length (leading-is (blank g) u a h), length-slice a (find (other (blank g)) u a) u m) in
+      ap (λ (k : ℕ). itemFrom g mark k (beyond (blank g) (drop a u))) k ∙ ap (itemFrom g mark p) (beyond-is (blank g) u a h ∙ ap (λ (k : ℕ). drop k u) e) ∙ from-drop g mark u p
+
+  mark-yes : marked g u p ≡ true → markLine g a (drop a u) ≡ mark (getD u p 0) (p + 2) (length u) ∷ []
+  mark-yes y = mark-search ∙ simp y
+
+  mark-no : marked g u p ≡ false → markLine g a (drop a u) ≡ []
+  mark-no y = mark-search ∙ simp y
+
+-- ---- the ways out of the streaming turn
+module _ (eol sep tab : ℕ) (t : ℕ → Bool) (s : List ℕ) (q p : ℕ) where
+  pub stream-none : length s ≤ p → Sought t s q p → Gives (streamTurn (grammar eol sep tab t) s q) (stop q)
+  unfolding streamTurn
+  stream-none h w = record { answer = simp (← (w .here), le-ltb p (length s) h) }
+
+  module _ (h : p < length s) (y : Bool) where
+    pub stream-passed : (e n : ℕ) → y ≡ false → Gives (leads eol sep tab s p) y → Sought t s q p → Sought (is eol) s p e → Gives (nextLine (length s) e) n
+        → Gives (streamTurn (grammar eol sep tab t) s q) (go n)
+    unfolding streamTurn
+    stream-passed e n f g w x m = record { answer = simp (← (w .here), lt-ltb p (length s) h, ← (g .answer), f, ← (x .here), ← (m .answer)) }
+
+    module _ (z : Bool) (f : y ≡ true) where
+      pub stream-bare : (e n : ℕ) → z ≡ false → Gives (leads eol sep tab s p) y → Gives (holds (either sep tab) s (p + 1)) z → Sought t s q p → Sought (is eol) s p e → Gives (nextLine (length s) e) n
+          → Gives (streamTurn (grammar eol sep tab t) s q) (go n)
+      unfolding streamTurn
+      stream-bare e n c g k w x m = record { answer = simp (← (w .here), lt-ltb p (length s) h, ← (g .answer), f, ← (k .answer), c, ← (x .here), ← (m .answer)) }
+
+      pub stream-found : (e n m : ℕ) → z ≡ true → Gives (leads eol sep tab s p) y → Gives (holds (either sep tab) s (p + 1)) z → Sought t s q p → Sought (is eol) s (p + 2) e → Gives (nextLine (length s) e) n → Gives (getD s p 0) m
+          → Gives (streamTurn (grammar eol sep tab t) s q) (found (mark m (p + 2) e) n)
+      unfolding streamTurn
+      stream-found e n m c g k w x l b = record { answer = simp (← (w .here), lt-ltb p (length s) h, ← (g .answer), f, ← (k .answer), c, ← (x .here), ← (l .answer), ← (b .answer)) }
+
+pub ruleset stream-rules = (stream-none, stream-passed, stream-bare, stream-found)
+
+-- ---- the ways out of the line turn
+module _ (eol sep tab : ℕ) (t : ℕ → Bool) (s : List ℕ) (q : ℕ) where
+  pub line-none : length s ≤ q → Gives (lineTurn (grammar eol sep tab t) s q) (stop q)
+  unfolding readTurn
+  line-none h = record { answer = simp (le-ltb q (length s) h) }
+
+  module _ (e p : ℕ) (h : q < length s) (w : Sought (is eol) s q e) (v : Sought (other (either sep tab)) (take e s) q p) where
+    size : length (take e s) ≡ e
+    size = sym (line-size eol s q e w h)
+
+    low : q ≤ length (take e s)
+    low = omega (arith, size, w .low)
+
+    -- with the item of the line that begins at q
+    with-line : (n : ℕ) (l : List MarkerItem) → markLine (grammar eol sep tab t) q (slice q e s) ≡ l → Gives (nextLine (length s) e) n → lineTurn (grammar eol sep tab t) s q ≡ lineFound l n
+    unfolding readTurn
+    with-line n l f m = simp (lt-ltb q (length s) h, ← (w .here), f, ← (m .answer))
+
+    pub line-blank : (n : ℕ) → e ≤ p → Gives (nextLine (length s) e) n → Gives (lineTurn (grammar eol sep tab t) s q) (go n)
+    line-blank n i l = record {
+      answer = sym (with-line n [] (mark-no (grammar eol sep tab t) (take e s) q p low (sym (v .here)) (rw (le-ltb (p + 1) (length (take e s)) (omega (arith, size))))) l);
+    }
+
+    module _ (m n : ℕ) (y : Bool) where
+      tests : (z : Bool) → Gives (getD (take e s) p 0) m → Gives (t m) y → Gives (holds (either sep tab) (take e s) (p + 1)) z → marked (grammar eol sep tab t) (take e s) p ≡ (z && y)
+      tests z = marked-tests (grammar eol sep tab t) (take e s) p m y z
+
+      pub line-passed : y ≡ false → Gives (getD (take e s) p 0) m → Gives (t m) y → Gives (nextLine (length s) e) n → Gives (lineTurn (grammar eol sep tab t) s q) (go n)
+      line-passed f b a l = record {
+        answer =
+            sym (with-line n [] (mark-no (grammar eol sep tab t) (take e s) q p low (sym (v .here))
+            (tests (holds (either sep tab) (take e s) (p + 1)) b a (record { answer = refl }) ∙ rw f (and-false (holds (either sep tab) (take e s) (p + 1))))) l);
+      }
+
+      module _ (z : Bool) (f : y ≡ true) where
+        pub line-bare : z ≡ false → Gives (getD (take e s) p 0) m → Gives (t m) y → Gives (holds (either sep tab) (take e s) (p + 1)) z → Gives (nextLine (length s) e) n → Gives (lineTurn (grammar eol sep tab t) s q) (go n)
+        line-bare c b a k l = record {
+          answer = sym (with-line n [] (mark-no (grammar eol sep tab t) (take e s) q p low (sym (v .here)) (tests z b a k ∙ rw c)) l);
+        }
+
+        pub line-found : z ≡ true → Gives (getD (take e s) p 0) m → Gives (t m) y → Gives (holds (either sep tab) (take e s) (p + 1)) z → Gives (nextLine (length s) e) n
+            → Gives (lineTurn (grammar eol sep tab t) s q) (found (mark m (p + 2) e) n)
+        line-found c b a k l = record {
+          answer =
+              sym (with-line n (mark m (p + 2) e ∷ [])
+              (mark-yes (grammar eol sep tab t) (take e s) q p low (sym (v .here)) (tests z b a k ∙ rw (c, f)) ∙ rw (size, b .answer)) l);
+        }
+
+pub ruleset line-rules = (line-none, line-blank, line-passed, line-bare, line-found)
+
+-- ---- every turn moves on within the text
+-- where an item's content lies that is found before n
+abbrev pub Lies : ℕ → ℕ → MarkerItem → Type 0
+Lies q n i = (i .span .start ≤ i .span .end) × (i .span .end ≤ n)
+
+module _ (g : ItemGrammar) (s : List ℕ) where
+  hit-ahead : (q p : ℕ) → q ≤ p → p < length s → Ahead Lies q (length s) (streamHit g s p)
+  hit-ahead q p h l =
+      both (Ahead Lies q (length s)) (leads (g .eol) (g .sep) (g .tab) s p && holds (blank g) s (p + 1)) _ _
+      (λ u.
+      let v = and-true (leads (g .eol) (g .sep) (g .tab) s p) (holds (blank g) s (p + 1)) u in
+      let m = holds-true (blank g) s (p + 1) (v .1) .0 in
+      let a = find-ge (is (g .eol)) s (p + 2) in
+      let b = find-le (is (g .eol)) s (p + 2) (omega arith) in
+      (omega arith, omega arith, (omega arith, omega arith)))
+      (λ u. let a = find-ge (is (g .eol)) s p in (omega arith, omega arith))
+
+  pub stream-adv : Adv Lies (streamTurn g s) (length s)
+  unfolding streamTurn
+  stream-adv = record {
+    ahead = λ q h.
+        both (Ahead Lies q (length s)) (ltb (find (g .accepts) s q) (length s)) _ _
+        (λ u. hit-ahead q (find (g .accepts) s q) (find-ge (g .accepts) s q) (ltb-true (find (g .accepts) s q) (length s) u)) (λ u. (omega arith, h));
+  }
+
+  pub mark-most : (q e n : ℕ) (l : List ℕ) → q + length l ≡ e → e ≤ n → AtMost (Lies q n) (markLine g q l)
+  unfolding markLine
+  mark-most q e n l f m = most-from g mark (Lies q n) (q + length (leading (blank g) l)) (beyond (blank g) l) (λ x k a b. (a, omega (arith, leading-beyond (blank g) l)))
+
+  pub line-adv : Adv Lies (lineTurn g s) (length s)
+  line-adv = read-adv g (markLine g) s Lies mark-most
+
+  -- ---- a line begins at a and has its marker at p
+  pub record Has (a p : ℕ) : Type 0 where
+    pub begins : lineStart (g .eol) s a ≡ true
+    pub low : a ≤ p
+    pub blanks : (j : ℕ) → a ≤ j → j < p → blank g (getD s j 0) ≡ true
+    pub solid : blank g (getD s p 0) ≡ false
+    pub marks : Parted g s (lineEnd (g .eol) s a) p
+
+  module _ (a : ℕ) (h : a ≤ length s) where
+    u : List ℕ
+    u = take (lineEnd (g .eol) s a) s
+
+    u-size : length u ≡ lineEnd (g .eol) s a
+    unfolding u
+    u-size = line-length (g .eol) s a h
+
+    u-low : a ≤ length u
+    u-low = omega (arith, u-size, find-ge (is (g .eol)) s a)
+
+    -- a place has nothing, or has its marker
+    mark-cases : (itemAt g (markLine g) s a ≡ []) ⊎ ((p : ℕ) × Has a p)
+    unfolding u
+    mark-cases = by (decide (lineStart (g .eol) s a)) (decide (marked g u p))
+      where
+        p : ℕ
+        p = find (other (blank g)) u a
+
+        by : (lineStart (g .eol) s a ≡ true) ⊎ (lineStart (g .eol) s a ≡ false) → (marked g u p ≡ true) ⊎ (marked g u p ≡ false) → (itemAt g (markLine g) s a ≡ []) ⊎ ((p : ℕ) × Has a p)
+        by (inr b) c = inl (no-line g (markLine g) s a b)
+        by (inl b) (inr c) = inl (on-line g (markLine g) s a b ∙ mark-no g u a p u-low refl c)
+        by (inl b) (inl c) =
+            let e = lineEnd (g .eol) s a in
+            let w = marked-parted g s e p u-size c in
+            let m = w .inside in
+            inr (
+              p,
+              record {
+                begins = b;
+                low = find-ge (other (blank g)) u a;
+                blanks = λ j i l. sym (ap (blank g) (getD-take e s j 0 (omega arith))) ∙ other-false (blank g) (getD u j 0) (find-before (other (blank g)) u a j i l);
+                solid = sym (ap (blank g) (getD-take e s p 0 (omega arith))) ∙ other-true (blank g) (getD u p 0) (find-at (other (blank g)) u a (omega (arith, u-size)));
+                marks = w;
+              },
+            )
+
+    -- nothing, where a marker would be absurd
+    pub nothing : ((p : ℕ) → Has a p → ⊥) → itemAt g (markLine g) s a ≡ []
+    nothing n = ⊎-elim (λ e. e) (λ x. absurd (n (x .0) (x .1))) mark-cases
+
+    pub has-mark : (p : ℕ) → Has a p → itemAt g (markLine g) s a ≡ mark (getD s p 0) (p + 2) (lineEnd (g .eol) s a) ∷ []
+    unfolding u
+    has-mark p w =
+        let e = lineEnd (g .eol) s a in
+        let m = w .marks .inside in
+        let x : getD u p 0 ≡ getD s p 0 = getD-take e s p 0 (omega arith) in
+        let f : find (other (blank g)) u a ≡ p =
+        find-is (other (blank g)) u a p (w .low) (omega (arith, u-size)) (λ j i l. ap (other (blank g)) (getD-take e s j 0 (omega arith)) ∙ other-no (blank g) (getD s j 0) (w .blanks j i l))
+        (ap (other (blank g)) x ∙ other-yes (blank g) (getD s p 0) (w .solid)) in
+        on-line g (markLine g) s a (w .begins) ∙ mark-yes g u a p u-low f (parted-marked g s e p u-size (w .marks)) ∙ rw (u-size, x)
+
+-- ---- the streaming scan answers for the places that it passes, where the bytes are apart
+module _ (g : ItemGrammar) (s : List ℕ) (apart : Apart g) where
+  -- the marker of a line that begins between q and the first accepted byte p from q on is that byte
+  first-hit : (q p a r : ℕ) → find (g .accepts) s q ≡ p → g .accepts (getD s p 0) ≡ true → q ≤ a → a ≤ p → Has g s a r → r ≡ p
+  first-hit q p a r f y h l w = by (decide (ltb r p)) (decide (ltb p r))
+    where
+      by : (ltb r p ≡ true) ⊎ (ltb r p ≡ false) → (ltb p r ≡ true) ⊎ (ltb p r ≡ false) → r ≡ p
+      by (inl u) v = let m = ltb-true r p u in absurd (clash (w .marks .accepted) (find-before (g .accepts) s q r (omega (arith, w .low)) (omega arith)))
+      by (inr u) (inl v) = let m = ltb-true p r v in absurd (clash y (blank-refused g apart (getD s p 0) (w .blanks p l m)))
+      by (inr u) (inr v) = omega (arith, ltb-false r p u, ltb-false p r v)
+
+  -- and the line begins where the blanks before it do
+  first-line : (p a k : ℕ) → Walked (blank g) s p k → Has g s a p → a ≡ k
+  first-line p a k b w = walked-is (blank g) s p a k (record {
+    low = w .low;
+    all = w .blanks;
+    last = λ j e. ⊎-elim (λ u. absurd (blank-inside g apart (getD s j 0) u (start-after (g .eol) s a j (w .begins) e))) (λ u. u) (decide (blank g (getD s j 0)));
+  }) b
+
+  -- an accepted byte p, with blanks back to where a line begins and one behind it, is the marker of that line
+  leads-line : (p k : ℕ) → Walked (blank g) s p k → lineStart (g .eol) s k ≡ true → p + 1 < length s → g .accepts (getD s p 0) ≡ true → blank g (getD s (p + 1) 0) ≡ true
+      → Has g s k p × (lineEnd (g .eol) s k ≡ lineEnd (g .eol) s (p + 2))
+  leads-line p k b st l y sp =
+      let low = b .low in
+      let e : lineEnd (g .eol) s k ≡ lineEnd (g .eol) s (p + 2) = find-over (is (g .eol)) s k (p + 2) (omega arith) (omega arith) (λ j h m. is-no (g .eol) (getD s j 0) (inner j h m)) in
+      let f = find-ge (is (g .eol)) s (p + 2) in
+      (record { begins = st; low = low; blanks = b .all; solid = accepted-blank g apart (getD s p 0) y; marks = record { inside = omega arith; accepted = y; parted = sp } }, e)
+    where
+      inner : (j : ℕ) → k ≤ j → j < p + 2 → getD s j 0 ≡ g .eol → ⊥
+      inner j h m f = side (decide (ltb j p)) (decide (ltb p j))
+        where
+          side : (ltb j p ≡ true) ⊎ (ltb j p ≡ false) → (ltb p j ≡ true) ⊎ (ltb p j ≡ false) → ⊥
+          side (inl u) v = blank-inside g apart (getD s j 0) (b .all j h (ltb-true j p u)) f
+          side (inr u) (inl v) = let q : j ≡ p + 1 = omega (arith, ltb-true p j v) in blank-inside g apart (getD s (p + 1) 0) sp (ap (λ (n : ℕ). getD s n 0) (sym q) ∙ f)
+          side (inr u) (inr v) = let q : j ≡ p = omega (arith, ltb-false j p u, ltb-false p j v) in accepted-inside g apart (getD s p 0) y (ap (λ (n : ℕ). getD s n 0) (sym q) ∙ f)
+
+  -- a hit p that is no marker rules out every line up to the end of its own
+  failed : (q p : ℕ) → q ≤ p → p < length s → find (g .accepts) s q ≡ p → g .accepts (getD s p 0) ≡ true → ((a : ℕ) → a ≤ p → Has g s a p → ⊥)
+      → Covers (itemAt g (markLine g) s) (AtLine (g .eol) s) (length s) q (go (nextLine (length s) (lineEnd (g .eol) s p)))
+  failed q p h l f y never = let e = find-ge (is (g .eol)) s p in (omega arith, omega arith, line-next (g .eol) s p (omega arith), none)
+    where
+      none : None (itemAt g (markLine g) s) q (nextLine (length s) (lineEnd (g .eol) s p))
+      none a x z = side (decide (ltb p a))
+        where
+          side : (ltb p a ≡ true) ⊎ (ltb p a ≡ false) → itemAt g (markLine g) s a ≡ []
+          side (inl u) = line-rest g (markLine g) s p p (omega arith) (omega arith) a (ltb-true p a u) z
+          side (inr u) =
+              let m = ltb-false p a u in
+              nothing g s a (omega arith) (λ r w. never a m (subst (Has g s a) (first-hit q p a r f y x m w) w))
+
+  hit-covers : (q p : ℕ) → q ≤ p → p < length s → find (g .accepts) s q ≡ p → AtLine (g .eol) s q → g .accepts (getD s p 0) ≡ true → Covers (itemAt g (markLine g) s) (AtLine (g .eol) s) (length s) q (streamHit g s p)
+  unfolding leads
+  hit-covers q p h l f i y =
+      both (Covers (itemAt g (markLine g) s) (AtLine (g .eol) s) (length s) q) (lineStart (g .eol) s k && holds (blank g) s (p + 1)) _ _
+      (λ u.
+      let v = and-true (lineStart (g .eol) s k) (holds (blank g) s (p + 1)) u in
+      let m = holds-true (blank g) s (p + 1) (v .1) in
+      let w = leads-line p k b (v .0) (m .0) y (m .1) in
+      let x = find-ge (is (g .eol)) s (p + 2) in
+      let low = b .low in
+      let from : q ≤ k = ahead (decide (ltb k q)) in (
+        omega arith,
+        line-next (g .eol) s (p + 2) (omega arith),
+        k,
+        from,
+        omega arith,
+        has-mark g s k (omega arith) p (w .0) ∙ ap (λ (e : ℕ). mark (getD s p 0) (p + 2) e ∷ []) (w .1),
+        (λ a c d. nothing g s a (omega arith) (λ r z.
+            let e = first-line p a k b (subst (Has g s a) (first-hit q p a r f y c (omega arith) z) z) in
+            omega arith)),
+        (λ a c d. line-rest g (markLine g) s k k (omega arith) (omega arith) a c (omega (arith, w .1))),
+      ))
+      (λ u. failed q p h l f y (λ a m w. clash (tests a w) u))
+    where
+      k : ℕ
+      k = p - back (blank g) s p
+
+      b : Walked (blank g) s p k
+      b = walked (blank g) s p (omega arith)
+
+      tests : (a : ℕ) → Has g s a p → (lineStart (g .eol) s k && holds (blank g) s (p + 1)) ≡ true
+      tests a w =
+          let e = first-line p a k b w in
+          let m : p + 1 < length s = omega (arith, w .marks .inside, w .low, find-le (is (g .eol)) s a (omega (arith, w .low))) in
+          rw (← e, w .begins) (holds-in (blank g) s (p + 1) m ∙ w .marks .parted)
+
+      ahead : (ltb k q ≡ true) ⊎ (ltb k q ≡ false) → q ≤ k
+      ahead (inl u) =
+          let m = ltb-true k q u in
+          let n : suc (q - 1) ≡ q = omega arith in
+          absurd (blank-inside g apart (getD s (q - 1) 0) (b .all (q - 1) (omega arith) (omega arith)) (start-after (g .eol) s q (q - 1) (i (omega arith)) n))
+      ahead (inr u) = ltb-false k q u
+
+  pub stream-covers : (q : ℕ) → q ≤ length s → AtLine (g .eol) s q → Covers (itemAt g (markLine g) s) (AtLine (g .eol) s) (length s) q (streamTurn g s q)
+  unfolding streamTurn
+  stream-covers q h i =
+      let p = find (g .accepts) s q in
+      both (Covers (itemAt g (markLine g) s) (AtLine (g .eol) s) (length s) q) (ltb p (length s)) _ _
+      (λ u. let l = ltb-true p (length s) u in hit-covers q p (find-ge (g .accepts) s q) l refl i (find-at (g .accepts) s q l))
+      (λ u. λ a x y. nothing g s a (omega arith) (λ r w.
+      let l = ltb-false p (length s) u in
+      let e = w .marks .inside in
+      let m = find-le (is (g .eol)) s a (omega arith) in
+      clash (w .marks .accepted) (find-before (g .accepts) s q r (omega (arith, w .low)) (omega arith))))
+
+-- ---- both scans find the items of the lines, from the text's start
+-- the line scan by every grammar
+pub lined-items : (g : ItemGrammar) (s : List ℕ) → allFound (lineTurn g s) (length s) 0 ≡ markers g s
+lined-items g s = read-items g (markLine g) s Lies (mark-most g s)
+
+-- the streaming scan by every grammar whose bytes are apart
+pub streamed-items : (g : ItemGrammar) (s : List ℕ) → Apart g → allFound (streamTurn g s) (length s) 0 ≡ markers g s
+unfolding itemsOf
+streamed-items g s apart =
+    collect-covers (streamTurn g s) (itemAt g (markLine g) s) (AtLine (g .eol) s) (length s) (stream-covers g s apart) (suc (length s)) 0 (omega arith) (omega arith) (at-start (g .eol) s)

@@ -1,0 +1,14 @@
+-- `new` meets its contract. Assumes nothing.
+use Rattle.block_numbered.specs.NumberedRun.{fresh-told}
+use borrow.Author.Needs.{needs}
+use Rattle.block_numbered.proofs.BlockNumberedIter.new.Statement.{statement}
+use Rattle.block_numbered.proofs.BlockNumberedIter.new.Tie as tie
+
+probe-matcher-requires : tie.Need-probe-matcher-requires
+probe-matcher-requires c κs = search needs
+
+returns : tie.Need-returns
+returns c = search fresh-told
+
+pub new-spec : {M : Type 1} → statement M
+new-spec = tie.close (tie.spec probe-matcher-requires returns)

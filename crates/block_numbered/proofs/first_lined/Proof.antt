@@ -1,0 +1,60 @@
+-- `first_lined` meets its contract: a loop of turns. Assumes nothing.
+use borrow.Author.Needs.{needs}
+use Prim.Native.Nat.{_-_}
+use lib.ListN.{length}
+use Rattle.common.specs.Items.{grammar, has}
+use Rattle.common.specs.Turn.{Stands}
+use Rattle.common.specs.TurnLaws.{stands-first, stands-less, stands-again, stands-stop, stands-found}
+use Rattle.block_numbered.specs.Numbered.{lineTurn, view}
+use Rattle.block_numbered.specs.NumberedLaws.{Lies, line-adv}
+use Rattle.block_numbered.proofs.first_lined.Statement.{statement}
+use Rattle.block_numbered.proofs.first_lined.Tie as tie
+
+abbrev Inv-loop : tie.InvT-loop
+Inv-loop src from eol sep tab matches q₀ q = Stands Lies (lineTurn (grammar eol sep tab (has matches)) src) (length src) from q
+
+abbrev μ-loop : tie.MeasureT-loop
+μ-loop src from eol sep tab matches q₀ q = length src - q
+
+loop-holds : tie.Need-loop-holds Inv-loop μ-loop
+loop-holds c = search (stands-first, line-adv)
+
+line-turn-requires : tie.Need-line-turn-requires Inv-loop μ-loop
+line-turn-requires c κs = search needs
+
+enum-known-n : tie.Need-enum-known-n Inv-loop μ-loop
+enum-known-n c = search needs
+
+loop-less : tie.Need-loop-less Inv-loop μ-loop
+loop-less c = search (stands-less view)
+
+loop-again : tie.Need-loop-again Inv-loop μ-loop
+loop-again c = search (stands-again view)
+
+enum-known-v : tie.Need-enum-known-v Inv-loop μ-loop
+enum-known-v c = search needs
+
+returns : tie.Need-returns Inv-loop μ-loop
+returns c = search (stands-stop view)
+
+enum-known-v-2 : tie.Need-enum-known-v-2 Inv-loop μ-loop
+enum-known-v-2 c = search needs
+
+returns-2 : tie.Need-returns-2 Inv-loop μ-loop
+returns-2 c = search (stands-found view)
+
+pub first-lined-spec : {M : Type 1} → statement M
+first-lined-spec =
+    tie.close
+    (tie.spec
+    Inv-loop
+    μ-loop
+    loop-holds
+    line-turn-requires
+    enum-known-n
+    loop-less
+    loop-again
+    enum-known-v
+    returns
+    enum-known-v-2
+    returns-2)

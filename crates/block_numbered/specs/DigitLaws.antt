@@ -1,0 +1,321 @@
+-- Laws of digits: what one counts, how many stand before a place, and the number that they write. Assumes nothing.
+use mathlib.Core.Path.{_≡_, refl, sym, ap, _∙_}
+use mathlib.Core.Bool.{Bool, true, false, and-false}
+use mathlib.Core.List.{List, [], _∷_, _++_}
+use mathlib.Core.Logic.{_⊎_, inl, inr, ⊎-elim}
+use Prim.Native.Nat.{ℕ, zero, suc, _+_, _-_, _*_, _^_, _≤_, _<_, min}
+use native.Mathlib.Nat.{pow-le-pow-right, pow-succ', mul-le-mul-right, suc-add}
+use native.Mathlib.Numerals.{add-one}
+use native.Mathlib.Omega.{arith}
+use mir.Val.{Fits}
+use mir.Syntax.{w32}
+use lib.Dec.{ltb, leb}
+use lib.ListN.{length, getD, take, drop, length-take, drop-of-length-le, List·getD-eq-default}
+use lib.Seq.{getD-take, slice, slice-empty, length-slice, take-suc, take-nil, drop-nil, take-take, length-take-le, drop-append-le}
+use borrow.Author.Tests.{leb-true, leb-false, le-leb, lt-leb, ltb-true, ltb-false, lt-ltb, le-ltb}
+use Rattle.common.specs.Promise.{Gives}
+use Rattle.common.specs.Search.{other, holds, find, back}
+use Rattle.common.specs.SearchLaws.{decide, clash, and-true, other-yes, other-no, holds-in, holds-past, find-le, find-end, find-here, Seeks, seeks-first, seeks-again, Backs, backs-first, backs-told-again, backs-told-found, backs-end, back-le, back-past, back-run, back-stop}
+use Rattle.common.specs.Items.{leading, beyond}
+use Rattle.common.specs.ItemLaws.{leading-yes, leading-no, beyond-yes, beyond-no, leading-is}
+use Rattle.block_numbered.specs.Numbered.{digit, decimalFrom, decimal, oneToNine, few, readDigits, digitsAt}
+
+-- ---- one digit
+pub digit-low : (x : ℕ) → x < 48 → Gives (digit x) false
+unfolding digit
+digit-low x h = record { answer = simp (lt-leb 48 x h) }
+
+pub digit-rest : (x : ℕ) → 48 ≤ x → Gives (digit x) (leb x 57)
+unfolding digit
+digit-rest x h = record { answer = simp (le-leb 48 x h) }
+
+pub digit-most : (x : ℕ) → digit x ≡ true → x - 48 ≤ 9
+unfolding digit
+digit-most x e = omega (arith, leb-true x 57 (and-true (leb 48 x) (leb x 57) e .1))
+
+digit-none : digit 0 ≡ false
+unfolding digit
+digit-none = refl
+
+-- past a text there is no digit
+read-digit : (s : List ℕ) (j : ℕ) → holds digit s j ≡ digit (getD s j 0)
+read-digit s j = by (decide (ltb j (length s)))
+  where
+    by : (ltb j (length s) ≡ true) ⊎ (ltb j (length s) ≡ false) → holds digit s j ≡ digit (getD s j 0)
+    by (inl u) = holds-in digit s j (ltb-true j (length s) u)
+    by (inr u) =
+        let h = ltb-false j (length s) u in
+        holds-past digit s j h ∙ sym (ap digit (List·getD-eq-default s 0 {n = j} h) ∙ digit-none)
+
+-- ---- a walk back over nine bytes at the most
+pub record Walking (t : ℕ → Bool) (s : List ℕ) (p k : ℕ) : Type 0 where
+  pub walk : Backs t s p k
+  pub most : p - k ≤ 9
+
+module _ (t : ℕ → Bool) (s : List ℕ) (p : ℕ) where
+  pub walking-past : length s < p → Gives (min (back t s p) 9) 0
+  walking-past h = record { answer = omega (arith, back-past t s p h) }
+
+  pub walking-first : p ≤ length s → Walking t s p p
+  walking-first h = record { walk = backs-first t s p h; most = omega arith }
+
+  module _ (k : ℕ) where
+    pub walking-full : Walking t s p k → 9 ≤ p - k → Gives (min (back t s p) 9) 9
+    walking-full w h = record { answer = omega (arith, w .walk .same) }
+
+    pub walking-end : Walking t s p k → k ≤ 0 → Gives (min (back t s p) 9) p
+    walking-end w h = record { answer = omega (arith, w .most, backs-end t s p k (w .walk) h) }
+
+    module _ (y : Bool) (l : p - k < 9) (h : 0 < k) where
+      pub walking-again : y ≡ true → Gives (t (getD s (k - 1) 0)) y → Walking t s p k → Walking t s p (k - 1)
+      walking-again e g w = record { walk = backs-told-again t s p k y g (w .walk) h e; most = omega arith }
+
+      pub walking-found : y ≡ false → Gives (t (getD s (k - 1) 0)) y → Walking t s p k → Gives (min (back t s p) 9) (p - k)
+      walking-found e g w = record { answer = omega (arith, backs-told-found t s p k y g (w .walk) h e) }
+
+pub ruleset walking-rules = (walking-past, walking-first, walking-full, walking-end, walking-again, walking-found)
+
+-- ---- one to nine digits before a place
+module _ (s : List ℕ) (p n : ℕ) where
+  few-all : back digit s p ≤ 9 → n ≡ back digit s p → Gives (few (back digit s p)) n
+  few-all h e = record { answer = e ∙ sym (simp (le-leb (back digit s p) 9 h)) }
+
+  pub before-all : p ≤ n → Gives (min (back digit s p) 9) n → Gives (few (back digit s p)) n
+  before-all h g = let l = back-le digit s p in few-all (omega (arith, g .answer)) (omega (arith, g .answer))
+
+  pub before-short : n < 9 → Gives (min (back digit s p) 9) n → Gives (few (back digit s p)) n
+  before-short h g = few-all (omega (arith, g .answer)) (omega (arith, g .answer))
+
+  module _ (h : n < p) (x : ℕ) (y : Bool) where
+    pub before-more : y ≡ true → Gives (digit x) y → Gives (getD s (p - n - 1) 0) x → Gives (min (back digit s p) 9) n → Gives (few (back digit s p)) 0
+    before-more e d b g = record { answer = sym (simp (lt-leb (back digit s p) 9 more)) }
+      where
+        more : 9 < back digit s p
+        more = by (decide (leb (back digit s p) 9))
+          where
+            by : (leb (back digit s p) 9 ≡ true) ⊎ (leb (back digit s p) 9 ≡ false) → 9 < back digit s p
+            by (inl u) =
+                let l = leb-true (back digit s p) 9 u in
+                let z : suc (p - n - 1) ≡ p - back digit s p = omega (arith, g .answer) in
+                absurd (clash (ap digit (sym (b .answer)) ∙ sym (d .answer) ∙ e) (sym (read-digit s (p - n - 1)) ∙ back-stop digit s p (p - n - 1) z))
+            by (inr u) = leb-false (back digit s p) 9 u
+
+    pub before-few : y ≡ false → Gives (digit x) y → Gives (getD s (p - n - 1) 0) x → Gives (min (back digit s p) 9) n → Gives (few (back digit s p)) n
+    before-few e d b g = few-all less (omega (arith, less, g .answer))
+      where
+        less : back digit s p ≤ 9
+        less = by (decide (leb (back digit s p) 9))
+          where
+            by : (leb (back digit s p) 9 ≡ true) ⊎ (leb (back digit s p) 9 ≡ false) → back digit s p ≤ 9
+            by (inl u) = leb-true (back digit s p) 9 u
+            by (inr u) =
+                let l = leb-false (back digit s p) 9 u in
+                let m = back-le digit s p in
+                absurd (clash (sym (read-digit s (p - n - 1)) ∙ back-run digit s p (p - n - 1) (omega (arith, g .answer)) (omega arith)) (ap digit (sym (b .answer)) ∙ sym (d .answer) ∙ e))
+
+pub ruleset before-rules = (before-all, before-short, before-more, before-few)
+
+-- ---- the number that digits write
+decimal-more : (v : ℕ) (l : List ℕ) (x : ℕ) → decimalFrom v (l ++ (x ∷ [])) ≡ decimalFrom v l * 10 + (x - 48)
+unfolding decimalFrom
+decimal-more v [] x = refl
+decimal-more v (y ∷ l) x = decimal-more (v * 10 + (y - 48)) l x
+
+-- one byte more of a part of a text
+slice-more : (u : List ℕ) (from i : ℕ) → from ≤ i → i < length u → slice from (i + 1) u ≡ slice from i u ++ (getD u i 0 ∷ [])
+slice-more u from i h l =
+    ap (λ (k : ℕ). slice from k u) (add-one i) ∙ ap (drop from) (take-suc u i 0 l) ∙ drop-append-le from (take i u) (getD u i 0 ∷ []) (omega (arith, length-take-le i u (omega arith)))
+
+pub decimal-slice : (u : List ℕ) (from i : ℕ) → from ≤ i → i < length u → decimal (slice from (i + 1) u) ≡ decimal (slice from i u) * 10 + (getD u i 0 - 48)
+decimal-slice u from i h l = ap decimal (slice-more u from i h l) ∙ decimal-more 0 (slice from i u) (getD u i 0)
+
+decimal-none : (u : List ℕ) (i : ℕ) → decimal (slice i i u) ≡ 0
+unfolding decimalFrom
+decimal-none u i = ap decimal (slice-empty i u)
+
+read-none : (l : List ℕ) → l ≡ [] → readDigits l ≡ []
+unfolding leading
+read-none l z = ap readDigits z
+
+-- ---- a loop that reads nine digits at the most
+-- the first nine bytes from a place on, in a text cut behind them
+take-drop : (n m : ℕ) (l : List ℕ) → take n (drop m l) ≡ drop m (take (m + n) l)
+take-drop n m [] = ap (take n) (drop-nil m) ∙ take-nil n ∙ sym (ap (drop m) (take-nil (m + n)) ∙ drop-nil m)
+take-drop n zero (x ∷ l) = let z : 0 + n ≡ n = omega arith in ap (λ (k : ℕ). take k (x ∷ l)) (sym z)
+take-drop n (suc m) (x ∷ l) = take-drop n m l ∙ ap (λ (k : ℕ). drop (suc m) (take k (x ∷ l))) (sym (suc-add m n))
+
+pub record Reading (u : List ℕ) (from i v : ℕ) : Type 0 where
+  pub seeks : Seeks (other digit) (take (from + 9) u) from i
+  pub value : v ≡ decimal (slice from i u)
+  pub small : v < 10 ^ (i - from)
+  pub most : i ≤ from + 9
+
+module _ (u : List ℕ) (from : ℕ) where
+  pub reading-first : Reading u from from 0
+  reading-first =
+      let z : from - from ≡ 0 = omega arith in
+      record { seeks = seeks-first (other digit) (take (from + 9) u) from; value = sym (decimal-none u from); small = rw z (omega arith); most = omega arith }
+
+  module _ (i v : ℕ) (w : Reading u from i v) where
+    pub reading-low : from ≤ i
+    reading-low = w .seeks .ahead
+
+    power : i - from < 9 → 10 ^ (i - from) ≤ 100000000
+    power l = pow-le-pow-right {n = 10} (omega arith) {i = i - from} {j = 8} (omega arith)
+
+    pub reading-mul : i - from < 9 → Fits w32 (v * 10)
+    reading-mul l = record { fits = omega (arith, w .small, power l) }
+
+    -- the digits end at i
+    done : find (other digit) (take (from + 9) u) from ≡ i → Gives (digitsAt from (readDigits (drop from u))) (record { number = v; end = i })
+    done e = by (decide (ltb (length u) from))
+      where
+        answer : readDigits (drop from u) ≡ slice from i u → from + length (slice from i u) ≡ i → Gives (digitsAt from (readDigits (drop from u))) (record { number = v; end = i })
+        answer p q = record {
+          answer = sym (ap (digitsAt from) p ∙ ap (λ (k : ℕ). record { number = decimal (slice from i u); end = k }) q ∙ ap (λ (k : ℕ). record { number = k; end = i }) (sym (w .value)));
+        }
+
+        by : (ltb (length u) from ≡ true) ⊎ (ltb (length u) from ≡ false) → Gives (digitsAt from (readDigits (drop from u))) (record { number = v; end = i })
+        by (inl x) =
+            let h = ltb-true (length u) from x in
+            let z : i ≡ from = sym e ∙ find-end (other digit) (take (from + 9) u) from (omega (arith, length-take (from + 9) u)) in
+            let n : slice from i u ≡ [] = ap (λ (k : ℕ). slice from k u) z ∙ slice-empty from u in
+            answer (read-none (drop from u) (drop-of-length-le u {i = from} (omega arith)) ∙ sym n) (omega (arith, ap length n))
+        by (inr x) =
+            let h = ltb-false (length u) from x in
+            let c : length (take (from + 9) u) ≡ min (from + 9) (length u) = length-take (from + 9) u in
+            let f = find-le (other digit) (take (from + 9) u) from (omega arith) in
+            answer
+            (ap (leading digit) (take-drop 9 from u)
+            ∙ leading-is digit (take (from + 9) u) from (omega arith)
+            ∙ ap (λ (k : ℕ). slice from k (take (from + 9) u)) e
+            ∙ ap (drop from) (take-take i (from + 9) u (w .most)))
+            (omega (arith, length-slice from i u (omega arith), w .seeks .ahead))
+
+    size : length (take (from + 9) u) ≡ min (from + 9) (length u)
+    size = length-take (from + 9) u
+
+    pub reading-full : 9 ≤ i - from → Gives (digitsAt from (readDigits (drop from u))) (record { number = v; end = i })
+    reading-full h = done (w .seeks .same ∙ find-end (other digit) (take (from + 9) u) i (omega (arith, size)))
+
+    pub reading-end : length u ≤ i → Gives (digitsAt from (readDigits (drop from u))) (record { number = v; end = i })
+    reading-end h = done (w .seeks .same ∙ find-end (other digit) (take (from + 9) u) i (omega (arith, size)))
+
+    module _ (x : ℕ) (y : Bool) (h : i < length u) (l : i - from < 9) where
+      byte : getD (take (from + 9) u) i 0 ≡ getD u i 0
+      byte = getD-take (from + 9) u i 0 (omega (arith, w .seeks .ahead))
+
+      pub reading-stop : y ≡ false → Gives (digit x) y → Gives (getD u i 0) x → Gives (digitsAt from (readDigits (drop from u))) (record { number = v; end = i })
+      reading-stop e d b = done (w .seeks .same ∙ find-here (other digit) (take (from + 9) u) i (omega (arith, size, w .seeks .ahead)) (other-yes digit (getD (take (from + 9) u) i 0) (ap digit (byte ∙ sym (b .answer)) ∙ sym (d .answer) ∙ e)))
+
+      pub reading-add : (n : ℕ) → y ≡ true → Gives (digit x) y → Gives (x - 48) n → Fits w32 (v * 10 + n)
+      reading-add n e d c = record { fits = omega (arith, w .small, power l, digit-most x (sym (d .answer) ∙ e), c .answer) }
+
+      pub reading-again : (n : ℕ) → y ≡ true → Gives (digit x) y → Gives (getD u i 0) x → Gives (x - 48) n → Reading u from (i + 1) (v * 10 + n)
+      reading-again n e d b c =
+          let a = w .seeks .ahead in
+          let z : i + 1 - from ≡ suc (i - from) = omega arith in
+          record {
+            seeks = seeks-again (other digit) (take (from + 9) u) from i (w .seeks) (omega (arith, size)) (other-no digit (getD (take (from + 9) u) i 0) (ap digit (byte ∙ sym (b .answer)) ∙ sym (d .answer) ∙ e));
+            value = rw (c .answer, b .answer, w .value) (sym (decimal-slice u from i a h));
+            small = rw z (omega (arith, w .small, digit-most x (sym (d .answer) ∙ e), c .answer));
+            most = omega arith;
+          }
+
+pub ruleset reading-rules = (reading-first, reading-full, reading-end, reading-stop, reading-again)
+
+-- ---- counts of digits
+pub few-none : (m : ℕ) → few m ≡ 0 → oneToNine m ≡ false
+few-none m e = by (decide (leb m 9))
+  where
+    by : (leb m 9 ≡ true) ⊎ (leb m 9 ≡ false) → oneToNine m ≡ false
+    by (inl u) = let z : m ≡ 0 = sym (simp u) ∙ e in rw (le-ltb 0 m (omega arith))
+    by (inr u) = rw u (and-false (ltb 0 m))
+
+pub few-some : (m : ℕ) → (few m ≡ 0 → ⊥) → (few m ≡ m) × (oneToNine m ≡ true)
+few-some m n = by (decide (leb m 9))
+  where
+    by : (leb m 9 ≡ true) ⊎ (leb m 9 ≡ false) → (few m ≡ m) × (oneToNine m ≡ true)
+    by (inl u) =
+        let z : few m ≡ m = simp u in
+        let l : 0 < m = ⊎-elim (λ (v : ltb 0 m ≡ true). ltb-true 0 m v) (λ v. absurd (n (z ∙ (let k : m ≡ 0 = omega (arith, ltb-false 0 m v) in k)))) (decide (ltb 0 m)) in
+        (z, rw (u, lt-ltb 0 m l))
+    by (inr u) = absurd (n (simp u))
+
+pub few-within : (s : List ℕ) (p n : ℕ) → Gives (few (back digit s p)) n → n ≤ p
+few-within s p n g = by (decide (leb (back digit s p) 9))
+  where
+    by : (leb (back digit s p) 9 ≡ true) ⊎ (leb (back digit s p) 9 ≡ false) → n ≤ p
+    by (inl u) = let z : n ≡ back digit s p = g .answer ∙ simp u in omega (arith, back-le digit s p)
+    by (inr u) = let z : n ≡ 0 = g .answer ∙ simp u in omega arith
+
+pub one-to-nine : (m : ℕ) → oneToNine m ≡ true → (0 < m) × (m ≤ 9)
+one-to-nine m e = let w = and-true (ltb 0 m) (leb m 9) e in (ltb-true 0 m (w .0), leb-true m 9 (w .1))
+
+pub nine-yes : (m : ℕ) → 0 < m → m ≤ 9 → oneToNine m ≡ true
+nine-yes m h l = rw (lt-ltb 0 m h, le-leb m 9 l)
+
+-- ---- digits write small numbers
+-- n digits behind v
+leading-small : (v : ℕ) (l : List ℕ) → decimalFrom v (leading digit l) < (v + 1) * 10 ^ length (leading digit l)
+unfolding leading decimalFrom
+leading-small v [] = omega arith
+leading-small v (x ∷ l) = by (decide (digit x)) (leading-small (v * 10 + (x - 48)) l)
+  where
+    by : (digit x ≡ true) ⊎ (digit x ≡ false) → decimalFrom (v * 10 + (x - 48)) (leading digit l) < (v * 10 + (x - 48) + 1) * 10 ^ length (leading digit l)
+        → decimalFrom v (leading digit (x ∷ l)) < (v + 1) * 10 ^ length (leading digit (x ∷ l))
+    by (inl y) ih =
+        let k = length (leading digit l) in
+        let m : (v * 10 + (x - 48) + 1) * 10 ^ k ≤ (v * 10 + 10) * 10 ^ k = mul-le-mul-right (10 ^ k) (omega (arith, digit-most x y)) in
+        rw (leading-yes digit x l y, pow-succ') (omega arith)
+    by (inr y) ih = rw (leading-no digit x l y) (omega arith)
+
+pub digits-small : (l : List ℕ) → length (leading digit l) ≤ 9 → decimal (leading digit l) < 1000000000
+digits-small l h =
+    let p = pow-le-pow-right {n = 10} (omega arith) {i = length (leading digit l)} {j = 9} h in
+    omega (arith, leading-small 0 l)
+
+-- ---- the leading bytes of a front
+module _ (t : ℕ → Bool) where
+  -- few enough: those of the whole
+  pub leading-few : (n : ℕ) (l : List ℕ) → length (leading t l) ≤ n → leading t (take n l) ≡ leading t l
+  unfolding leading
+  leading-few zero [] h = refl
+  leading-few (suc n) [] h = refl
+  leading-few zero (x ∷ l) h = by (decide (t x))
+    where
+      by : (t x ≡ true) ⊎ (t x ≡ false) → leading t [] ≡ leading t (x ∷ l)
+      by (inl y) = absurd (omega (arith, ap length (leading-yes t x l y)))
+      by (inr y) = sym (leading-no t x l y)
+  leading-few (suc n) (x ∷ l) h = by (decide (t x)) (leading-few n l)
+    where
+      by : (t x ≡ true) ⊎ (t x ≡ false) → (length (leading t l) ≤ n → leading t (take n l) ≡ leading t l) → leading t (x ∷ take n l) ≡ leading t (x ∷ l)
+      by (inl y) ih = leading-yes t x (take n l) y ∙ ap (λ (k : List ℕ). x ∷ k) (ih (omega (arith, ap length (leading-yes t x l y)))) ∙ sym (leading-yes t x l y)
+      by (inr y) ih = leading-no t x (take n l) y ∙ sym (leading-no t x l y)
+
+  -- more: all of the front, with one more behind it
+  pub leading-many : (n : ℕ) (l : List ℕ) → n < length (leading t l) → (length (leading t (take n l)) ≡ n) × ((x : ℕ) × (r : List ℕ) × (drop n l ≡ x ∷ r) × (t x ≡ true))
+  unfolding leading
+  leading-many zero [] h = absurd (omega arith)
+  leading-many (suc n) [] h = absurd (omega arith)
+  leading-many zero (x ∷ l) h = by (decide (t x))
+    where
+      by : (t x ≡ true) ⊎ (t x ≡ false) → (length (leading t []) ≡ 0) × ((y : ℕ) × (r : List ℕ) × ((x ∷ l) ≡ y ∷ r) × (t y ≡ true))
+      by (inl y) = (refl, (x, l, refl, y))
+      by (inr y) = absurd (omega (arith, ap length (leading-no t x l y)))
+  leading-many (suc n) (x ∷ l) h = by (decide (t x)) (leading-many n l)
+    where
+      by : (t x ≡ true) ⊎ (t x ≡ false) → (n < length (leading t l) → (length (leading t (take n l)) ≡ n) × ((y : ℕ) × (r : List ℕ) × (drop n l ≡ y ∷ r) × (t y ≡ true)))
+          → (length (leading t (x ∷ take n l)) ≡ suc n) × ((y : ℕ) × (r : List ℕ) × (drop n l ≡ y ∷ r) × (t y ≡ true))
+      by (inl y) ih = let w = ih (omega (arith, ap length (leading-yes t x l y))) in (ap length (leading-yes t x (take n l) y) ∙ ap suc (w .0), w .1)
+      by (inr y) ih = absurd (omega (arith, ap length (leading-no t x l y)))
+
+  -- what is behind the leading bytes
+  pub drop-leading : (l : List ℕ) → drop (length (leading t l)) l ≡ beyond t l
+  unfolding leading beyond
+  drop-leading [] = refl
+  drop-leading (x ∷ l) = by (decide (t x)) (drop-leading l)
+    where
+      by : (t x ≡ true) ⊎ (t x ≡ false) → drop (length (leading t l)) l ≡ beyond t l → drop (length (leading t (x ∷ l))) (x ∷ l) ≡ beyond t (x ∷ l)
+      by (inl y) ih = ap (λ (k : List ℕ). drop (length k) (x ∷ l)) (leading-yes t x l y) ∙ ih ∙ sym (beyond-yes t x l y)
+      by (inr y) ih = ap (λ (k : List ℕ). drop (length k) (x ∷ l)) (leading-no t x l y) ∙ sym (beyond-no t x l y)

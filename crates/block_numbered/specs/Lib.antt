@@ -1,0 +1,4 @@
+pub mod Numbered
+pub mod DigitLaws
+pub mod NumberedLaws
+pub mod NumberedRun

@@ -1,0 +1,183 @@
+-- What the numbered scanner finds. Assumes nothing.
+use mathlib.Core.Bool.{Bool, true, false, cond, _&&_}
+use mathlib.Core.List.{List, [], _∷_}
+use mathlib.Core.Path.{_≡_}
+use Prim.Native.Nat.{ℕ, _+_, _-_, _*_}
+use lib.Dec.{ltb, leb}
+use lib.ListN.{length, getD, take, drop}
+use lib.Seq.{slice}
+use Rattle.common.specs.Promise.{Steps}
+use Rattle.common.specs.Search.{find, oneOf, holds, back, lineEnd, nextLine}
+use Rattle.common.specs.Sets.{probe}
+use Rattle.common.specs.Refusals.{Outcome, given, refused, numberOf}
+use Rattle.common.specs.Turn.{Turn, go, stop, found, firstTurn, allFound, Step, yields, ends}
+use Rattle.common.specs.Items.{ItemGrammar, grammar, blank, has, Apart, leading, beyond, leads, itemFrom, itemsOf, readTurn, answerBy, stateBy}
+use Rattle.common.specs.declared.sets.Probe.{Probe}
+use Rattle.block_numbered.specs.declared.BlockNumberedIter.{BlockNumberedIter}
+use Rattle.block_numbered.specs.declared.NumberedItem.{NumberedItem}
+use Rattle.block_numbered.specs.declared.NumberedFound.{NumberedFound}
+use Rattle.block_numbered.specs.declared.NumberedFound.the-variants.{Item, Nothing, Refused}
+use Rattle.block_numbered.specs.declared.NumberedStep.{NumberedStep}
+use Rattle.block_numbered.specs.declared.NumberedTurn.{NumberedTurn}
+use Rattle.block_numbered.specs.declared.NumberedTurn.the-variants.{Go, Stop, Found}
+use Rattle.block_numbered.specs.declared.Digits.{Digits}
+
+-- whether a byte is an ASCII digit
+unfoldable pub digit : ℕ → Bool
+digit x = leb 48 x && leb x 57
+
+-- the number that digits write behind a number v, and that they write alone
+unfoldable pub decimalFrom : ℕ → List ℕ → ℕ
+decimalFrom v [] = v
+decimalFrom v (x ∷ l) = decimalFrom (v * 10 + (x - 48)) l
+
+abbrev pub decimal : List ℕ → ℕ
+decimal l = decimalFrom 0 l
+
+-- "1 to 9 ASCII digits"
+abbrev pub oneToNine : ℕ → Bool
+oneToNine n = ltb 0 n && leb n 9
+
+-- as many digits as there are, if they are at most nine
+abbrev pub few : ℕ → ℕ
+few n = cond (leb n 9) n 0
+
+-- the item of digits and their delimiter, with the span of its content
+abbrev pub numbered : List ℕ → ℕ → ℕ → ℕ → NumberedItem
+numbered ds delimiter start end = record { number = decimal ds; delimiter = delimiter; span = record { start = start; end = end } }
+
+-- ---- all numbered items of a text, by the bytes of its lines
+-- the item of a line's bytes behind its digits ds, the first of them at k: an accepted delimiter, one separator or tab, and the rest of
+-- the line
+abbrev pub numberThen : ItemGrammar → List ℕ → ℕ → List ℕ → List NumberedItem
+numberThen g ds k l = cond (oneToNine (length ds)) (itemFrom g (numbered ds) k l) []
+
+-- the item of a line's bytes from its digits on, the first of them at p
+abbrev pub numberFrom : ItemGrammar → ℕ → List ℕ → List NumberedItem
+numberFrom g p l = numberThen g (leading digit l) (p + length (leading digit l)) (beyond digit l)
+
+-- the item of a line whose bytes are l, the first of them at a: "Optional separators and tabs", "1 to 9 ASCII digits and an accepted
+-- delimiter", "one separator or tab; the span is the rest of the line"; "ten digits reject"
+unfoldable pub numberLine : ItemGrammar → ℕ → List ℕ → List NumberedItem
+numberLine g a l = numberFrom g (a + length (leading (blank g) l)) (beyond (blank g) l)
+
+-- the items of all lines, in the lines' order
+abbrev pub numbers : ItemGrammar → List ℕ → List NumberedItem
+numbers g s = itemsOf g (numberLine g) s
+
+-- the page's conditions: "none of line end, separator, tab or digit, the line end is neither separator nor tab, and none of these three
+-- is a digit"
+pub record DigitsApart (g : ItemGrammar) : Type 0 where
+  pub apart : Apart g
+  pub not-digit : (x : ℕ) → digit x ≡ true → g .accepts x ≡ false
+  pub eol-digit : digit (g .eol) ≡ false
+  pub sep-digit : digit (g .sep) ≡ false
+  pub tab-digit : digit (g .tab) ≡ false
+
+-- ---- the streaming scan
+-- an accepted byte at p with n digits before it: an item, if they are one to nine, only separators and tabs stand before them on their
+-- line, and one stands behind the byte; else on from the next byte
+abbrev pub streamHit : ItemGrammar → List ℕ → ℕ → ℕ → Turn NumberedItem
+streamHit g s p n =
+    cond (oneToNine n && (leads (g .eol) (g .sep) (g .tab) s (p - n) && holds (blank g) s (p + 1)))
+    (found (numbered (slice (p - n) p s) (getD s p 0) (p + 2) (lineEnd (g .eol) s (p + 2))) (nextLine (length s) (lineEnd (g .eol) s (p + 2))))
+    (go (p + 1))
+
+abbrev pub streamFrom : ItemGrammar → List ℕ → ℕ → ℕ → Turn NumberedItem
+streamFrom g s q p = cond (ltb p (length s)) (streamHit g s p (back digit s p)) (stop q)
+
+-- one turn at q: the next accepted byte, and the digits that it ends; where there is none the scan stays
+unfoldable pub streamTurn : ItemGrammar → List ℕ → ℕ → Turn NumberedItem
+streamTurn g s q = streamFrom g s q (find (g .accepts) s q)
+
+-- ---- the line scan: it reads nine digits at the most, and a tenth may be the delimiter
+-- the digits that it reads
+abbrev pub readDigits : List ℕ → List ℕ
+readDigits l = leading digit (take 9 l)
+
+-- the item of a line's bytes from its digits on, and of a whole line
+abbrev pub readFrom : ItemGrammar → ℕ → List ℕ → List NumberedItem
+readFrom g p l = numberThen g (readDigits l) (p + length (readDigits l)) (drop (length (readDigits l)) l)
+
+unfoldable pub readLine : ItemGrammar → ℕ → List ℕ → List NumberedItem
+readLine g a l = readFrom g (a + length (leading (blank g) l)) (beyond (blank g) l)
+
+-- one turn at q, taken for a line's start
+abbrev pub lineTurn : ItemGrammar → List ℕ → ℕ → Turn NumberedItem
+lineTurn g s q = readTurn g (readLine g) s q
+
+-- ---- the step
+-- the state that a probe makes: "With up to three accepted bytes the streaming scan is used, else the line scan"
+abbrev pub probed : ℕ → ℕ → ℕ → Probe → BlockNumberedIter
+probed eol sep tab p = record { eol = eol; sep = sep; tab = tab; pos = 0; needles = p .needles; nn = p .nn; streaming = p .streaming }
+
+-- a fresh state
+abbrev pub fresh : ℕ → ℕ → ℕ → List Bool → BlockNumberedIter
+fresh eol sep tab set = probed eol sep tab (probe set)
+
+-- the state at another place
+abbrev pub at : BlockNumberedIter → ℕ → BlockNumberedIter
+at g q = record { eol = g .eol; sep = g .sep; tab = g .tab; pos = q; needles = g .needles; nn = g .nn; streaming = g .streaming }
+
+-- what its streaming scan reads by: "a needle count over 3 acts as 3"
+abbrev pub byNeedles : BlockNumberedIter → ItemGrammar
+byNeedles g = grammar (g .eol) (g .sep) (g .tab) (oneOf (take (g .nn) (g .needles)))
+
+-- what its line scan reads by
+abbrev pub bySet : BlockNumberedIter → List Bool → ItemGrammar
+bySet g set = grammar (g .eol) (g .sep) (g .tab) (has set)
+
+-- the state's turn: "in a handmade state its flag decides"
+unfoldable pub turn : BlockNumberedIter → List Bool → List ℕ → ℕ → Turn NumberedItem
+turn g set s = cond (g .streaming) (streamTurn (byNeedles g) s) (lineTurn (bySet g set) s)
+
+-- the first turn from the state's place that does not only go on
+unfoldable pub first : BlockNumberedIter → List Bool → List ℕ → Turn NumberedItem
+first g set s = firstTurn (turn g set s) (length s) (g .pos)
+
+-- an item's values: the start and end of its content, the delimiter byte and the number
+abbrev pub values : NumberedItem → List ℕ
+values i = i .span .start ∷ i .span .end ∷ i .delimiter ∷ i .number ∷ []
+
+-- what a step answers, and the state after it
+unfoldable pub answer : BlockNumberedIter → List Bool → List ℕ → Outcome
+answer g set s = answerBy values s (g .pos) (first g set s)
+
+unfoldable pub state : BlockNumberedIter → List Bool → List ℕ → BlockNumberedIter
+state g set s = stateBy at g s (g .pos) (first g set s)
+
+-- ---- what the code's values stand for
+abbrev pub item : ℕ → ℕ → ℕ → ℕ → NumberedItem
+item number delimiter start end = record { number = number; delimiter = delimiter; span = record { start = start; end = end } }
+
+abbrev pub view : NumberedTurn → Turn NumberedItem
+view (Go n) = go n
+view (Stop v) = stop v
+view (Found v d a e n) = found (item v d a e) n
+
+abbrev pub told : NumberedFound → Outcome
+told (Item i) = given (values i)
+told Nothing = given []
+told (Refused r) = refused (numberOf r)
+
+-- digits read from a place: their number, and where they end
+abbrev pub digitsAt : ℕ → List ℕ → Digits
+digitsAt from ds = record { number = decimal ds; end = from + length ds }
+
+-- ---- the run
+-- the promise of `next` for its result
+abbrev pub Kept : BlockNumberedIter → List Bool → List ℕ → NumberedStep → Type 0
+Kept g set s r = Steps (answer g set s) (state g set s) (told (r .found)) (r .next)
+
+-- what a step yields, and the state after it
+abbrev pub yielded : NumberedFound → BlockNumberedIter → Step NumberedItem BlockNumberedIter
+yielded (Item i) g = yields i g
+yielded Nothing g = ends g
+yielded (Refused r) g = ends g
+
+abbrev pub stepped : NumberedStep → Step NumberedItem BlockNumberedIter
+stepped r = yielded (r .found) (r .next)
+
+-- all items that a state's scan has before it
+abbrev pub items : BlockNumberedIter → List Bool → List ℕ → List NumberedItem
+items g set s = allFound (turn g set s) (length s) (g .pos)
