@@ -9,3 +9,5 @@ pub mod StepLaws
 pub mod ColumnLaws
 pub mod Build
 pub mod BuildLaws
+pub mod Cursor
+pub mod CursorLaws

@@ -1,5 +1,6 @@
 // Opaque regions, after context.rs: fences and inline pairs whose inside is not read, found in one streaming pass, and a cursor that
 // tells what is covered.
+pub mod cursor; // what a list of regions covers
 mod pairs; // where an inline pair closes
 pub mod region; // regions, and what made them
 pub mod search_bytes; // the bytes searched for

@@ -1,0 +1,61 @@
+-- The cursor over a list of regions: what it answers of a place, and the index that it goes on from. Assumes nothing.
+use mathlib.Core.Bool.{Bool, true, false, cond, _&&_}
+use mathlib.Core.List.{List, [], _∷_}
+use Prim.Native.Nat.{ℕ, _+_, _*_, _≤_}
+use lib.Dec.{ltb, leb}
+use lib.ListN.{getD}
+use Rattle.common.specs.Search.{firstPlace}
+use Rattle.common.specs.Entry.{room, startOf, stopOf}
+use Rattle.common.specs.Refusals.{Outcome, given, refuse}
+
+-- ---- a list of entries of w numbers each, of which the first two are a region
+-- "region k has its start at 2k and its exclusive end at 2k+1", at any width
+abbrev pub startAt : ℕ → List ℕ → ℕ → ℕ
+startAt w l k = getD l (k * w) 0
+
+abbrev pub stopAt : ℕ → List ℕ → ℕ → ℕ
+stopAt w l k = getD l (k * w + 1) 0
+
+-- whether region k's end is after the place
+abbrev pub after : ℕ → List ℕ → ℕ → ℕ → Bool
+after w l place k = ltb place (stopAt w l k)
+
+-- "The cursor skips regions whose end is at or before the place, never goes back": from an index on, up to the count
+unfoldable pub passed : ℕ → List ℕ → ℕ → ℕ → ℕ → ℕ
+passed w l count index place = firstPlace (after w l place) index count
+
+-- "and gives the next region's end if its start is at or before the place"; "an index past the count gives none"
+unfoldable pub endAt : ℕ → List ℕ → ℕ → ℕ → ℕ → List ℕ
+endAt w l count k place = cond (ltb k count && leb (startAt w l k) place) (stopAt w l k ∷ []) []
+
+-- "a list's stated count is over its room"
+abbrev pub overfull : ℕ → List ℕ → ℕ → Bool
+overfull w l count = ltb (room w l) count
+
+-- "For a cursor: 5."; else an end, or none
+unfoldable pub coverAnswer : ℕ → List ℕ → ℕ → ℕ → ℕ → Outcome
+coverAnswer w l count index place = refuse 5 (overfull w l count) (given (endAt w l count (passed w l count index place) place))
+
+-- the next index; a refused cursor keeps its value
+unfoldable pub coverNext : ℕ → List ℕ → ℕ → ℕ → ℕ → ℕ
+coverNext w l count index place = cond (overfull w l count) index (passed w l count index place)
+
+-- ---- plain coverage
+-- whether a region holds a place: its start is at or before it, its end after it
+abbrev pub covers : ℕ → List ℕ → Bool
+covers place r = leb (startOf r) place && ltb place (stopOf r)
+
+-- "plain coverage": the ends of the regions that hold a place, which in a list in order is one at the most
+unfoldable pub coverage : ℕ → List (List ℕ) → List ℕ
+coverage place [] = []
+coverage place (r ∷ l) = elim (covers place r) [ true ↦ stopOf r ∷ coverage place l | false ↦ coverage place l ]
+
+-- ---- a run of queries: each goes on from the index that the one before it left
+unfoldable pub coverRun : ℕ → List ℕ → ℕ → ℕ → List ℕ → List Outcome
+coverRun w l count index [] = []
+coverRun w l count index (p ∷ ps) = coverAnswer w l count index p ∷ coverRun w l count (coverNext w l count index p) ps
+
+-- "places that never fall", none of them before `low`
+abbrev pub Rising : ℕ → List ℕ → Type 0
+Rising low [] = Unit {0}
+Rising low (p ∷ ps) = (low ≤ p) × Rising p ps
