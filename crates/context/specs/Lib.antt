@@ -11,3 +11,5 @@ pub mod Build
 pub mod BuildLaws
 pub mod Cursor
 pub mod CursorLaws
+pub mod Records
+pub mod RecordLaws

@@ -56,7 +56,7 @@ fn fence_region(src: &[u8], p: usize, count: u8, e: usize, g: Grammar, index: us
         Close::Closed(_, end) => Turn::Made(
             Region {
                 start: p,
-                end,
+                end, // before the line end
                 cause: Cause::Fence,
                 index,
                 closed: true,
@@ -105,7 +105,7 @@ fn sym_pair(
             },
             end,
         ),
-        Hit::End(_) => Turn::Go(r),
+        Hit::End(_) => Turn::Go(r), // past the whole run
     }
 }
 

@@ -1,0 +1,44 @@
+-- Fence rules as records: their columns, what gathering them makes, and building by what was gathered. Assumes nothing.
+use mathlib.Core.Path.{_≡_}
+use mathlib.Core.Bool.{Bool, true, false}
+use mathlib.Core.List.{List, [], map}
+use Prim.Native.Nat.{ℕ}
+use lib.ListN.{length, set, replicate}
+use Rattle.common.specs.Rules.{tabulate, entry, hasRule, leastOf}
+use Rattle.common.specs.Refusals.{Outcome}
+use Rattle.common.specs.declared.grammar.Grammar.{Grammar}
+use Rattle.context.specs.Columns.{columns, gainedAll, noBytes, withByte, asBytes, fenceRow}
+use Rattle.context.specs.Build.{Built}
+use Rattle.context.specs.declared.records.FenceRule.{FenceRule}
+use Rattle.context.specs.declared.records.Gathered.{Gathered}
+
+-- "a lent run of fence rule records" as columns: the bytes, and the minimums
+abbrev pub ruleBytes : List FenceRule → List ℕ
+ruleBytes rules = map (λ r. r .byte) rules
+
+abbrev pub ruleMins : List FenceRule → List ℕ
+ruleMins rules = map (λ r. r .min) rules
+
+abbrev pub noRule : FenceRule
+noRule = record { byte = 0; min = 0 }
+
+-- ---- gathering
+abbrev pub noRules : Gathered
+noRules = record { has = replicate 256 false; least = replicate 256 0; rows = replicate 256 0; searched = noBytes }
+
+abbrev pub unlessUsed : Bool → Gathered → Gathered → Gathered
+unlessUsed true a b = a
+unlessUsed false a b = b
+
+-- one rule more, at its index, also for a record made by hand: "by the first rule with that byte"
+unfoldable pub withRule : Gathered → FenceRule → ℕ → Gathered
+withRule f r i =
+    unlessUsed (entry false (f .has) (r .byte)) f (record { has = set (f .has) (r .byte) true; least = set (f .least) (r .byte) (r .min); rows = set (f .rows) (r .byte) i; searched = withByte (f .searched) (r .byte) })
+
+-- what columns of bytes and minimums make: the tables of fence rules, their indices, and the bytes searched for
+abbrev pub gatheredOf : List ℕ → List ℕ → Gathered
+gatheredOf bytes mins = record { has = tabulate (hasRule bytes) 256 0; least = tabulate (leastOf bytes mins) 256 0; rows = tabulate (fenceRow bytes) 256 0; searched = asBytes (gainedAll [] bytes) }
+
+-- building by gathered rules is building by the columns that they were gathered from
+pub record BuiltFor (g : Grammar) (f : Gathered) (y t o k n s out out′ : List ℕ) (a : Outcome) : Type 0 where
+  pub built : (bytes mins : List ℕ) → length bytes ≡ length mins → f ≡ gatheredOf bytes mins → Built g (columns bytes mins y t o k n) s out out′ a
