@@ -97,7 +97,7 @@ fn asym_turn(
     ensures { λ r. ⌜ Gives (asymTurn (fenceGram g (now (has .entry)) (now (least .entry))) (now (src .entry)) close j) (viewPair r) ⌝ }
 {
     match next_in(src, j, close, g.eol, has, least) {
-        Hit::End(u) => PairTurn::End(u),
+        Hit::End(u) => PairTurn::End(u), // not beyond the paragraph
         Hit::At(q) => {
             if is_escaped(src, q, g.escape) {
                 return PairTurn::Go(q + 1);
