@@ -1,4 +1,4 @@
-// The parts of a question. They refuse nothing: where the numbers end too early there is less, and `is_last` then says no.
+// The parts of a question. They refuse nothing: where the numbers end too early there is less, and the question isn't whole then.
 use crate::numbers::MOST;
 
 // The number at place `i`, else 0.
@@ -9,7 +9,7 @@ pub(crate) fn number_at(run: &[u32], i: usize) -> u32 {
     0
 }
 
-// The number at place `i` as a byte; `are_bytes` says whether it is one.
+// The number at place `i` as a byte; `are_entries` says whether it is one.
 pub(crate) fn byte_at(run: &[u32], i: usize) -> u8 {
     low_byte(number_at(run, i))
 }
@@ -18,16 +18,30 @@ fn low_byte(x: u32) -> u8 {
     (x % 256) as u8
 }
 
-// Whether all numbers are bytes.
-pub(crate) fn are_bytes(run: &[u32]) -> bool {
+// Whether the first number of each entry is a byte, where an entry has `width` numbers.
+pub(crate) fn are_entries(run: &[u32], width: usize) -> bool {
+    let mut k = 0;
     let mut i = 0;
     while i < run.len() {
-        if run[i] > 255 {
-            return false;
+        if k == 0 {
+            if run[i] > 255 {
+                return false;
+            }
         }
+        k = next_within(k, width);
         i += 1;
     }
     true
+}
+
+// The next place within entries of `width` numbers.
+pub(crate) fn next_within(k: usize, width: usize) -> usize {
+    if k < width {
+        if k + 1 < width {
+            return k + 1;
+        }
+    }
+    0
 }
 
 // All numbers as bytes, each at its place.
@@ -35,23 +49,18 @@ pub(crate) fn as_bytes(run: &[u32]) -> [u8; MOST] {
     let mut bytes = [0u8; MOST];
     let mut i = 0;
     while i < MOST {
+        if i >= run.len() {
+            return bytes;
+        }
         bytes[i] = byte_at(run, i);
         i += 1;
     }
     bytes
 }
 
-// Where the run ends whose count stands at `at`.
-pub(crate) fn after_run(run: &[u32], at: usize) -> usize {
-    after(run, at, number_at(run, at) as usize)
-}
-
-// The same where the count is one of pairs.
-pub(crate) fn after_pairs(run: &[u32], at: usize) -> usize {
-    after(run, at, number_at(run, at) as usize * 2)
-}
-
-fn after(run: &[u32], at: usize, size: usize) -> usize {
+// Where the list ends whose count stands at `at`.
+pub(crate) fn after_list(run: &[u32], at: usize) -> usize {
+    let size = number_at(run, at) as usize;
     if at < run.len() {
         if size < run.len() - at {
             return at + 1 + size;
@@ -60,15 +69,17 @@ fn after(run: &[u32], at: usize, size: usize) -> usize {
     run.len()
 }
 
-// Whether the number at place `at` is the last.
-pub(crate) fn is_last(run: &[u32], at: usize) -> bool {
-    if at < run.len() {
-        return run.len() - at == 1;
+// The numbers of the list whose count stands at `at` and which ends at `end`.
+pub(crate) fn list(run: &[u32], at: usize, end: usize) -> &[u32] {
+    if at < end {
+        if end <= run.len() {
+            return &run[at + 1..end];
+        }
     }
-    false
+    &run[0..0]
 }
 
-// The bytes of the run whose count stands at `at` and which ends at `end`.
+// The same of bytes.
 pub(crate) fn counted(bytes: &[u8], at: usize, end: usize) -> &[u8] {
     if at < end {
         if end <= bytes.len() {

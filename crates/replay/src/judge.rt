@@ -1,23 +1,25 @@
 // A line, put to the section that it stands in: what ours answer is compared with what is stored.
 use crate::cuts::number_at;
 use crate::cuts::part;
-use crate::leaves;
 use crate::line;
 use crate::line::Line;
-use crate::numbers::Numbers;
+use crate::numbers;
 use crate::numbers::same;
 use crate::page;
+use crate::question;
 use crate::tally::Tally;
+use crate::told;
 use common::search;
 
-// A line begins with what it is: a comment, a section, or a question by its letter.
+// A line begins with what it is: a comment, a section, or a question by its letter, which may have a star.
 pub(crate) fn line(text: &[u8], before: Tally) -> Tally {
     let tally = before.next_line();
     let letter = search::byte_at(text, 0);
+    let starred = search::is_at(text, 1, b'*');
     match letter {
         b'#' => tally,
         b'@' => section(line::read(text), tally),
-        _ => question(letter, line::read(text), tally),
+        _ => asked(letter, starred, line::read(text), tally),
     }
 }
 
@@ -34,31 +36,33 @@ fn section(line: Line, tally: Tally) -> Tally {
     tally.unknown()
 }
 
-fn question(letter: u8, line: Line, tally: Tally) -> Tally {
+fn asked(letter: u8, starred: bool, line: Line, tally: Tally) -> Tally {
     let numbers = line.numbers;
     if line.is_sound() {
         if line.equals == 1 {
             let cells = numbers.cells;
             let all: &[u32] = &cells;
-            let ours = reply(tally.section, letter, part(all, 0, line.asked));
-            return compare(letter, ours, part(all, line.asked, numbers.count), tally);
+            let asked = part(all, 0, line.asked);
+            let stored = part(all, line.asked, numbers.count);
+            return answered(letter, starred, asked, stored, tally);
         }
     }
     tally.unknown()
 }
 
 // What ours answer; no number where the section has no such question.
-fn reply(section: u32, letter: u8, asked: &[u32]) -> Numbers {
-    match section {
-        0 => page::reply(letter, asked),
-        1 => leaves::reply(letter, asked),
-        _ => Numbers::none(),
+fn answered(letter: u8, starred: bool, asked: &[u32], stored: &[u32], tally: Tally) -> Tally {
+    let mut space = [0u32; numbers::ROOM];
+    let out: &mut [u32] = &mut space;
+    if tally.section == 0 {
+        let n = page::reply(letter, asked, out);
+        return compare(letter, part(&out[..], 0, n), stored, tally);
     }
+    let n = question::reply(tally.section, letter, starred, asked, out);
+    compare(letter, told::shared(&out[..], n), stored, tally)
 }
 
-fn compare(letter: u8, ours: Numbers, stored: &[u32], before: Tally) -> Tally {
-    let cells = ours.cells;
-    let found = part(&cells, 0, ours.count);
+fn compare(letter: u8, found: &[u32], stored: &[u32], before: Tally) -> Tally {
     if found.len() == 0 {
         return before.unknown();
     }
@@ -71,16 +75,8 @@ fn compare(letter: u8, ours: Numbers, stored: &[u32], before: Tally) -> Tally {
 
 // A block's first number says how many answers it holds.
 fn count(letter: u8, first: u32, tally: Tally) -> Tally {
-    if is_capital(letter) {
+    if question::is_capital(letter) {
         return tally.block(first);
     }
     tally.answer()
-}
-
-// Whether a letter asks for a block.
-pub(crate) fn is_capital(letter: u8) -> bool {
-    if letter < b'A' {
-        return false;
-    }
-    letter <= b'Z'
 }

@@ -66,6 +66,12 @@ fn print_name(section: u32) {
     match section {
         0 => print(b"refusals"),
         1 => print(b"common"),
+        2 => print(b"fence"),
+        3 => print(b"block_marker"),
+        4 => print(b"block_numbered"),
+        5 => print(b"cont"),
+        6 => print(b"context"),
+        7 => print(b"cursor"),
         NO_SECTION => print(b"before any section"),
         _ => {
             print(b"section ");

@@ -1,8 +1,8 @@
 // The checksums of a block: how many questions were asked, and two sums over questions and answers. The sums differ in multiplier
 // and modulus, so that a pair of errors that hides in one shows in the other.
-use crate::numbers::Numbers;
 use crate::numbers::number_of;
-use crate::told::Told;
+use crate::numbers::put;
+use crate::numbers::put_two;
 
 pub(crate) struct Sums {
     asked: u32,
@@ -42,22 +42,26 @@ impl Sums {
     }
 
     // The answer to one more question.
-    pub(crate) fn answer(self, told: Told) -> Self {
+    pub(crate) fn answer(self, answer: &[u32]) -> Self {
+        let mut sums = self.one_more();
+        let mut i = 0;
+        while i < answer.len() {
+            sums = sums.feed(answer[i]);
+            i += 1;
+        }
+        sums
+    }
+
+    fn one_more(self) -> Self {
         let mut sums = self;
         if sums.asked < u32::MAX {
             sums.asked += 1;
         }
-        match told {
-            Told::Refused => sums.feed(0),
-            Told::Value(v) => sums.feed(1).feed(v),
-            Told::Nothing => sums.feed(2),
-        }
+        sums
     }
 
-    pub(crate) fn numbers(self) -> Numbers {
-        Numbers::none()
-            .and(self.asked)
-            .and(self.first)
-            .and(self.second)
+    pub(crate) fn put(self, out: &mut [u32]) -> usize {
+        let n = put(out, 0, self.asked);
+        put_two(out, n, self.first, self.second)
     }
 }

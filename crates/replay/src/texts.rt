@@ -1,4 +1,5 @@
 // The texts of a block: all of one length over an alphabet, the first byte changing fastest.
+use crate::cuts::next_within;
 use common::search;
 
 // The length of the longest.
@@ -27,7 +28,7 @@ impl Text {
         let mut text = self;
         let mut i = 0;
         while i < end {
-            let digit = next_digit(text.digits[i], alphabet.len());
+            let digit = next_within(text.digits[i], alphabet.len());
             text.digits[i] = digit;
             text.bytes[i] = search::byte_at(alphabet, digit);
             if digit > 0 {
@@ -38,13 +39,4 @@ impl Text {
         text.over = true;
         text
     }
-}
-
-fn next_digit(digit: usize, size: usize) -> usize {
-    if digit < size {
-        if digit + 1 < size {
-            return digit + 1;
-        }
-    }
-    0
 }

@@ -1,27 +1,42 @@
-// An answer in a list's terms: 1 and the value, 2 for none, 0 where the Rust panics and ours refuses.
-use crate::numbers::Numbers;
+// An answer in a list's terms: 1 and the value, 2 for none, 0 for a refusal and then its number. The Rust panics there, and tells 0
+// alone.
+use crate::cuts::number_at;
+use crate::cuts::part;
 use crate::numbers::number_of;
+use crate::numbers::put;
+use crate::numbers::put_two;
 use common::refusal::Answer;
 use common::refusal::Found;
 
 pub(crate) enum Told {
-    Refused,
+    Refused(u32),
     Value(u32),
     Nothing,
 }
 
-pub(crate) fn numbers(told: Told) -> Numbers {
+// Writes it, and gives how many numbers it has.
+pub(crate) fn put_told(told: Told, out: &mut [u32]) -> usize {
     match told {
-        Told::Refused => Numbers::none().and(0),
-        Told::Value(v) => Numbers::none().and(1).and(v),
-        Told::Nothing => Numbers::none().and(2),
+        Told::Refused(r) => put_two(out, 0, 0, r),
+        Told::Value(v) => put_two(out, 0, 1, v),
+        Told::Nothing => put(out, 0, 2),
     }
+}
+
+// Of an answer's first `n` numbers, those that the Rust tells.
+pub(crate) fn shared(out: &[u32], n: usize) -> &[u32] {
+    if n > 0 {
+        if number_at(out, 0) == 0 {
+            return part(out, 0, 1);
+        }
+    }
+    part(out, 0, n)
 }
 
 pub(crate) fn answer(a: Answer) -> Told {
     match a {
         Answer::Value(v) => Told::Value(number_of(v)),
-        Answer::Refused(_) => Told::Refused,
+        Answer::Refused(r) => Told::Refused(r.number()),
     }
 }
 
@@ -29,7 +44,7 @@ pub(crate) fn found(f: Found) -> Told {
     match f {
         Found::At(place) => Told::Value(number_of(place)),
         Found::Nothing => Told::Nothing,
-        Found::Refused(_) => Told::Refused,
+        Found::Refused(r) => Told::Refused(r.number()),
     }
 }
 

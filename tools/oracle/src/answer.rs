@@ -20,6 +20,11 @@ pub enum Word {
     /// One number, or a few that belong together.
     Tuple(Vec<u64>),
     List(Vec<Vec<u64>>),
+    /// All cells of an array. They are printed whole; a checksum takes in those up to the last that
+    /// isn't 0 throughout.
+    Cells(Vec<Vec<u64>>),
+    /// Accepted bytes, which stand beside a state.
+    Lent(Vec<u8>),
     Text(Vec<u8>),
 }
 
@@ -57,7 +62,7 @@ impl Answer {
     }
 
     /// 0 for a panic, 2 for none, else 1; then the numbers of the words, a list's after its
-    /// length. A text adds nothing, since a checksum has it already.
+    /// length. A text and accepted bytes add nothing: they aren't answered, but asked.
     pub fn numbers(&self) -> Vec<u64> {
         let mut numbers = vec![match self.head {
             Head::Panic => 0,
@@ -67,15 +72,21 @@ impl Answer {
         for word in &self.words {
             match word {
                 Word::Tuple(tuple) => numbers.extend(tuple),
-                Word::List(list) => {
-                    numbers.push(list.len() as u64);
-                    numbers.extend(list.iter().flatten());
+                Word::List(list) => extend(&mut numbers, list),
+                Word::Cells(cells) => {
+                    let used = cells.iter().rposition(|cell| cell.iter().any(|&n| n != 0));
+                    extend(&mut numbers, &cells[..used.map_or(0, |last| last + 1)]);
                 }
-                Word::Text(_) => {}
+                Word::Lent(_) | Word::Text(_) => {}
             }
         }
         numbers
     }
+}
+
+fn extend(numbers: &mut Vec<u64>, list: &[Vec<u64>]) {
+    numbers.push(list.len() as u64);
+    numbers.extend(list.iter().flatten());
 }
 
 impl fmt::Display for Answer {
@@ -95,11 +106,12 @@ impl fmt::Display for Word {
     fn fmt(&self, f: &mut fmt::Formatter) -> fmt::Result {
         match self {
             Word::Tuple(tuple) => f.write_str(&joined(tuple)),
-            Word::List(list) if list.is_empty() => f.write_str("-"),
-            Word::List(list) => {
+            Word::List(list) | Word::Cells(list) if list.is_empty() => f.write_str("-"),
+            Word::List(list) | Word::Cells(list) => {
                 let entries: Vec<String> = list.iter().map(|tuple| joined(tuple)).collect();
                 f.write_str(&entries.join(","))
             }
+            Word::Lent(accepted) => bytes(accepted).fmt(f),
             Word::Text(text) if text.is_empty() => f.write_str("-"),
             Word::Text(text) => text.iter().try_for_each(|b| write!(f, "{b:02x}")),
         }

@@ -30,37 +30,45 @@ impl fmt::Display for Sums {
     }
 }
 
-pub fn respond(words: &mut Words) -> Result<Sums, String> {
-    let altered = match words.word("the answer to alter")? {
-        "-" => None,
-        word => Some(
-            word.parse()
-                .map_err(|_| format!("no answer has the number {word:?}"))?,
-        ),
-    };
-    let name = words.word("a request")?;
-    let question = crate::find(name, words)?;
-    let alphabet = words.bytes("alphabet")?;
-    let length = words.number("length")?;
+/// All texts of one length over an alphabet.
+pub fn all(words: &mut Words) -> Result<Sums, String> {
+    let mut block = Block::read(words)?;
+    let (alphabet, length) = (words.bytes("alphabet")?, words.number("length")?);
     words.end()?;
     let texts = u32::try_from(length)
         .ok()
         .and_then(|n| (alphabet.len() as u64).checked_pow(n))
         .ok_or("too many texts")?;
-    let mut block = Block {
-        sums: Sums::default(),
-        values: 0,
-        altered,
-    };
     for i in 0..texts {
-        block.ask(&question, &text(&alphabet, length, i))?;
+        block.ask(&text(&alphabet, length, i))?;
     }
-    match altered {
-        Some(k) if k == 0 || k > block.values => {
-            Err(format!("{} answers have a value", block.values))
-        }
-        _ => Ok(block.sums),
+    block.sums()
+}
+
+/// Texts of one length that are drawn.
+pub fn drawn(words: &mut Words) -> Result<Sums, String> {
+    let mut block = Block::read(words)?;
+    let (alphabet, length) = (words.bytes("alphabet")?, words.number("length")?);
+    let seed: u32 = words.number("seed")?;
+    let times: u32 = words.number("times")?;
+    words.end()?;
+    if alphabet.is_empty() {
+        return Err("the alphabet is empty".to_string());
     }
+    let mut at = u64::from(seed);
+    for _ in 0..times {
+        block.ask(&draw(&alphabet, length, &mut at))?;
+    }
+    block.sums()
+}
+
+/// A text whose bytes are named by a number that moves on for each.
+fn draw(alphabet: &[u8], length: usize, at: &mut u64) -> Vec<u8> {
+    let next = |_| {
+        *at = (*at * 1103515245 + 12345) % (1 << 31);
+        alphabet[(*at >> 16) as usize % alphabet.len()]
+    };
+    (0..length).map(next).collect()
 }
 
 /// Text `i` of all texts of `length` bytes: the digits of `i`, lowest first, name its bytes.
@@ -76,6 +84,7 @@ fn text(alphabet: &[u8], length: usize, mut i: u64) -> Vec<u8> {
 }
 
 struct Block {
+    question: Question,
     sums: Sums,
     /// How many answers had a value so far.
     values: u64,
@@ -85,21 +94,50 @@ struct Block {
 }
 
 impl Block {
-    fn ask(&mut self, question: &Question, text: &[u8]) -> Result<(), String> {
-        match question {
+    /// Which answer to alter, and the question.
+    fn read(words: &mut Words) -> Result<Self, String> {
+        let altered = match words.word("the answer to alter")? {
+            "-" => None,
+            word => Some(
+                word.parse()
+                    .map_err(|_| format!("no answer has the number {word:?}"))?,
+            ),
+        };
+        let name = words.word("a request")?;
+        Ok(Self {
+            question: crate::find(name, words)?,
+            sums: Sums::default(),
+            values: 0,
+            altered,
+        })
+    }
+
+    fn ask(&mut self, text: &[u8]) -> Result<(), String> {
+        match &self.question {
             Question::Alone { .. } => return Err("this request takes no text".to_string()),
             Question::OfText { ask } => {
                 let answer = caught(|| ask(text)).numbers();
                 self.take(text, None, answer);
             }
-            Question::AtPlace { places, ask } => {
-                for place in places.first..=text.len() + places.past {
-                    let answer = caught(|| ask(text, place)).numbers();
+            &Question::AtPlace { places, ref ask } => {
+                let answers: Vec<_> = (places.first..=text.len() + places.past)
+                    .map(|place| (place, caught(|| ask(text, place)).numbers()))
+                    .collect();
+                for (place, answer) in answers {
                     self.take(text, Some(place as u64), answer);
                 }
             }
         }
         Ok(())
+    }
+
+    fn sums(self) -> Result<Sums, String> {
+        match self.altered {
+            Some(k) if k == 0 || k > self.values => {
+                Err(format!("{} answers have a value", self.values))
+            }
+            _ => Ok(self.sums),
+        }
     }
 
     fn take(&mut self, text: &[u8], place: Option<u64>, mut answer: Vec<u64>) {

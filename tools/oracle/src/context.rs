@@ -1,26 +1,31 @@
 //! Building, the parts it is made of, and the cursor.
 
-use crate::answer::{bytes, number, span, Answer, Head};
+use crate::answer::{bytes, number, span, Answer, Head, Word};
 use crate::question::{alone, at_place, of_text, Question, WITHIN};
 use crate::words::Words;
-use meon::engine::text_parser::standalone::context::{reach, ParseContext};
+use meon::engine::text_parser::standalone::common::find_line_end;
+use meon::engine::text_parser::standalone::context::{
+    reach, AsymSpec, FenceSpec, ParseContext, SymSpec,
+};
+use meon::span::Span;
 
 pub fn question(name: &str, words: &mut Words) -> Result<Option<Question>, String> {
     Ok(Some(match name {
         "context_build" => {
-            let eol = words.byte("eol")?;
-            let escape = words.byte("escape")?;
-            let sep = words.byte("sep")?;
-            let tab = words.byte("tab")?;
-            let fences = words.fences()?;
-            let sym = words.symmetric()?;
-            let asym = words.asymmetric()?;
+            let grammar = Grammar::read(words)?;
+            of_text(move |text| Answer::all(grammar.regions(text).into_iter().map(span).collect()))
+        }
+        "context_causes" => {
+            let grammar = Grammar::read(words)?;
             of_text(move |text| {
-                // A capacity hint of 0: it sizes the vector and decides nothing.
-                let context =
-                    ParseContext::build(text, eol, escape, sep, tab, &fences, &sym, &asym, 0);
-                Answer::all(context.spans().iter().copied().map(span).collect())
+                let caused = |region| grammar.caused(text, region);
+                Answer::all(grammar.regions(text).into_iter().map(caused).collect())
             })
+        }
+        "context_into" => {
+            let cells = words.number("cells")?;
+            let grammar = Grammar::read(words)?;
+            of_text(move |text| into_cells(cells, &grammar.regions(text)))
         }
         "build_needles" => {
             let fences = words.fences()?;
@@ -103,4 +108,102 @@ pub fn question(name: &str, words: &mut Words) -> Result<Option<Question>, Strin
         }
         _ => return Ok(None),
     }))
+}
+
+/// The grammar bytes and the rules.
+struct Grammar {
+    eol: u8,
+    escape: u8,
+    sep: u8,
+    tab: u8,
+    fences: Vec<FenceSpec>,
+    sym: Vec<SymSpec>,
+    asym: Vec<AsymSpec>,
+}
+
+impl Grammar {
+    fn read(words: &mut Words) -> Result<Self, String> {
+        Ok(Self {
+            eol: words.byte("eol")?,
+            escape: words.byte("escape")?,
+            sep: words.byte("sep")?,
+            tab: words.byte("tab")?,
+            fences: words.fences()?,
+            sym: words.symmetric()?,
+            asym: words.asymmetric()?,
+        })
+    }
+
+    fn regions(&self, text: &[u8]) -> Vec<Span> {
+        let &Self {
+            eol,
+            escape,
+            sep,
+            tab,
+            ..
+        } = self;
+        // A capacity hint of 0: it sizes the vector and decides nothing.
+        let (fences, sym, asym) = (&self.fences, &self.sym, &self.asym);
+        let context = ParseContext::build(text, eol, escape, sep, tab, fences, sym, asym, 0);
+        context.spans().to_vec()
+    }
+
+    /// A region with what made it, by the tests that `build` makes in turn: where a fence opens the
+    /// first rule with its byte, else the inline rule of the byte. 0, 1 or 2 for a fence, a symmetric
+    /// or an asymmetric rule, the rule's index, and 1 unless it is a fence that no line closed.
+    fn caused(&self, text: &[u8], region: Span) -> Vec<u64> {
+        let start = region.start as usize;
+        let byte = text[start];
+        let (kind, index, closed) = match self.fence_at(text, start) {
+            Some(count) => {
+                let index = self.fences.iter().position(|&(fence, _)| fence == byte);
+                let closed = self.is_closed(text, region, count);
+                (0, index.unwrap(), closed)
+            }
+            None => {
+                let (is_sym, index) = reach::rule_for(byte, &self.sym, &self.asym).unwrap();
+                (if is_sym { 1 } else { 2 }, index, true)
+            }
+        };
+        let mut numbers = span(region);
+        numbers.extend([kind, index as u64, closed.into()]);
+        numbers
+    }
+
+    /// The run count of a fence that opens at the start of a line.
+    fn fence_at(&self, text: &[u8], start: usize) -> Option<u8> {
+        if start > 0 && text[start - 1] != self.eol {
+            return None;
+        }
+        let line_end = find_line_end(text, start, self.eol);
+        reach::fence_opens(text, start, line_end, &self.fences)
+    }
+
+    /// A fence that ends before the text was closed; one that ends with it was if the last line,
+    /// being a later one, closes it.
+    fn is_closed(&self, text: &[u8], region: Span, count: u8) -> bool {
+        let (start, end, byte) = (region.start as usize, region.end as usize, text[region.start as usize]);
+        if end < text.len() {
+            return true;
+        }
+        let last = text.iter().rposition(|&b| b == self.eol).map_or(0, |eol| eol + 1);
+        last > start
+            && text.get(last) == Some(&byte)
+            && reach::fence_closes(text, last, end, byte, count, self.sep, self.tab)
+    }
+}
+
+/// The regions written into so many cells, by the page's rule: where there is no room for all, a
+/// refusal, and nothing written. The count, the refusal, and the cells, which held other numbers.
+fn into_cells(size: usize, regions: &[Span]) -> Answer {
+    let mut cells: Vec<u64> = (0..size).map(|i| (1000 + size - i) as u64).collect();
+    let (count, refusal) = if regions.len() > size / 2 {
+        (0, 3)
+    } else {
+        let written: Vec<u64> = regions.iter().copied().flat_map(span).collect();
+        cells[..written.len()].copy_from_slice(&written);
+        (regions.len(), 0)
+    };
+    let cells = Word::List(cells.into_iter().map(|n| vec![n]).collect());
+    Answer::new(Head::Some, vec![number(count), number(refusal), cells])
 }

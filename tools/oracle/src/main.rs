@@ -11,6 +11,7 @@ mod question;
 mod scanners;
 mod words;
 
+use answer::Answer;
 use question::Question;
 use std::io::{self, BufRead, Write};
 use words::Words;
@@ -34,11 +35,22 @@ fn respond(line: &[u8]) -> Result<String, String> {
     let line = std::str::from_utf8(line).map_err(|_| "the request isn't text".to_string())?;
     let mut words = Words::new(line);
     let name = words.word("a request")?;
-    if name == "block" {
-        return block::respond(&mut words).map(|sums| sums.to_string());
+    match name {
+        "block" => block::all(&mut words).map(|sums| sums.to_string()),
+        "drawn" => block::drawn(&mut words).map(|sums| sums.to_string()),
+        "numbers" => {
+            let name = words.word("a request")?;
+            let numbers = asked(name, &mut words)?.numbers();
+            let numbers: Vec<String> = numbers.iter().map(u64::to_string).collect();
+            Ok(format!("numbers {}", numbers.join(" ")))
+        }
+        _ => asked(name, &mut words).map(|answer| answer.to_string()),
     }
-    let question = find(name, &mut words)?;
-    let answer = match question {
+}
+
+/// The answer to one question.
+fn asked(name: &str, words: &mut Words) -> Result<Answer, String> {
+    Ok(match find(name, words)? {
         Question::Alone { ask } => {
             words.end()?;
             question::caught(ask)
@@ -57,8 +69,7 @@ fn respond(line: &[u8]) -> Result<String, String> {
             }
             question::caught(|| ask(&text, place))
         }
-    };
-    Ok(answer.to_string())
+    })
 }
 
 /// The question of this name, with its parameters read from `words`.

@@ -1,7 +1,7 @@
 //! The iterators: their fresh state, one step of any state, and all that they yield.
 
 use crate::answer::{byte, bytes, number, span, Answer, Head, Word};
-use crate::question::{at_place, of_text, Question, PAST};
+use crate::question::{at_place, of_text, Question, PAST, WITHIN};
 use crate::words::Words;
 use meon::engine::text_parser::standalone::block_marker::{self, BlockMarkerIter};
 use meon::engine::text_parser::standalone::block_numbered::{self, BlockNumberedIter};
@@ -92,7 +92,7 @@ fn marker_fresh(run: bool, words: &mut Words) -> Result<Question, String> {
 
 fn marker_step(words: &mut Words) -> Result<Question, String> {
     let item = Item::read(words)?;
-    Ok(at_place(PAST, move |text, pos| {
+    Ok(at_place(WITHIN, move |text, pos| {
         let accepted = &item.accepted;
         let mut iter =
             block_marker::reach::iter(item.state(text, pos), |b| accepted.contains(&b), |b| b);
@@ -132,7 +132,7 @@ fn numbered_fresh(run: bool, words: &mut Words) -> Result<Question, String> {
 
 fn numbered_step(words: &mut Words) -> Result<Question, String> {
     let item = Item::read(words)?;
-    Ok(at_place(PAST, move |text, pos| {
+    Ok(at_place(WITHIN, move |text, pos| {
         let accepted = &item.accepted;
         let mut iter = block_numbered::reach::iter(
             item.state(text, pos),
@@ -196,7 +196,7 @@ fn item_state(state: ItemState, accepted: &[u8]) -> Vec<Word> {
         byte(state.eol),
         byte(state.sep),
         byte(state.tab),
-        bytes(accepted),
+        Word::Lent(accepted.to_vec()),
         bytes(&state.needles),
         number(state.nn),
         byte(state.streaming.into()),
@@ -230,7 +230,7 @@ fn cont_step(words: &mut Words) -> Result<Question, String> {
     let pending_len = words.number("pending_len")?;
     let pending_idx = words.number("pending_idx")?;
     let pending = cells(words.spans("pending")?, Span::new(0, 0))?;
-    Ok(at_place(PAST, move |src, pos| {
+    Ok(at_place(WITHIN, move |src, pos| {
         let state = cont::reach::State {
             src,
             byte: b,
@@ -270,10 +270,10 @@ fn cont_state(iter: &ContIter) -> Vec<Word> {
         byte(state.tab),
         number(state.cap),
         number(state.open_len),
-        Word::List(state.open.iter().map(|&start| vec![start.into()]).collect()),
+        Word::Cells(state.open.iter().map(|&start| vec![start.into()]).collect()),
         number(state.pending_len),
         number(state.pending_idx),
-        Word::List(state.pending.into_iter().map(span).collect()),
+        Word::Cells(state.pending.into_iter().map(span).collect()),
         Word::Text(state.src.to_vec()),
         number(state.pos),
     ]

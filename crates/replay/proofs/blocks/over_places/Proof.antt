@@ -1,17 +1,16 @@
--- `over_places` is safe and ends: a loop over the places. Assumes nothing.
+-- `over_places` is safe and ends: the place rises to its end. Assumes nothing.
 use borrow.Author.Needs.{needs}
+use mathlib.Core.Path.{_≡_}
 use Prim.Native.Nat.{_-_}
+use lib.ListN.{length}
 use Rattle.replay.proofs.blocks.over_places.Statement.{statement}
 use Rattle.replay.proofs.blocks.over_places.Tie as tie
 
 abbrev Inv-loop : tie.InvT-loop
-Inv-loop block head bytes mins text end sums₀ place₀ sums place = Unit {0}
+Inv-loop section letter asked ends text first end out₀ sums₀ place₀ out sums place = length out ≡ length out₀
 
 abbrev μ-loop : tie.MeasureT-loop
-μ-loop block head bytes mins text end sums₀ place₀ sums place = end - place
-
-places-end-requires : tie.Need-places-end-requires Inv-loop μ-loop
-places-end-requires c κs = search needs
+μ-loop section letter asked ends text first end out₀ sums₀ place₀ out sums place = end - place
 
 loop-holds : tie.Need-loop-holds Inv-loop μ-loop
 loop-holds c = search needs
@@ -28,6 +27,9 @@ number-of-requires c κs = search needs
 feed-requires : tie.Need-feed-requires Inv-loop μ-loop
 feed-requires c κs = search needs
 
+shared-requires : tie.Need-shared-requires Inv-loop μ-loop
+shared-requires c κs = search needs
+
 answer-requires : tie.Need-answer-requires Inv-loop μ-loop
 answer-requires c κs = search needs
 
@@ -40,6 +42,9 @@ loop-less c = search needs
 loop-again : tie.Need-loop-again Inv-loop μ-loop
 loop-again c = search needs
 
+same-length : tie.Need-same-length Inv-loop μ-loop
+same-length c = search needs
+
 returns : tie.Need-returns Inv-loop μ-loop
 returns c = search needs
 
@@ -49,14 +54,15 @@ over-places-spec =
     (tie.spec
     Inv-loop
     μ-loop
-    places-end-requires
     loop-holds
     ask-requires
     text-requires
     number-of-requires
     feed-requires
+    shared-requires
     answer-requires
     add-place
     loop-less
     loop-again
+    same-length
     returns)

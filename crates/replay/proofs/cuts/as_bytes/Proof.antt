@@ -8,10 +8,13 @@ abbrev Inv-loop : tie.InvT-loop
 Inv-loop run bytes₀ i₀ bytes i = Unit {0}
 
 abbrev μ-loop : tie.MeasureT-loop
-μ-loop run bytes₀ i₀ bytes i = 60 - i
+μ-loop run bytes₀ i₀ bytes i = 128 - i
 
 loop-holds : tie.Need-loop-holds Inv-loop μ-loop
 loop-holds c = search needs
+
+returns : tie.Need-returns Inv-loop μ-loop
+returns c = search needs
 
 byte-at-requires : tie.Need-byte-at-requires Inv-loop μ-loop
 byte-at-requires c κs = search needs
@@ -28,8 +31,8 @@ loop-less c = search needs
 loop-again : tie.Need-loop-again Inv-loop μ-loop
 loop-again c = search needs
 
-returns : tie.Need-returns Inv-loop μ-loop
-returns c = search needs
+returns-2 : tie.Need-returns-2 Inv-loop μ-loop
+returns-2 c = search needs
 
 pub as-bytes-spec : {M : Type 1} → statement M
 as-bytes-spec =
@@ -38,9 +41,10 @@ as-bytes-spec =
     Inv-loop
     μ-loop
     loop-holds
+    returns
     byte-at-requires
     array-write-bytes
     add-i
     loop-less
     loop-again
-    returns)
+    returns-2)

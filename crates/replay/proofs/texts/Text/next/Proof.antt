@@ -16,14 +16,14 @@ lesser-requires c κs = search needs
 loop-holds : tie.Need-loop-holds Inv-loop μ-loop
 loop-holds c = search needs
 
-mul-next-digit : tie.Need-mul-next-digit Inv-loop μ-loop
-mul-next-digit c = search needs
+mul-next-within : tie.Need-mul-next-within Inv-loop μ-loop
+mul-next-within c = search needs
 
-element-copy-out-next-digit : tie.Need-element-copy-out-next-digit Inv-loop μ-loop
-element-copy-out-next-digit c = search needs
+element-copy-out-next-within : tie.Need-element-copy-out-next-within Inv-loop μ-loop
+element-copy-out-next-within c = search needs
 
-next-digit-requires : tie.Need-next-digit-requires Inv-loop μ-loop
-next-digit-requires c κs = search needs
+next-within-requires : tie.Need-next-within-requires Inv-loop μ-loop
+next-within-requires c κs = search needs
 
 mul-text : tie.Need-mul-text Inv-loop μ-loop
 mul-text c = search needs
@@ -60,9 +60,9 @@ next-spec =
     μ-loop
     lesser-requires
     loop-holds
-    mul-next-digit
-    element-copy-out-next-digit
-    next-digit-requires
+    mul-next-within
+    element-copy-out-next-within
+    next-within-requires
     mul-text
     element-write-text
     byte-at-requires
