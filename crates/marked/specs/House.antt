@@ -1,8 +1,14 @@
 -- The house rules of document 01. Assumes nothing.
 use mathlib.Core.List.{[], _∷_}
+use Prim.Native.Nat.{ℕ}
 use Rattle.common.specs.Grammars.{house}
+use Rattle.common.specs.Search.{oneOf}
+use Rattle.common.specs.Items.{ItemGrammar, grammar}
 use Rattle.context.specs.Grammar.{Gram}
 use Rattle.context.specs.Columns.{Columns, columns, gramOf}
+use Rattle.fence.specs.Fence.{fresh}
+use Rattle.fence.specs.declared.FenceIter.{FenceIter}
+use Rattle.cont.specs.declared.Marks.{Marks}
 
 -- "fences backtick and tilde, min 3; symmetric backtick, count 1; asymmetric `<` `>`, count 1"
 abbrev pub rules : Columns
@@ -10,3 +16,15 @@ rules = columns (96 ∷ 126 ∷ []) (3 ∷ 3 ∷ []) (96 ∷ []) (1 ∷ []) (60 
 
 abbrev pub gram : Gram
 gram = gramOf house rules
+
+-- "min 3", of either fence byte
+abbrev pub fence : ℕ → FenceIter
+fence byte = fresh byte 3 (house .eol) (house .sep) (house .tab)
+
+-- "delimiters `. )`"
+abbrev pub delimiters : ItemGrammar
+delimiters = grammar (house .eol) (house .sep) (house .tab) (oneOf (46 ∷ 41 ∷ []))
+
+-- "continuation `>`", to a depth
+abbrev pub quotes : ℕ → Marks
+quotes nest = record { byte = 62; eol = house .eol; sep = house .sep; tab = house .tab; cap = nest }

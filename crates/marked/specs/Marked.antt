@@ -3,11 +3,15 @@ use mathlib.Core.Path.{refl}
 use Rattle.common.specs.Search.{is, either, oneOf, other, holds, firstOf, firstPlace, find, back, lineStart}
 use Rattle.common.specs.Fences.{opensLine, closesTo, closing}
 use Rattle.common.specs.Paragraph.{endsAt, paragraphEnd, nextIn}
-use Rattle.common.specs.Turn.{scan, collect}
+use Rattle.common.specs.Turn.{scan, collect, gather}
 use Rattle.context.specs.Regions.{shutPlace, oddBefore, symTurn, asymTurn, inline, regionTurn, regions}
 use Rattle.context.specs.Columns.{searched, openRule, symRule}
+use Rattle.fence.specs.Fence.{begins, opens, closes, closeEnd, nextFence, fences}
+use Rattle.common.specs.Items.{leading, beyond, itemAt, itemsOf}
+use Rattle.block_numbered.specs.Numbered.{digit, decimalFrom, numberLine}
+use Rattle.cont.specs.Frames.{markAt, afterMark, marksFrom, marks, begun, ending, frames}
 use Rattle.marked.specs.Page.{All, page}
 
 pub marked : All page
-unfolding is either oneOf other holds firstOf firstPlace find back lineStart opensLine closesTo closing endsAt paragraphEnd nextIn scan collect shutPlace oddBefore symTurn asymTurn inline regionTurn regions searched openRule symRule
-marked = (refl, (refl, (refl, (refl, (refl, (refl, (refl, (refl, (refl, (refl, (refl, tt)))))))))))
+unfolding is either oneOf other holds firstOf firstPlace find back lineStart opensLine closesTo closing endsAt paragraphEnd nextIn scan collect shutPlace oddBefore symTurn asymTurn inline regionTurn regions searched openRule symRule begins opens closes closeEnd nextFence fences leading beyond itemAt itemsOf digit decimalFrom numberLine markAt afterMark marksFrom marks begun ending frames gather
+marked = (refl, (refl, (refl, (refl, (refl, (refl, (refl, (refl, (refl, (refl, (refl, (refl, (refl, (refl, (refl, (refl, (refl, (refl, tt))))))))))))))))))
