@@ -103,7 +103,7 @@ rule-table f = fun-ext (λ b. parts b ∙ by b (decide (ltb b 256)))
     by b (inl u) = simp u (rule-back (f b))
     by b (inr u) = simp u
 
-gram-same : (g : Grammar) (f m y t o k n : List ℕ)
+pub gram-same : (g : Grammar) (f m y t o k n : List ℕ)
     → gramBy g (padded 11 (gainedAll (gainedAll (gainedAll [] f) y) o)) (length (gainedAll (gainedAll (gainedAll [] f) y) o)) (tabulate (hasRule f) 256 0) (tabulate (leastOf f m) 256 0) (tabulate (fenceRow f) 256 0)
     (tabulate (λ b. kindOf (symRule y t (openRule o k n) b)) 256 0) (tabulate (λ b. closerOf (symRule y t (openRule o k n) b)) 256 0) (tabulate (λ b. countOf (symRule y t (openRule o k n) b)) 256 0)
     (tabulate (λ b. indexOf (symRule y t (openRule o k n) b)) 256 0)

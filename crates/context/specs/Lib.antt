@@ -13,3 +13,6 @@ pub mod Cursor
 pub mod CursorLaws
 pub mod Records
 pub mod RecordLaws
+pub mod RuleTables
+pub mod RuleTableLaws
+pub mod NextLaws

@@ -4,6 +4,7 @@ pub mod cursor; // what a list of regions covers
 mod pairs; // where an inline pair closes
 pub mod records; // fence rules as records
 pub mod region; // regions, and what made them
+pub mod rule_tables; // all rules by byte, folded once
 pub mod search_bytes; // the bytes searched for
 pub mod step; // the next region from a place
 pub mod tables; // rules by byte

@@ -10,8 +10,11 @@ use Rattle.fence.specs.Fence.{begins, opens, closes, closeEnd, nextFence, fence
 use Rattle.common.specs.Items.{leading, beyond, itemAt, itemsOf}
 use Rattle.block_numbered.specs.Numbered.{digit, decimalFrom, numberLine}
 use Rattle.cont.specs.Frames.{markAt, afterMark, marksFrom, marks, begun, ending, frames}
+use Rattle.context.specs.Region.{reaches, keepBefore, keepFrom}
+use Rattle.amend.specs.Amend.{joint}
+use Rattle.amend.specs.Amended.{listed, amendedRegions, misshapen, offJoint, leftOpen, amendedAnswer}
 use Rattle.marked.specs.Page.{All, page}
 
 pub marked : All page
-unfolding is either oneOf other holds firstOf firstPlace find back lineStart opensLine closesTo closing endsAt paragraphEnd nextIn scan collect shutPlace oddBefore symTurn asymTurn inline regionTurn regions searched openRule symRule begins opens closes closeEnd nextFence fences leading beyond itemAt itemsOf digit decimalFrom numberLine markAt afterMark marksFrom marks begun ending frames gather
-marked = (refl, (refl, (refl, (refl, (refl, (refl, (refl, (refl, (refl, (refl, (refl, (refl, (refl, (refl, (refl, (refl, (refl, (refl, tt))))))))))))))))))
+unfolding is either oneOf other holds firstOf firstPlace find back lineStart opensLine closesTo closing endsAt paragraphEnd nextIn scan collect shutPlace oddBefore symTurn asymTurn inline regionTurn regions searched openRule symRule begins opens closes closeEnd nextFence fences leading beyond itemAt itemsOf digit decimalFrom numberLine markAt afterMark marksFrom marks begun ending frames gather reaches keepBefore keepFrom joint listed amendedRegions misshapen offJoint leftOpen amendedAnswer
+marked = (refl, (refl, (refl, (refl, (refl, (refl, (refl, (refl, (refl, (refl, (refl, (refl, (refl, (refl, (refl, (refl, (refl, (record { answer = refl; list = refl }, (record { answer = refl; list = refl }, (record { answer = refl; list = refl }, (record { answer = refl; list = refl }, (refl, (record { answer = refl; list = refl }, tt)))))))))))))))))))))))

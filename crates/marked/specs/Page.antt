@@ -1,22 +1,37 @@
 -- The marked examples as rows of one table, and what a row says. Assumes nothing.
 use mathlib.Core.Path.{_≡_}
 use mathlib.Core.List.{List, [], _∷_}
-use Prim.Native.Nat.{ℕ}
-use Rattle.common.specs.Entry.{flatten}
+use Prim.Native.Nat.{ℕ, _/_}
+use lib.ListN.{length}
+use Rattle.common.specs.Entry.{flatten, over}
+use Rattle.common.specs.Grammars.{house}
+use Rattle.common.specs.Refusals.{given, refused}
 use Rattle.context.specs.Region.{pair}
 use Rattle.context.specs.Regions.{regions}
 use Rattle.fence.specs.Fence.{fences}
 use Rattle.block_numbered.specs.Numbered.{numbers, values}
 use Rattle.cont.specs.Frames.{frames}
-use Rattle.marked.specs.House.{gram, fence, delimiters, quotes}
+use Rattle.amend.specs.Amended.{edit, Amended}
+use Rattle.marked.specs.House.{rules, gram, fence, delimiters, quotes}
 
 -- a text with the list of its regions; with its fences of a byte, start and end each; with its numbered items, start, end, delimiter and
--- number each; with its frames to a depth, start and end each
+-- number each; with its frames to a depth, start and end each; with two cuts, a replacement and the list that amending its own list
+-- leaves, or the refusal
 pub data Row : Type 0 where
   listed : List ℕ → List ℕ → Row
   fenced : ℕ → List ℕ → List ℕ → Row
   counted : List ℕ → List ℕ → Row
   framed : ℕ → List ℕ → List ℕ → Row
+  mended : List ℕ → ℕ → ℕ → List ℕ → List ℕ → Row
+  refusing : List ℕ → ℕ → ℕ → List ℕ → ℕ → Row
+
+-- the list that building leaves of a text
+abbrev pub own : List ℕ → List ℕ
+own s = flatten pair (regions gram s)
+
+-- a run with room for four regions
+abbrev pub blank : List ℕ
+blank = 0 ∷ 0 ∷ 0 ∷ 0 ∷ 0 ∷ 0 ∷ 0 ∷ 0 ∷ []
 
 -- what a row says
 abbrev pub Says : Row → Type 0
@@ -24,11 +39,20 @@ Says (listed s l) = flatten pair (regions gram s) ≡ l
 Says (fenced byte s l) = flatten (λ f. f .start ∷ f .end ∷ []) (fences (fence byte) s) ≡ l
 Says (counted s l) = flatten values (numbers delimiters s) ≡ l
 Says (framed nest s l) = flatten (λ f. f .start ∷ f .end ∷ []) (frames (quotes nest) s) ≡ l
+Says (mended s a b r l) = Amended house rules s (own s) (length (own s) / 2) (edit a b r) blank (over l blank) (given (length l / 2 ∷ []))
+Says (refusing s a b r n) = Amended house rules s (own s) (length (own s) / 2) (edit a b r) blank blank (refused n)
 
 -- what all rows of a table say
 abbrev pub All : List Row → Type 0
 All [] = Unit {0}
 All (r ∷ l) = Says r × All l
+
+-- the texts of P11 (`a`, an empty line, ~~~, b, ~~~, an empty line, <c>) and of P12 (~~~, an empty line, ~~~)
+abbrev pub eleventh : List ℕ
+eleventh = 96 ∷ 97 ∷ 96 ∷ 10 ∷ 10 ∷ 126 ∷ 126 ∷ 126 ∷ 10 ∷ 98 ∷ 10 ∷ 126 ∷ 126 ∷ 126 ∷ 10 ∷ 10 ∷ 60 ∷ 99 ∷ 62 ∷ []
+
+abbrev pub twelfth : List ℕ
+twelfth = 126 ∷ 126 ∷ 126 ∷ 10 ∷ 10 ∷ 126 ∷ 126 ∷ 126 ∷ 10 ∷ []
 
 -- the examples, in the page's order (10 line end, 32 space, 60 <, 62 >, 92 backslash, 96 backtick, 97 a, 98 b, 99 c, 120 x, 126 tilde; 46 full stop, 48 to 57 the digits)
 abbrev pub page : List Row
@@ -59,8 +83,13 @@ page =
     ∷ framed 8 (62 ∷ 32 ∷ 62 ∷ 32 ∷ 97 ∷ []) (2 ∷ 5 ∷ 0 ∷ 5 ∷ [])
     ∷ framed 1 (62 ∷ 32 ∷ 62 ∷ 32 ∷ 97 ∷ []) (0 ∷ 5 ∷ [])
     ∷ framed 0 (62 ∷ 32 ∷ 62 ∷ 32 ∷ 97 ∷ []) []
-    -- P11: `a`, an empty line, ~~~, b, ~~~, an empty line, <c>
-    ∷ listed (96 ∷ 97 ∷ 96 ∷ 10 ∷ 10 ∷ 126 ∷ 126 ∷ 126 ∷ 10 ∷ 98 ∷ 10 ∷ 126 ∷ 126 ∷ 126 ∷ 10 ∷ 10 ∷ 60 ∷ 99 ∷ 62 ∷ []) (0 ∷ 3 ∷ 5 ∷ 14 ∷ 16 ∷ 19 ∷ [])
-    -- P12: ~~~, an empty line, ~~~
-    ∷ listed (126 ∷ 126 ∷ 126 ∷ 10 ∷ 10 ∷ 126 ∷ 126 ∷ 126 ∷ 10 ∷ []) (0 ∷ 8 ∷ [])
+    -- P11: cuts 5 and 16 with nothing, and with ~~~ and an empty line; first cut 9; cuts 5 and 19 with ~~~
+    ∷ listed eleventh (0 ∷ 3 ∷ 5 ∷ 14 ∷ 16 ∷ 19 ∷ [])
+    ∷ mended eleventh 5 16 [] (0 ∷ 3 ∷ 5 ∷ 8 ∷ [])
+    ∷ refusing eleventh 5 16 (126 ∷ 126 ∷ 126 ∷ 10 ∷ 10 ∷ []) 8
+    ∷ refusing eleventh 9 16 [] 7
+    ∷ mended eleventh 5 19 (126 ∷ 126 ∷ 126 ∷ []) (0 ∷ 3 ∷ 5 ∷ 8 ∷ [])
+    -- P12: cut 5
+    ∷ listed twelfth (0 ∷ 8 ∷ [])
+    ∷ refusing twelfth 5 5 [] 7
     ∷ []

@@ -1,0 +1,101 @@
+-- What an amendment answers and writes. Assumes nothing.
+use mathlib.Core.Path.{_≡_}
+use mathlib.Core.Bool.{Bool, not, cond, _||_, _&&_}
+use mathlib.Core.List.{List, [], _∷_, _++_, map}
+use Prim.Native.Nat.{ℕ, _+_, _-_}
+use lib.Dec.{ltb}
+use lib.ListN.{length, take, drop}
+use Rattle.common.specs.Entry.{flatten, rows, startOf, stopOf, room, shaped, over}
+use Rattle.common.specs.Refusals.{Outcome, given, refuse, tooLong, past}
+use Rattle.common.specs.declared.grammar.Grammar.{Grammar}
+use Rattle.context.specs.Region.{Region, Plain, dropTag, pair, move, up, keepBefore, keepFrom}
+use Rattle.context.specs.Grammar.{Gram}
+use Rattle.context.specs.Regions.{regions}
+use Rattle.context.specs.Columns.{Columns, gramOf}
+use Rattle.context.specs.Build.{unequal, unless}
+use Rattle.amend.specs.Amend.{Edit, joint}
+use Rattle.amend.specs.Local.{usesLineEnd}
+
+-- ---- lists as regions
+-- "region k has its start at 2k and its exclusive end at 2k+1": the region that a row says
+abbrev pub plainOf : List ℕ → Plain
+plainOf r = record { start = startOf r; stop = stopOf r; tag = tt }
+
+-- the first n regions of a list
+unfoldable pub listed : ℕ → List ℕ → List Plain
+listed n l = map plainOf (rows 2 n l)
+
+-- a text's regions without the rules that made them
+abbrev pub plainRegions : Gram → List ℕ → List Plain
+plainRegions g s = map dropTag (regions g s)
+
+-- ---- an edit of a text
+abbrev pub edit : ℕ → ℕ → List ℕ → Edit
+edit first second text = record { first = first; second = second; text = text }
+
+-- the edited text
+abbrev pub edited : Edit → List ℕ → List ℕ
+edited e s = take (e .first) s ++ (e .text ++ drop (e .second) s)
+
+-- whether old text follows a second cut, in a text of a length
+abbrev pub follows : ℕ → ℕ → Bool
+follows len second = ltb second len
+
+-- "regions starting before the first cut; the replacement's own moved up by the first cut; unless the second cut is the text's end,
+-- regions starting at or after it moved by the change in length"
+unfoldable pub amendedRegions : {T : Type 0} → (List ℕ → List (Region T)) → ℕ → Edit → List (Region T) → List (Region T)
+amendedRegions build len e l =
+    keepBefore (e .first) l
+    ++ (up (e .first) (build (e .text)) ++ cond (follows len (e .second)) (map (move (λ x. x + (e .first + length (e .text)) - e .second)) (keepFrom (e .second) l)) [])
+
+-- ---- what is refused
+-- 4: "first cut after second, or second past the text"
+abbrev pub miscut : List ℕ → Edit → Bool
+miscut s e = ltb (e .second) (e .first) || past s (e .second)
+
+-- 5: "a list's stated count is over its room; … also: regions unsorted, overlapping, empty (end not after start) or past the text"
+unfoldable pub misshapen : List ℕ → ℕ → ℕ → Bool
+misshapen list n len = ltb (room 2 list) n || not (shaped 0 len (rows 2 n list))
+
+-- 7: "a cut is not at a joint (the second may be the text's end)"
+unfoldable pub offJoint : {T : Type 0} → ℕ → List ℕ → List (Region T) → ℕ → ℕ → Bool
+offJoint eol s l first second = not (joint eol s l first) || (follows (length s) second && not (joint eol s l second))
+
+-- 8: "old text follows a replacement that isn't empty, and that replacement doesn't end in two line ends or has, built alone, a region
+-- reaching its end": the replacement's end is no joint of it
+unfoldable pub leftOpen : {T : Type 0} → ℕ → (List ℕ → List (Region T)) → ℕ → Edit → Bool
+leftOpen eol build len e = follows len (e .second) && not (joint eol (e .text) (build (e .text)) (length (e .text)))
+
+-- 3: "the answer has more regions … than there is room for"
+abbrev pub crowded : {T : Type 0} → List (Region T) → List ℕ → Bool
+crowded l out = ltb (room 2 out) (length l)
+
+-- ---- the answer, and the list that is left
+module _ (g : Grammar) (c : Columns) (s l : List ℕ) (n : ℕ) (e : Edit) where
+  -- the regions that an amendment of the list l, with n regions, is to leave
+  abbrev pub result : List Plain
+  result = amendedRegions (plainRegions (gramOf g c)) (length s) e (listed n l)
+
+  -- "For an amendment: 1 (old text, replacement), 6, 4, 1 (edited text), 5, 9, 7, 8, 3."; else the count
+  unfoldable pub amendedAnswer : List ℕ → Outcome
+  amendedAnswer out =
+      refuse 1 (tooLong s || tooLong (e .text))
+      (refuse 6 (unequal c)
+      (refuse 4 (miscut s e)
+      (refuse 1 (tooLong (edited e s))
+      (refuse 5 (misshapen l n (length s))
+      (refuse 9 (usesLineEnd g c)
+      (refuse 7 (offJoint (g .eol) s (listed n l) (e .first) (e .second))
+      (refuse 8 (leftOpen (g .eol) (plainRegions (gramOf g c)) (length s) e)
+      (refuse 3 (crowded result out)
+      (given (length result ∷ []))))))))))
+
+-- "A refusal returns its number alone; lists, states and cursors keep their values. … Success writes the regions from place 0, returns
+-- their count and changes nothing beyond them.": the run that an outcome leaves of `out`, where the regions are l
+abbrev pub leaves : {T : Type 0} → Outcome → List ℕ → List (Region T) → List ℕ
+leaves o out l = unless (ltb 0 (o .number)) out (over (flatten pair l) out)
+
+-- the promise of an amendment: its answer, and the list that it leaves
+pub record Amended (g : Grammar) (c : Columns) (s l : List ℕ) (n : ℕ) (e : Edit) (out out′ : List ℕ) (o : Outcome) : Type 0 where
+  pub answer : o ≡ amendedAnswer g c s l n e out
+  pub list : out′ ≡ leaves (amendedAnswer g c s l n e out) out (result g c s l n e)

@@ -1,0 +1,202 @@
+-- Laws of the amendment: the ways out of the entry, that its promise leaves one answer and one list, and that it sees little of the old text. Assumes nothing.
+use mathlib.Core.Path.{_≡_, refl, sym, ap, subst, _∙_}
+use mathlib.Core.Bool.{Bool, true, false, not, _||_, _&&_}
+use mathlib.Core.List.{List, []}
+use mathlib.Core.Logic.{_⊎_, inl, inr}
+use Prim.Native.Nat.{ℕ, suc, _+_, _-_, _≤_, _<_}
+use native.Mathlib.Omega.{arith}
+use lib.Dec.{ltb, leb}
+use lib.ListN.{length, getD, length-append, length-take, length-drop}
+use borrow.Author.Tests.{ltb-false, leb-true}
+use Rattle.common.specs.Promise.{Gives}
+use Rattle.common.specs.Search.{holds}
+use Rattle.common.specs.SearchLaws.{decide}
+use Rattle.common.specs.Refusals.{Outcome, given, refused, refuse, tooLong, past, numberOf, told}
+use Rattle.common.specs.RefusalLaws.{answer-unique, found-unique}
+use Rattle.common.specs.declared.grammar.Grammar.{Grammar}
+use Rattle.common.specs.declared.refusal.Refusal.{Refusal}
+use Rattle.common.specs.declared.refusal.Answer.{Answer}
+use Rattle.common.specs.declared.refusal.Found.the-variants as found
+use Rattle.context.specs.Region.{reaches}
+use Rattle.context.specs.Grammar.{Gram}
+use Rattle.context.specs.Columns.{Columns, columns, gramOf}
+use Rattle.context.specs.Build.{unequal}
+use Rattle.context.specs.RuleTables.{ruleTables, gramOn}
+use Rattle.context.specs.RuleTableLaws.{rule-tables-gram}
+use Rattle.context.specs.declared.rule_tables.RuleTables.{RuleTables}
+use Rattle.amend.specs.Amend.{Edit, afterEmptyLine, joint}
+use Rattle.amend.specs.Local.{usesLineEnd}
+use Rattle.amend.specs.Amended.{listed, plainRegions, edit, edited, follows, miscut, misshapen, offJoint, amendedAnswer, Amended}
+use Rattle.amend.specs.Parts.{marks, judged, said, Judged, Ready, settledAnswer, Settled}
+use Rattle.amend.specs.Edits.{or-false}
+use Rattle.amend.specs.RowLaws.{orderly-told}
+use Rattle.amend.specs.JudgeLaws.{edited-length}
+use Rattle.amend.specs.declared.Verdict.{Verdict}
+use Rattle.amend.specs.declared.Verdict.the-variants as verdict
+
+-- ---- chains of refusals
+-- a refusal is not served
+not-given : (q : Refusal) → refused (numberOf q) ≡ given [] → ⊥
+not-given q e =
+    let z : found.Refused q ≡ found.Nothing = found-unique {o = given []} {r = found.Refused q} {r′ = found.Nothing} (record { answer = e }) (record { answer = refl }) in
+    let y : _≡_ {A = ℕ} 0 1 = cc in
+    omega arith
+
+number-positive : (q : Refusal) → ltb 0 (numberOf q) ≡ true
+number-positive q = by (decide (ltb 0 (numberOf q)))
+  where
+    by : (ltb 0 (numberOf q) ≡ true) ⊎ (ltb 0 (numberOf q) ≡ false) → ltb 0 (numberOf q) ≡ true
+    by (inl u) = u
+    by (inr u) =
+        let z : numberOf q ≡ 0 = omega (arith, ltb-false 0 (numberOf q) u) in
+        absurd (not-given q (ap refused z))
+
+-- what a chain refuses before its end it refuses with any end
+refuse-same : (k : Outcome) (n : ℕ) (b : Bool) (o o′ : Outcome) → (o ≡ k → o′ ≡ k) → refuse n b o ≡ k → refuse n b o′ ≡ k
+refuse-same k n true o o′ f e = e
+refuse-same k n false o o′ f e = f e
+
+-- a chain that comes to its end has passed every test
+pub refuse-pass : (n : ℕ) (b : Bool) (o : Outcome) (l : List ℕ) → refuse (suc n) b o ≡ given l → (b ≡ false) × (o ≡ given l)
+refuse-pass n true o l e =
+    let z : suc n ≡ 0 = ap (λ (x : Outcome). x .number) e in
+    absurd (omega arith)
+refuse-pass n false o l e = (refl, e)
+
+-- ---- cuts that are judged
+module _ (eol : ℕ) (s l : List ℕ) (n : ℕ) (e : Edit) (u m : Bool) where
+  judged-stop : (q : Refusal) (o : Outcome) → judged eol s l n e u m (given []) ≡ refused (numberOf q) → judged eol s l n e u m o ≡ refused (numberOf q)
+  unfolding judged
+  judged-stop q o =
+      let k = refused (numberOf q) in
+      let t1 = tooLong s || tooLong (e .text) in
+      let t4 = miscut s e in
+      let t1′ = tooLong (edited e s) in
+      let t5 = misshapen l n (length s) in
+      let t7 = offJoint eol s (listed n l) (e .first) (e .second) in
+      refuse-same k 1 t1 _ _ (refuse-same k 6 u _ _ (refuse-same k 4 t4 _ _ (refuse-same k 1 t1′ _ _ (refuse-same k 5 t5 _ _ (refuse-same k 9 m _ _ (refuse-same k 7 t7 (given []) o (λ z. absurd (not-given q (sym z)))))))))
+
+  module _ (fine : judged eol s l n e u m (given []) ≡ given []) where
+    passed : ((tooLong s || tooLong (e .text)) ≡ false) × (u ≡ false) × (miscut s e ≡ false) × (tooLong (edited e s) ≡ false) × (misshapen l n (length s) ≡ false) × (m ≡ false)
+        × (offJoint eol s (listed n l) (e .first) (e .second) ≡ false)
+    unfolding judged
+    passed =
+        let a = refuse-pass 0 (tooLong s || tooLong (e .text)) _ [] fine in
+        let b = refuse-pass 5 u _ [] (a .1) in
+        let c = refuse-pass 3 (miscut s e) _ [] (b .1) in
+        let d = refuse-pass 0 (tooLong (edited e s)) _ [] (c .1) in
+        let f = refuse-pass 4 (misshapen l n (length s)) _ [] (d .1) in
+        let g = refuse-pass 8 m _ [] (f .1) in
+        let h = refuse-pass 6 (offJoint eol s (listed n l) (e .first) (e .second)) _ [] (g .1) in
+        (a .0, b .0, c .0, d .0, f .0, g .0, h .0)
+
+    judged-on : (o : Outcome) → judged eol s l n e u m o ≡ o
+    unfolding judged
+    judged-on o = let p = passed in simp (p .0, p .1, p .2, p .3, p .4, p .5, p .6)
+
+pub ready-told : (eol : ℕ) (s l : List ℕ) (n first second : ℕ) (r : List ℕ) (u m : Bool) (v : Verdict) → v ≡ verdict.Fine → Judged eol s l n (edit first second r) u m v
+    → Ready l n first second (length s) r
+ready-told eol s l n first second r u m v e g =
+    let p = passed eol s l n (edit first second r) u m (sym (g .answer) ∙ ap said e) in
+    let a = or-false (tooLong s) (tooLong r) (p .0) in
+    let b = or-false (ltb second first) (past s second) (p .2) in
+    let cuts : first ≤ second = ltb-false second first (b .0) in
+    let inside : second ≤ length s = ltb-false (length s) second (b .1) in
+    record {
+      orderly = orderly-told l n (length s) (p .4);
+      cuts = cuts;
+      inside = inside;
+      short = ltb-false 4294967295 (length s) (a .0);
+      small = omega (arith, edited-length s first second r cuts inside, ltb-false 4294967295 (length (edited (edit first second r) s)) (p .3));
+    }
+
+-- ---- the ways out of the entry
+module _ (g : Grammar) (c : Columns) (s l : List ℕ) (n : ℕ) (e : Edit) (out : List ℕ) where
+  as-judged : amendedAnswer g c s l n e out
+      ≡ judged (g .eol) s l n e (unequal c) (usesLineEnd g c) (settledAnswer (g .eol) (length s) (plainRegions (gramOf g c)) (listed n l) e out)
+  unfolding amendedAnswer judged settledAnswer
+  as-judged = refl
+
+  module _ (u m : Bool) (v : Verdict) (hv : Judged (g .eol) s l n e u m v) (hu : Gives (unequal c) u) (hm : Gives (usesLineEnd g c) m) where
+    as-told : amendedAnswer g c s l n e out ≡ judged (g .eol) s l n e u m (settledAnswer (g .eol) (length s) (plainRegions (gramOf g c)) (listed n l) e out)
+    as-told = as-judged ∙ rw (← (hu .answer), ← (hm .answer))
+
+    amended-stop : (q : Refusal) → v ≡ verdict.Refused q → Amended g c s l n e out out (refused (numberOf q))
+    amended-stop q d =
+        let a : amendedAnswer g c s l n e out ≡ refused (numberOf q) = as-told ∙ judged-stop (g .eol) s l n e u m q _ (sym (hv .answer) ∙ ap said d) in
+        record { answer = sym a; list = rw (a, number-positive q) }
+
+    amended-on : (out′ : List ℕ) (o : Outcome) → v ≡ verdict.Fine → Settled (g .eol) (length s) (plainRegions (gramOf g c)) (listed n l) e out out′ o → Amended g c s l n e out out′ o
+    amended-on out′ o d w =
+        let a : amendedAnswer g c s l n e out ≡ settledAnswer (g .eol) (length s) (plainRegions (gramOf g c)) (listed n l) e out = as-told ∙ judged-on (g .eol) s l n e u m (sym (hv .answer) ∙ ap said d) _ in
+        record { answer = w .answer ∙ sym a; list = w .list ∙ rw a }
+
+module _ (g : Grammar) (f m y t o k c s l : List ℕ) (n first second : ℕ) (r out : List ℕ) (u w : Bool) (v : Verdict) where
+  pub amended-refused : (q : Refusal) → v ≡ verdict.Refused q → Judged (g .eol) s l n (edit first second r) u w v → Gives (unequal (columns f m y t o k c)) u
+      → Gives (marks (g .eol) (g .escape) y o) w → Amended g (columns f m y t o k c) s l n (edit first second r) out out (refused (numberOf q))
+  amended-refused q d hv hu hw = amended-stop g (columns f m y t o k c) s l n (edit first second r) out u w v hv hu hw q d
+
+  pub amended-settled : (tables : RuleTables) (out′ : List ℕ) (a : Outcome) → v ≡ verdict.Fine → Judged (g .eol) s l n (edit first second r) u w v
+      → Gives (unequal (columns f m y t o k c)) u → Gives (marks (g .eol) (g .escape) y o) w → Gives (ruleTables f m y t o k c) tables
+      → Settled (g .eol) (length s) (plainRegions (gramOn g tables)) (listed n l) (edit first second r) out out′ a → Amended g (columns f m y t o k c) s l n (edit first second r) out out′ a
+  amended-settled tables out′ a d hv hu hw ht z =
+      let e : gramOn g tables ≡ gramOf g (columns f m y t o k c) = ap (gramOn g) (ht .answer) ∙ rule-tables-gram g f m y t o k c in
+      amended-on g (columns f m y t o k c) s l n (edit first second r) out u w v hv hu hw out′ a d
+      (subst (λ (x : Gram). Settled (g .eol) (length s) (plainRegions x) (listed n l) (edit first second r) out out′ a) e z)
+
+-- ---- one answer, one list
+-- two results of an amendment for the same arguments are one: the answer, and the list that is left
+pub amended-unique : {g : Grammar} {c : Columns} {s l : List ℕ} {n : ℕ} {e : Edit} {out out′ out″ : List ℕ} {r r′ : Answer}
+    → Amended g c s l n e out out′ (told r) → Amended g c s l n e out out″ (told r′) → (r ≡ r′) × (out′ ≡ out″)
+amended-unique {g} {c} {s} {l} {n} {e} {out} a b =
+    (answer-unique {o = amendedAnswer g c s l n e out} (record { answer = a .answer }) (record { answer = b .answer }), a .list ∙ sym (b .list))
+
+-- ---- the old text: its length and the two bytes before each cut
+-- two texts of one length with the same bytes there
+pub record Alike (s s′ : List ℕ) (e : Edit) : Type 0 where
+  pub long : length s ≡ length s′
+  pub first : (k : ℕ) → k < e .first → e .first ≤ k + 2 → getD s k 0 ≡ getD s′ k 0
+  pub second : (k : ℕ) → k < e .second → e .second ≤ k + 2 → getD s k 0 ≡ getD s′ k 0
+
+line-alike : (eol : ℕ) (s s′ : List ℕ) (k : ℕ) → length s ≡ length s′ → ((j : ℕ) → j < k → k ≤ j + 2 → getD s j 0 ≡ getD s′ j 0) → afterEmptyLine eol s k ≡ afterEmptyLine eol s′ k
+unfolding holds
+line-alike eol s s′ k long same = by (decide (leb 2 k))
+  where
+    by : (leb 2 k ≡ true) ⊎ (leb 2 k ≡ false) → afterEmptyLine eol s k ≡ afterEmptyLine eol s′ k
+    by (inl u) =
+        let h = leb-true 2 k u in
+        let a : getD s (k - 1) 0 ≡ getD s′ (k - 1) 0 = same (k - 1) (omega arith) (omega arith) in
+        let b : getD s (k - 2) 0 ≡ getD s′ (k - 2) 0 = same (k - 2) (omega arith) (omega arith) in
+        rw (long, a, b)
+    by (inr u) = rw u
+
+module _ (g : Grammar) (c : Columns) (l : List ℕ) (n : ℕ) (e : Edit) (out : List ℕ) where
+  -- the answer, by what is asked of the old text
+  asked : ℕ → ℕ → Bool → Bool → Outcome
+  asked len long first second =
+      refuse 1 (ltb 4294967295 len || tooLong (e .text))
+      (refuse 6 (unequal c)
+      (refuse 4 (ltb (e .second) (e .first) || ltb len (e .second))
+      (refuse 1 (ltb 4294967295 long)
+      (refuse 5 (misshapen l n len)
+      (refuse 9 (usesLineEnd g c)
+      (refuse 7 (not (first && not (reaches (e .first) (listed n l))) || (follows len (e .second) && not (second && not (reaches (e .second) (listed n l)))))
+      (settledAnswer (g .eol) len (plainRegions (gramOf g c)) (listed n l) e out)))))))
+
+  is-asked : (s : List ℕ) → amendedAnswer g c s l n e out ≡ asked (length s) (length (edited e s)) (afterEmptyLine (g .eol) s (e .first)) (afterEmptyLine (g .eol) s (e .second))
+  unfolding amendedAnswer asked offJoint joint settledAnswer
+  is-asked s = refl
+
+  answer-alike : (s s′ : List ℕ) → Alike s s′ e → amendedAnswer g c s l n e out ≡ amendedAnswer g c s′ l n e out
+  answer-alike s s′ w =
+      let size : length (edited e s) ≡ length (edited e s′) = simp (length-append, length-take, length-drop, w .long) in
+      is-asked s
+      ∙ rw (w .long, size, line-alike (g .eol) s s′ (e .first) (w .long) (w .first), line-alike (g .eol) s s′ (e .second) (w .long) (w .second)) (sym (is-asked s′))
+
+-- "Of the old text only its length and the two bytes before each cut are read": another old text that is alike there gives the same answer
+-- and leaves the same list
+pub amended-alike : {g : Grammar} {c : Columns} {s s′ l : List ℕ} {n : ℕ} {e : Edit} {out out′ out″ : List ℕ} {r r′ : Answer}
+    → Alike s s′ e → Amended g c s l n e out out′ (told r) → Amended g c s′ l n e out out″ (told r′) → (r ≡ r′) × (out′ ≡ out″)
+amended-alike {g} {c} {s} {s′} {l} {n} {e} {out} w a b =
+    let same : amendedAnswer g c s l n e out ≡ amendedAnswer g c s′ l n e out = answer-alike g c l n e out s s′ w in
+    (answer-unique {o = amendedAnswer g c s′ l n e out} (record { answer = a .answer ∙ same }) (record { answer = b .answer }), a .list ∙ rw (same, w .long) (sym (b .list)))

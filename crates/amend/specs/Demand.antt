@@ -1,0 +1,69 @@
+-- Mission demand 3, of the definitions: the old text's regions, amended, are the finished text's regions. Assumes nothing.
+use mathlib.Core.Path.{_≡_, refl, ap, _∙_}
+use mathlib.Core.Bool.{Bool, true, false, _||_, cond}
+use mathlib.Core.List.{List, _++_, map, map-append}
+use mathlib.Core.Logic.{inl, inr, ⊎-elim}
+use Prim.Native.Nat.{ℕ}
+use lib.Dec.{ltb}
+use lib.ListN.{length}
+use Rattle.common.specs.Search.{is}
+use Rattle.common.specs.SearchLaws.{clash, is-yes}
+use Rattle.common.specs.Rules.{hasRule, leastOf, onByte}
+use Rattle.common.specs.declared.grammar.Grammar.{Grammar}
+use Rattle.context.specs.Region.{Region, Plain, up, dropTag}
+use Rattle.context.specs.Grammar.{plain, Gram}
+use Rattle.context.specs.Regions.{regions}
+use Rattle.context.specs.Columns.{Columns, symRule, openRule, ruleOf, gramOf}
+use Rattle.context.specs.Ahead.{regions-in-order}
+use Rattle.amend.specs.Local.{Linewise, Apart, usesLineEnd}
+use Rattle.amend.specs.LocalLaws.{first-linewise}
+use Rattle.amend.specs.Amend.{Edit, finished, relist, Fits, Blank, Decided, Joins}
+use Rattle.amend.specs.Amended.{plainRegions}
+use Rattle.amend.specs.Lists.{drop-up, drop-reaches, drop-order}
+use Rattle.amend.specs.Join.{regions-decided}
+use Rattle.amend.specs.Edits.{or-false, amended}
+
+-- where lists with tags join, so do the same lists without
+pub drop-joins : {T : Type 0} (eol : ℕ) (build : List ℕ → List (Region T)) → Joins eol build → Joins eol (λ s. map dropTag (build s))
+drop-joins eol build joins = record { ordered = λ s. drop-order 0 (length s) (build s) (joins .ordered s); decided = decided }
+  where
+    decided : (a b : List ℕ) → Blank eol a → Decided (length a) (map dropTag (build a)) (map dropTag (build (a ++ b))) (up (length a) (map dropTag (build b)))
+    decided a b two =
+        ⊎-elim
+        (λ w. inl (drop-reaches (length a) (build a) ∙ w .0, ap (map dropTag) (w .1) ∙ map-append dropTag (build a) (up (length a) (build b)) ∙ ap (λ (z : List Plain). map dropTag (build a) ++ z) (drop-up (length a) (build b))))
+        (λ w. inr (drop-reaches (length a) (build a) ∙ w .0, drop-reaches (length a) (build (a ++ b)) ∙ w .1))
+        (joins .decided a b two)
+
+-- ---- every grammar that the facts about joints hold for, and any number of edits at one go
+module _ (g : Gram) (lines : Linewise (g .eol) (g .fences)) (apart : Apart g) where
+  pub regions-join : Joins (g .eol) (regions g)
+  regions-join = record { ordered = regions-in-order g; decided = λ a b two. regions-decided g lines a b two apart }
+
+  pub demand : (s : List ℕ) (es : List Edit) → Fits (g .eol) (plainRegions g) s 0 es → relist (plainRegions g) 0 0 es (plainRegions g s) ≡ plainRegions g (finished 0 es s)
+  demand s es fits = amended (g .eol) (plainRegions g) (drop-joins (g .eol) (regions g) regions-join) s es fits
+
+-- ---- edition 1 of fences, by the rules' columns
+no-rule : (c : Columns) (b : ℕ) → hasRule (c .symBytes) b ≡ false → hasRule (c .openers) b ≡ false → ruleOf c b ≡ plain
+unfolding symRule openRule
+no-rule c b e f = rw (e, f)
+
+module _ (g : Grammar) (c : Columns) (free : usesLineEnd g c ≡ false) where
+  columns-lines : Linewise (g .eol) (gramOf g c .fences)
+  columns-lines = first-linewise g (onByte false (hasRule (c .fenceBytes))) (onByte 0 (leastOf (c .fenceBytes) (c .fenceMins)))
+
+  columns-apart : Apart (gramOf g c)
+  columns-apart = record { escape = λ e. clash (is-yes (g .eol) (g .escape) e) (w .0); opener = by (ltb (g .eol) 256) }
+    where
+      w : (is (g .eol) (g .escape) ≡ false) × ((hasRule (c .symBytes) (g .eol) || hasRule (c .openers) (g .eol)) ≡ false)
+      w = or-false (is (g .eol) (g .escape)) _ free
+
+      v : (hasRule (c .symBytes) (g .eol) ≡ false) × (hasRule (c .openers) (g .eol) ≡ false)
+      v = or-false (hasRule (c .symBytes) (g .eol)) _ (w .1)
+
+      by : (t : Bool) → cond t (ruleOf c (g .eol)) plain ≡ plain
+      by true = no-rule c (g .eol) (v .0) (v .1)
+      by false = refl
+
+  pub demand-first : (s : List ℕ) (es : List Edit) → Fits (g .eol) (plainRegions (gramOf g c)) s 0 es
+      → relist (plainRegions (gramOf g c)) 0 0 es (plainRegions (gramOf g c) s) ≡ plainRegions (gramOf g c) (finished 0 es s)
+  demand-first = demand (gramOf g c) columns-lines columns-apart

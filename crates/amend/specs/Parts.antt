@@ -1,0 +1,123 @@
+-- What the parts of an amendment ask and promise. Assumes nothing.
+use mathlib.Core.Path.{_≡_}
+use mathlib.Core.Bool.{Bool, false, not, _||_, _&&_}
+use mathlib.Core.List.{List, [], _∷_, _++_, map}
+use Prim.Native.Nat.{ℕ, _+_, _-_, _*_, _≤_}
+use lib.ListN.{length, drop}
+use Rattle.common.specs.Search.{is}
+use Rattle.common.specs.Rules.{hasRule}
+use Rattle.common.specs.Entry.{flatten, over, putAt}
+use Rattle.common.specs.Refusals.{Outcome, given, refused, refuse, tooLong, numberOf}
+use Rattle.context.specs.Region.{Region, Plain, pair, move, up, reaches, InOrder}
+use Rattle.context.specs.Grammar.{Gram}
+use Rattle.context.specs.Regions.{regions}
+use Rattle.amend.specs.Amend.{Edit, afterEmptyLine}
+use Rattle.amend.specs.Amended.{listed, plainRegions, edited, amendedRegions, miscut, misshapen, offJoint, leftOpen, crowded, leaves}
+use Rattle.amend.specs.declared.Verdict.{Verdict}
+use Rattle.amend.specs.declared.Verdict.the-variants as verdict
+use Rattle.amend.specs.declared.own.Counted.{Counted}
+
+-- ---- lists
+-- a list with its first n regions in order, up to len
+pub record Orderly (l : List ℕ) (n len : ℕ) : Type 0 where
+  pub roomy : n * 2 ≤ length l
+  pub order : InOrder 0 len (listed n l)
+
+-- a list that is not misshapen, of a text within the limit
+pub record Fair (l : List ℕ) (n len : ℕ) : Type 0 where
+  pub shape : misshapen l n len ≡ false
+  pub short : len ≤ 4294967295
+
+-- the regions of a list from row i up to row n
+abbrev pub between : ℕ → ℕ → List ℕ → List Plain
+between i n l = listed (n - i) (drop (i * 2) l)
+
+-- regions that are written from row n on, and the row after them
+pub record Laid {T : Type 0} (l : List (Region T)) (n : ℕ) (out out′ : List ℕ) (r : ℕ) : Type 0 where
+  pub next : r ≡ n + length l
+  pub list : out′ ≡ putAt (n * 2) (flatten pair l) out
+
+-- a place that keeps within 32 bits where it is moved
+pub record Moves (place down up : ℕ) : Type 0 where
+  pub low : down ≤ place
+  pub high : place + up ≤ 4294967295 + down
+
+-- rows in order that keep within 32 bits where they are moved, and room for them
+pub record Copies (l : List ℕ) (from to down up : ℕ) (out : List ℕ) (row : ℕ) : Type 0 where
+  pub ahead : from ≤ to
+  pub inside : to * 2 ≤ length l
+  pub order : InOrder down (4294967295 + down - up) (between from to l)
+  pub room : row * 2 + (to - from) * 2 ≤ length out
+
+abbrev pub Copied : List ℕ → ℕ → ℕ → ℕ → ℕ → ℕ → List ℕ → List ℕ → ℕ → Type 0
+Copied l from to down up row out out′ r = Laid (map (move (λ x. x + up - down)) (between from to l)) row out out′ r
+
+-- ---- the replacement's own regions
+abbrev pub surveyed : Gram → List ℕ → Counted
+surveyed g s = record { count = length (regions g s); reaching = reaches (length s) (regions g s) }
+
+-- regions of a text that keep within 32 bits where they are moved up, and room for them
+pub record Owns {T : Type 0} (l : List (Region T)) (s : List ℕ) (by : ℕ) (out : List ℕ) (row : ℕ) : Type 0 where
+  pub fits : length s + by ≤ 4294967295
+  pub room : row * 2 + length l * 2 ≤ length out
+
+-- ---- refusals
+-- whether the line end escapes or opens
+abbrev pub marks : ℕ → ℕ → List ℕ → List ℕ → Bool
+marks eol escape symmetric openers = is eol escape || (hasRule symmetric eol || hasRule openers eol)
+
+-- whether old text follows a replacement whose end is open
+abbrev pub openEnd : ℕ → Bool → List ℕ → Bool → Bool
+openEnd eol follows r reaching = follows && not (afterEmptyLine eol r (length r) && not reaching)
+
+-- the refusals that the lengths, the list, the cuts and the bytes before them decide, else what follows
+unfoldable pub judged : ℕ → List ℕ → List ℕ → ℕ → Edit → Bool → Bool → Outcome → Outcome
+judged eol s l n e unequal marked o =
+    refuse 1 (tooLong s || tooLong (e .text))
+    (refuse 6 unequal
+    (refuse 4 (miscut s e)
+    (refuse 1 (tooLong (edited e s))
+    (refuse 5 (misshapen l n (length s))
+    (refuse 9 marked
+    (refuse 7 (offJoint eol s (listed n l) (e .first) (e .second))
+    o))))))
+
+abbrev pub said : Verdict → Outcome
+said verdict.Fine = given []
+said (verdict.Refused r) = refused (numberOf r)
+
+-- what a verdict says
+pub record Judged (eol : ℕ) (s l : List ℕ) (n : ℕ) (e : Edit) (unequal marked : Bool) (v : Verdict) : Type 0 where
+  pub answer : said v ≡ judged eol s l n e unequal marked (given [])
+
+-- cuts that may be made in a text of a length with its list
+pub record Ready (l : List ℕ) (n first second len : ℕ) (r : List ℕ) : Type 0 where
+  pub orderly : Orderly l n len
+  pub cuts : first ≤ second
+  pub inside : second ≤ len
+  pub short : len ≤ 4294967295
+  pub small : len - (second - first) + length r ≤ 4294967295
+
+-- the refusals that the replacement and the room decide, else the count
+unfoldable pub settledAnswer : {T : Type 0} → ℕ → ℕ → (List ℕ → List (Region T)) → List (Region T) → Edit → List ℕ → Outcome
+settledAnswer eol len build l e out =
+    refuse 8 (leftOpen eol build len e) (refuse 3 (crowded (amendedRegions build len e l) out) (given (length (amendedRegions build len e l) ∷ [])))
+
+pub record Settled {T : Type 0} (eol len : ℕ) (build : List ℕ → List (Region T)) (l : List (Region T)) (e : Edit) (out out′ : List ℕ) (o : Outcome) : Type 0 where
+  pub answer : o ≡ settledAnswer eol len build l e out
+  pub list : out′ ≡ leaves (settledAnswer eol len build l e out) out (amendedRegions build len e l)
+
+-- ---- writing
+-- the rows before, the replacement's own, and the rows from `after` on
+unfoldable pub parts : Gram → List ℕ → ℕ → ℕ → ℕ → ℕ → ℕ → List ℕ → List Plain
+parts g l n before after first second r =
+    map (move (λ x. x + 0 - 0)) (between 0 before l) ++ (up first (plainRegions g r) ++ map (move (λ x. x + (first + length r) - second)) (between after n l))
+
+pub record Roomy (g : Gram) (l : List ℕ) (n before after first second : ℕ) (r out : List ℕ) : Type 0 where
+  pub kept : Copies l 0 before 0 0 out 0
+  pub own : Owns (regions g r) r first out before
+  pub moved : Copies l after n second (first + length r) out (before + length (regions g r))
+
+pub record Merged (g : Gram) (l : List ℕ) (n before after first second : ℕ) (r out out′ : List ℕ) (k : ℕ) : Type 0 where
+  pub count : k ≡ length (parts g l n before after first second r)
+  pub list : out′ ≡ over (flatten pair (parts g l n before after first second r)) out

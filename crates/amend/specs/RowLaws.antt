@@ -1,0 +1,288 @@
+-- Laws of lists as rows of two numbers: the regions that rows say, and the rules of the loops that test, search and copy rows. Assumes nothing.
+use mathlib.Core.Path.{_≡_, refl, sym, ap, subst, _∙_}
+use mathlib.Core.Bool.{Bool, true, false, not, _&&_}
+use mathlib.Core.List.{List, [], _∷_, map}
+use mathlib.Core.Logic.{_⊎_, inl, inr}
+use Prim.Native.Nat.{ℕ, zero, suc, _+_, _-_, _*_, _/_, _≤_, _<_}
+use native.Mathlib.Nat.{add-zero, sub-zero}
+use native.Mathlib.Omega.{arith}
+use lib.Dec.{ltb, leb}
+use lib.ListN.{length, getD, take, drop, length-map, List·getD-map}
+use lib.Seq.{getD-take, getD-drop, drop-drop}
+use borrow.Author.Tests.{lt-ltb, le-ltb, ltb-true, ltb-false, lt-leb, le-leb, leb-true, leb-false, not-false}
+use Rattle.common.specs.Promise.{Gives}
+use Rattle.common.specs.SearchLaws.{decide, and-true}
+use Rattle.common.specs.Entry.{flatten, rows, startOf, stopOf, shaped, Shaped, Shaping, putAt}
+use Rattle.common.specs.EntryLaws.{length-rows, rows-at, room-fits, length-put, shaped-holds, shaping-again, shaping-early, shaping-empty, shaping-long}
+use Rattle.context.specs.Region.{Region, Plain, pair, move, reaches, keepBefore, InOrder}
+use Rattle.context.specs.Build.{Puts, Put}
+use Rattle.amend.specs.Amended.{plainOf, listed, misshapen}
+use Rattle.amend.specs.Parts.{Orderly, Fair, between, Laid, Moves, Copies, Copied}
+use Rattle.amend.specs.Edits.{or-false}
+use Rattle.amend.specs.Starts.{order-later, order-longer, before-few, before-below, before-above, reach-none, reach-last}
+
+-- ---- rows and regions
+-- a region of no row
+abbrev pub nowhere : Plain
+nowhere = plainOf []
+
+-- the region that row i says
+abbrev pub rowAt : ℕ → List ℕ → Plain
+rowAt i l = record { start = getD l (i * 2 + 0) 0; stop = getD l (i * 2 + 1) 0; tag = tt }
+
+pub listed-length : (n : ℕ) (l : List ℕ) → length (listed n l) ≡ n
+unfolding listed
+listed-length n l = length-map (rows 2 n l) plainOf ∙ length-rows 2 n l
+
+module _ (n i : ℕ) (l : List ℕ) (h : i < n) where
+  pub listed-start : getD (listed n l) i nowhere .start ≡ getD l (i * 2 + 0) 0
+  unfolding listed
+  listed-start = ap (λ (r : Plain). r .start) (List·getD-map plainOf (rows 2 n l) i []) ∙ rows-at 2 n i 0 l h (omega arith)
+
+  pub listed-stop : getD (listed n l) i nowhere .stop ≡ getD l (i * 2 + 1) 0
+  unfolding listed
+  listed-stop = ap (λ (r : Plain). r .stop) (List·getD-map plainOf (rows 2 n l) i []) ∙ rows-at 2 n i 1 l h (omega arith)
+
+  row-says : plainOf (take 2 (drop (i * 2) l)) ≡ rowAt i l
+  row-says =
+      let a : startOf (take 2 (drop (i * 2) l)) ≡ getD l (i * 2 + 0) 0 = getD-take 2 (drop (i * 2) l) 0 0 (omega arith) ∙ getD-drop (i * 2) l 0 0 in
+      let b : stopOf (take 2 (drop (i * 2) l)) ≡ getD l (i * 2 + 1) 0 = getD-take 2 (drop (i * 2) l) 1 0 (omega arith) ∙ getD-drop (i * 2) l 1 0 in
+      rw (a, b)
+
+  -- the row that stands at i, and those behind it
+  pub between-next : between i n l ≡ rowAt i l ∷ between (i + 1) n l
+  unfolding listed
+  between-next =
+      let e : n - i ≡ suc (n - (i + 1)) = omega arith in
+      let f : (i + 1) * 2 ≡ i * 2 + 2 = omega arith in
+      rw (e, f, drop-drop 2 (i * 2) l) (ap (λ (r : Plain). r ∷ map plainOf (rows 2 (n - (i + 1)) (drop (i * 2 + 2) l))) row-says)
+
+pub between-none : (n i : ℕ) (l : List ℕ) → n ≤ i → between i n l ≡ []
+unfolding listed
+between-none n i l h =
+    let e : n - i ≡ 0 = omega arith in
+    ap (λ (m : ℕ). map plainOf (rows 2 m (drop (i * 2) l))) e
+
+-- the first of the regions, and the others
+pub listed-take : (n i : ℕ) (l : List ℕ) → i ≤ n → take i (listed n l) ≡ listed i l
+unfolding listed
+listed-take n zero l h = refl
+listed-take zero (suc i) l h = absurd (omega arith)
+listed-take (suc n) (suc i) l h = ap (λ (z : List Plain). plainOf (take 2 l) ∷ z) (listed-take n i (drop 2 l) (omega arith))
+
+pub listed-drop : (n i : ℕ) (l : List ℕ) → i ≤ n → drop i (listed n l) ≡ between i n l
+unfolding listed
+listed-drop n zero l h = rw sub-zero
+listed-drop zero (suc i) l h = absurd (omega arith)
+listed-drop (suc n) (suc i) l h =
+    let e : suc n - suc i ≡ n - i = omega arith in
+    let f : 2 + i * 2 ≡ suc i * 2 = omega arith in
+    listed-drop n i (drop 2 l) (omega arith) ∙ ap (λ (z : List ℕ). map plainOf (rows 2 (n - i) z)) (drop-drop (i * 2) 2 l ∙ ap (λ (k : ℕ). drop k l) f) ∙ ap (λ (m : ℕ). map plainOf (rows 2 m (drop (suc i * 2) l))) (sym e)
+
+pub between-zero : (n : ℕ) (l : List ℕ) → between 0 n l ≡ listed n l
+between-zero n l = rw sub-zero
+
+-- ---- lists in order
+ordered : (from len : ℕ) (l : List (List ℕ)) → Shaped from len l → InOrder from len (map plainOf l)
+ordered from len [] w = tt
+ordered from len (r ∷ l) w = (w .0, w .1, w .2, ordered (stopOf r) len l (w .3))
+
+pub misshapen-over : (l : List ℕ) (n len : ℕ) → length l / 2 < n → true ≡ misshapen l n len
+unfolding misshapen
+misshapen-over l n len h = rw (lt-ltb (length l / 2) n h)
+
+module _ (l : List ℕ) (n len : ℕ) (h : n ≤ length l / 2) (y : Bool) where
+  pub misshapen-no : y ≡ true → Gives (shaped 0 len (rows 2 n l)) y → false ≡ misshapen l n len
+  unfolding misshapen
+  misshapen-no e g = rw (le-ltb (length l / 2) n h, ← (g .answer), e)
+
+  pub misshapen-yes : y ≡ false → Gives (shaped 0 len (rows 2 n l)) y → true ≡ misshapen l n len
+  unfolding misshapen
+  misshapen-yes e g = rw (le-ltb (length l / 2) n h, ← (g .answer), e)
+
+-- a list that is not misshapen
+pub orderly-told : (l : List ℕ) (n len : ℕ) → misshapen l n len ≡ false → Orderly l n len
+unfolding misshapen listed
+orderly-told l n len e =
+    let w = or-false (ltb (length l / 2) n) (not (shaped 0 len (rows 2 n l))) e in
+    record { roomy = room-fits 2 n l (ltb-false (length l / 2) n (w .0)); order = ordered 0 len (rows 2 n l) (shaped-holds 0 len (rows 2 n l) (not-false (shaped 0 len (rows 2 n l)) (w .1))) }
+
+pub orderly-longer : (l : List ℕ) (n len m : ℕ) → len ≤ m → Orderly l n len → Orderly l n m
+orderly-longer l n len m h w = record { roomy = w .roomy; order = order-longer 0 len m (listed n l) h (w .order) }
+
+pub fair : (l : List ℕ) (n len : ℕ) (y : Bool) → len ≤ 4294967295 → y ≡ false → Gives (misshapen l n len) y → Fair l n len
+fair l n len y h e g = record { shape = sym (g .answer) ∙ e; short = h }
+
+pub fair-orderly : {l : List ℕ} {n len : ℕ} → Fair l n len → Orderly l n 4294967295
+fair-orderly {l} {n} {len} w = orderly-longer l n len 4294967295 (w .short) (orderly-told l n len (w .shape))
+
+-- ---- the loop that tests: a and b are the numbers that were read of row k
+module _ (low a b len : ℕ) where
+  pub follow-early : a < low → false ≡ (leb low a && ltb a b && leb b len)
+  follow-early h = rw (lt-leb low a h)
+
+  module _ (l : low ≤ a) where
+    pub follow-empty : b ≤ a → false ≡ (leb low a && ltb a b && leb b len)
+    follow-empty h = rw (le-leb low a l, le-ltb a b h)
+
+    pub follow-on : a < b → leb b len ≡ (leb low a && ltb a b && leb b len)
+    follow-on h = rw (le-leb low a l, lt-ltb a b h)
+
+module _ {n len from k low : ℕ} {l : List ℕ} (a b : ℕ) (y : Bool) where
+  pub tested-again : y ≡ true → Gives (leb low a && ltb a b && leb b len) y → Gives (getD l (k * 2 + 0) 0) a → Gives (getD l (k * 2 + 1) 0) b → Shaping 2 l n len from k low → k < n
+      → Shaping 2 l n len from (k + 1) b
+  tested-again e g ga gb i h =
+      let t = and-true (leb low a && ltb a b) (leb b len) (sym (g .answer) ∙ e) in
+      let u = and-true (leb low a) (ltb a b) (t .0) in
+      let c : a ≡ getD l (k * 2) 0 = rw add-zero at (ga .answer) in
+      rw (gb .answer) (shaping-again i h (omega (arith, leb-true low a (u .0))) (omega (arith, gb .answer, ltb-true a b (u .1))) (omega (arith, gb .answer, leb-true b len (t .1))))
+
+  pub tested-not : y ≡ false → Gives (leb low a && ltb a b && leb b len) y → Gives (getD l (k * 2 + 0) 0) a → Gives (getD l (k * 2 + 1) 0) b → Shaping 2 l n len from k low → k < n
+      → false ≡ shaped from len (rows 2 n l)
+  tested-not e g ga gb i h =
+      by (decide (leb low a)) (decide (ltb a b))
+    where
+      c : a ≡ getD l (k * 2) 0
+      c = rw add-zero at (ga .answer)
+
+      by : (leb low a ≡ true) ⊎ (leb low a ≡ false) → (ltb a b ≡ true) ⊎ (ltb a b ≡ false) → false ≡ shaped from len (rows 2 n l)
+      by (inr u) v = shaping-early i h (omega (arith, c, leb-false low a u))
+      by (inl u) (inr v) = shaping-empty i h (omega (arith, c, gb .answer, ltb-false a b v))
+      by (inl u) (inl v) =
+          let z : leb b len ≡ false = sym (g .answer ∙ rw (u, v)) ∙ e in
+          shaping-long i h (omega (arith, gb .answer, leb-false b len z))
+
+-- ---- the loop that halves: the regions that start before k are at least `low` and at most `high`
+pub record Halving (l : List ℕ) (n k low high : ℕ) : Type 0 where
+  pub list : Orderly l n 4294967295
+  pub below : low ≤ length (keepBefore k (listed n l))
+  pub above : length (keepBefore k (listed n l)) ≤ high
+  pub within : high ≤ n
+
+abbrev middle : ℕ → ℕ → ℕ
+middle low high = low + (high - low) / 2
+
+pub halving-first : (l : List ℕ) (n k : ℕ) → Orderly l n 4294967295 → Halving l n k 0 n
+halving-first l n k w = record { list = w; below = omega arith; above = omega (arith, before-few k (listed n l), listed-length n l); within = omega arith }
+
+module _ (l : List ℕ) (n k low high : ℕ) (i : Halving l n k low high) where
+  pub halving-end : high ≤ low → low ≡ length (keepBefore k (listed n l))
+  halving-end h = omega (arith, i .below, i .above)
+
+  module _ (h : low < high) (a : ℕ) (g : Gives (getD l (middle low high * 2 + 0) 0) a) where
+    at : middle low high < n
+    at = omega (arith, i .within)
+
+    says : getD (listed n l) (middle low high) nowhere .start ≡ a
+    says = listed-start n (middle low high) l at ∙ sym (g .answer)
+
+    pub halving-low : a < k → Halving l n k (middle low high + 1) high
+    halving-low x =
+        let b = before-below k nowhere 0 4294967295 (middle low high) (listed n l) (i .list .order) (omega (arith, at, listed-length n l)) (omega (arith, says)) in
+        record { list = i .list; below = omega (arith, b); above = i .above; within = i .within }
+
+    pub halving-high : k ≤ a → Halving l n k low (middle low high)
+    halving-high x =
+        let b = before-above k nowhere 0 4294967295 (middle low high) (listed n l) (i .list .order) (omega (arith, at, listed-length n l)) (omega (arith, says)) in
+        record { list = i .list; below = i .below; above = b; within = omega (arith, at) }
+
+-- ---- the regions that reach a place: n of them start before it
+module _ (l : List ℕ) (count k n : ℕ) (w : Orderly l count 4294967295) (g : Gives (length (keepBefore k (listed count l))) n) where
+  pub reached-none : n ≡ 0 → false ≡ reaches k (listed count l)
+  reached-none e = sym (reach-none k (listed count l) (omega (arith, g .answer)))
+
+  pub reached-last : (a : ℕ) → (n ≡ 0 → ⊥) → Gives (getD l ((n - 1) * 2 + 1) 0) a → leb k a ≡ reaches k (listed count l)
+  reached-last a z h =
+      let m : length (keepBefore k (listed count l)) ≡ suc (n - 1) = omega (arith, g .answer) in
+      let few = before-few k (listed count l) in
+      let b : a ≡ getD (listed count l) (n - 1) nowhere .stop = h .answer ∙ sym (listed-stop count (n - 1) l (omega (arith, g .answer, listed-length count l))) in
+      ap (leb k) b ∙ sym (reach-last k nowhere 0 4294967295 (n - 1) (listed count l) (w .order) m)
+
+  -- the last of them lies in the list
+  pub reached-inside : (n ≡ 0 → ⊥) → (n - 1) * 2 + 1 < length l
+  reached-inside z = omega (arith, g .answer, before-few k (listed count l), listed-length count l, w .roomy)
+
+-- ---- regions written one after the other
+-- of the regions l, to be written from row n on, `rest` is still to be written, from row m on
+pub record Laying {T : Type 0} (l rest : List (Region T)) (n m : ℕ) (out₀ out : List ℕ) : Type 0 where
+  pub same : putAt (n * 2) (flatten pair l) out₀ ≡ putAt (m * 2) (flatten pair rest) out
+  pub count : n + length l ≡ m + length rest
+  pub long : length out ≡ length out₀
+  pub room : m * 2 + length rest * 2 ≤ length out
+
+module _ {T : Type 0} {l : List (Region T)} {n : ℕ} {out₀ : List ℕ} where
+  pub laying-first : n * 2 + length l * 2 ≤ length out₀ → Laying l l n n out₀ out₀
+  laying-first h = record { same = refl; count = refl; long = refl; room = h }
+
+  pub laying-put : {rest : List (Region T)} {m m′ : ℕ} {out out′ : List ℕ} (r : Region T) → Laying l (r ∷ rest) n m out₀ out → Put m (r .start) (r .stop) out out′ m′ → Laying l rest n m′ out₀ out′
+  laying-put {rest} {m} {m′} {out} {out′} r i p =
+      let e : m′ * 2 ≡ m * 2 + 1 + 1 = omega (arith, p .next) in
+      let z : length out′ ≡ length out = ap length (p .list) ∙ length-put (m * 2) (r .start ∷ r .stop ∷ []) out in
+      record {
+        same = i .same ∙ rw (p .list, e);
+        count = omega (arith, i .count, p .next);
+        long = z ∙ i .long;
+        room = omega (arith, i .room, p .next, z);
+      }
+
+  pub laying-end : {m : ℕ} {out : List ℕ} → Laying l [] n m out₀ out → Laid l n out₀ out m
+  laying-end i = record { next = omega (arith, i .count); list = sym (i .same) }
+
+-- ---- the loop that copies rows: it stands at row i of the list l, and at row m of `out`
+pub record Copying (l : List ℕ) (from to down up row : ℕ) (out₀ out : List ℕ) (i m : ℕ) : Type 0 where
+  pub ahead : i ≤ to
+  pub inside : to * 2 ≤ length l
+  pub order : InOrder down (4294967295 + down - up) (between i to l)
+  pub laying : Laying (map (move (λ x. x + up - down)) (between from to l)) (map (move (λ x. x + up - down)) (between i to l)) row m out₀ out
+
+module _ {l : List ℕ} {from to down up row : ℕ} {out₀ : List ℕ} where
+  pub copying-first : Copies l from to down up out₀ row → Copying l from to down up row out₀ out₀ from row
+  copying-first w =
+      record {
+        ahead = w .ahead;
+        inside = w .inside;
+        order = w .order;
+        laying = laying-first (omega (arith, w .room, length-map (between from to l) (move (λ x. x + up - down)), listed-length (to - from) (drop (from * 2) l)));
+      }
+
+  module _ {out : List ℕ} {i m : ℕ} (w : Copying l from to down up row out₀ out i m) where
+    pub copying-same : length out ≡ length out₀
+    copying-same = w .laying .long
+
+    pub copying-end : to ≤ i → Copied l from to down up row out₀ out m
+    copying-end h = laying-end (subst (λ (z : List Plain). Laying (map (move (λ x. x + up - down)) (between from to l)) (map (move (λ x. x + up - down)) z) row m out₀ out) (between-none to i l h) (w .laying))
+
+    module _ (h : i < to) where
+      -- what is known of row i
+      one : InOrder down (4294967295 + down - up) (rowAt i l ∷ between (i + 1) to l)
+      one = subst (InOrder down (4294967295 + down - up)) (between-next to i l h) (w .order)
+
+      next : Laying (map (move (λ x. x + up - down)) (between from to l)) (move (λ x. x + up - down) (rowAt i l) ∷ map (move (λ x. x + up - down)) (between (i + 1) to l)) row m out₀ out
+      next = subst (λ (z : List Plain). Laying (map (move (λ x. x + up - down)) (between from to l)) (map (move (λ x. x + up - down)) z) row m out₀ out) (between-next to i l h) (w .laying)
+
+      -- what was read of row i may be moved
+      pub start-moves : (a : ℕ) → Gives (getD l (i * 2 + 0) 0) a → Moves a down up
+      start-moves a g = record { low = omega (arith, g .answer, one .0); high = omega (arith, g .answer, one .0, one .1, one .2) }
+
+      pub stop-moves : (b : ℕ) → Gives (getD l (i * 2 + 1) 0) b → Moves b down up
+      stop-moves b g = record { low = omega (arith, g .answer, one .0, one .1); high = omega (arith, g .answer, one .0, one .1, one .2) }
+
+      module _ (x y a b : ℕ) where
+        pub copying-puts : Gives (a + up - down) x → Gives (b + up - down) y → Gives (getD l (i * 2 + 0) 0) a → Gives (getD l (i * 2 + 1) 0) b → Puts m x y out
+        copying-puts gx gy ga gb =
+            record {
+              room = omega (arith, next .room);
+              low = omega (arith, gx .answer, ga .answer, one .0, one .1, one .2);
+              high = omega (arith, gy .answer, gb .answer, one .0, one .1, one .2);
+            }
+
+        pub copying-again : (m′ : ℕ) (out′ : List ℕ) → Put m x y out out′ m′ → Gives (a + up - down) x → Gives (b + up - down) y → Gives (getD l (i * 2 + 0) 0) a → Gives (getD l (i * 2 + 1) 0) b
+            → Copying l from to down up row out₀ out′ (i + 1) m′
+        copying-again m′ out′ p gx gy ga gb =
+            let q : Put m (getD l (i * 2 + 0) 0 + up - down) (getD l (i * 2 + 1) 0 + up - down) out out′ m′ = rw (← (ga .answer), ← (gb .answer), ← (gx .answer), ← (gy .answer)) p in
+            record {
+              ahead = omega arith;
+              inside = w .inside;
+              order = order-later down (getD l (i * 2 + 1) 0) (4294967295 + down - up) (between (i + 1) to l) (omega (arith, one .0, one .1)) (one .3);
+              laying = laying-put (move (λ x. x + up - down) (rowAt i l)) next q;
+            }

@@ -1,0 +1,225 @@
+-- Laws of settling an amendment whose cuts are judged: what is written in three parts is the list asked for, and the ways out. Assumes nothing.
+use mathlib.Core.Path.{_≡_, refl, sym, ap, subst, _∙_}
+use mathlib.Core.Bool.{Bool, true, false, not, _&&_}
+use mathlib.Core.List.{List, [], _∷_, _++_, map, append-nil}
+use Prim.Native.Nat.{ℕ, _+_, _-_, _*_, _/_, _^_, _≤_, _<_}
+use native.Mathlib.Omega.{arith}
+use mir.Val.{Fits}
+use mir.Syntax.{w64}
+use lib.Dec.{ltb}
+use lib.ListN.{length, take, drop, length-append, length-map}
+use borrow.Author.Tests.{lt-ltb, le-ltb}
+use Rattle.common.specs.Promise.{Gives}
+use Rattle.common.specs.Refusals.{given, refused}
+use Rattle.common.specs.Entry.{flatten, over, putAt, Written as Front}
+use Rattle.common.specs.EntryLaws.{length-flatten, length-put, written-none, written-put, written-all}
+use Rattle.context.specs.Region.{Region, Plain, dropTag, pair, move, up, reaches, keepBefore, keepFrom, InOrder}
+use Rattle.context.specs.Grammar.{Gram}
+use Rattle.context.specs.Regions.{regions}
+use Rattle.context.specs.Ahead.{regions-few}
+use Rattle.amend.specs.Amend.{afterEmptyLine, joint}
+use Rattle.amend.specs.Amended.{listed, plainRegions, edit, amendedRegions, leftOpen, crowded}
+use Rattle.amend.specs.Parts.{Orderly, between, Laid, Copies, Copied, Owns, surveyed, openEnd, Ready, settledAnswer, Settled, parts, Roomy, Merged}
+use Rattle.amend.specs.Lists.{stay, drop-up, drop-reaches}
+use Rattle.amend.specs.Starts.{order-longer, order-take, before-take, from-drop, order-from, before-few, unless-end}
+use Rattle.amend.specs.RowLaws.{orderly-longer, listed-length, listed-take, listed-drop, between-zero}
+use Rattle.amend.specs.declared.own.Counted.{Counted}
+
+-- ---- numbers written
+pub pair-two : {T : Type 0} (r : Region T) → length (pair r) ≡ 2
+pair-two r = refl
+
+flatten-append : {T : Type 0} (a b : List (Region T)) → flatten pair (a ++ b) ≡ flatten pair a ++ flatten pair b
+flatten-append [] b = refl
+flatten-append (r ∷ a) b = ap (λ (z : List ℕ). r .start ∷ r .stop ∷ z) (flatten-append a b)
+
+-- the numbers of regions are those of the regions without their tags
+pub flatten-drop : {T : Type 0} (l : List (Region T)) → flatten pair (map dropTag l) ≡ flatten pair l
+flatten-drop [] = refl
+flatten-drop (r ∷ l) = ap (λ (z : List ℕ). r .start ∷ r .stop ∷ z) (flatten-drop l)
+
+put-append : (k : ℕ) (a b out : List ℕ) → putAt (k + length a) b (putAt k a out) ≡ putAt k (a ++ b) out
+put-append k [] b out =
+    let e : k + 0 ≡ k = omega arith in
+    rw e
+put-append k (x ∷ a) b out =
+    let e : k + length (x ∷ a) ≡ k + 1 + length a = omega arith in
+    rw e (put-append (k + 1) a b _)
+
+put-over : (l out : List ℕ) → length l ≤ length out → putAt 0 l out ≡ over l out
+put-over l out h = written-all (written-put l (subst (λ (z : List ℕ). Front l z out out 0) (sym (append-nil l)) (written-none h)))
+
+-- ---- regions written
+module _ {T : Type 0} {l : List (Region T)} {n : ℕ} {out out′ : List ℕ} {m : ℕ} (w : Laid l n out out′ m) where
+  laid-long : length out′ ≡ length out
+  laid-long = ap length (w .list) ∙ length-put (n * 2) (flatten pair l) out
+
+  -- the place after them
+  laid-place : m * 2 ≡ n * 2 + length (flatten pair l)
+  laid-place = omega (arith, w .next, length-flatten pair 2 pair-two l)
+
+-- without their tags
+laid-drop : {T : Type 0} {l : List (Region T)} {n : ℕ} {out out′ : List ℕ} {m : ℕ} → Laid l n out out′ m → Laid (map dropTag l) n out out′ m
+laid-drop {l = l} {n = n} {out = out} w = record { next = omega (arith, w .next, length-map l dropTag); list = w .list ∙ ap (λ (z : List ℕ). putAt (n * 2) z out) (sym (flatten-drop l)) }
+
+-- one list behind the other
+laid-both : {T : Type 0} {a b : List (Region T)} {n m k : ℕ} {out out′ out″ : List ℕ} → Laid a n out out′ m → Laid b m out′ out″ k → Laid (a ++ b) n out out″ k
+laid-both {a = a} {b = b} {n = n} {m = m} {out = out} v w =
+    record {
+      next = omega (arith, v .next, w .next, length-append a b);
+      list =
+          w .list ∙ ap (putAt (m * 2) (flatten pair b)) (v .list)
+          ∙ ap (λ (k : ℕ). putAt k (flatten pair b) (putAt (n * 2) (flatten pair a) out)) (laid-place v)
+          ∙ put-append (n * 2) (flatten pair a) (flatten pair b) out
+          ∙ ap (λ (z : List ℕ). putAt (n * 2) z out) (sym (flatten-append a b));
+    }
+
+laid-over : {T : Type 0} {l : List (Region T)} {out out′ : List ℕ} {m : ℕ} → Laid l 0 out out′ m → length l * 2 ≤ length out → out′ ≡ over (flatten pair l) out
+laid-over {l = l} {out = out} w h = w .list ∙ put-over (flatten pair l) out (omega (arith, length-flatten pair 2 pair-two l))
+
+-- ---- the three parts
+module _ {g : Gram} {l : List ℕ} {n before after first second : ℕ} {r out : List ℕ} (w : Roomy g l n before after first second r out) where
+  rows-kept : length (map (move (λ x. x + 0 - 0)) (between 0 before l)) ≡ before
+  rows-kept = length-map (between 0 before l) (move (λ x. x + 0 - 0)) ∙ omega (arith, listed-length (before - 0) (drop (0 * 2) l))
+
+  rows-own : length (up first (regions g r)) ≡ length (regions g r)
+  rows-own = length-map (regions g r) (move (λ x. first + x))
+
+  rows-moved : length (map (move (λ x. x + (first + length r) - second)) (between after n l)) ≡ n - after
+  rows-moved = length-map (between after n l) (move (λ x. x + (first + length r) - second)) ∙ listed-length (n - after) (drop (after * 2) l)
+
+  module _ {kept : ℕ} {out′ : List ℕ} (a : Copied l 0 before 0 0 0 out out′ kept) where
+    pub own-asks : Owns (regions g r) r first out′ kept
+    own-asks = record { fits = w .own .fits; room = omega (arith, w .own .room, a .next, rows-kept, laid-long a) }
+
+    module _ {own : ℕ} {out″ : List ℕ} (b : Laid (up first (regions g r)) kept out′ out″ own) where
+      pub moved-asks : Copies l after n second (first + length r) out″ own
+      moved-asks =
+          record {
+            ahead = w .moved .ahead;
+            inside = w .moved .inside;
+            order = w .moved .order;
+            room = omega (arith, w .moved .room, a .next, b .next, rows-kept, rows-own, laid-long a, laid-long b);
+          }
+
+      pub all-written : {k : ℕ} {out‴ : List ℕ} → Copied l after n second (first + length r) own out″ out‴ k → Merged g l n before after first second r out out‴ k
+      unfolding parts
+      all-written {k} {out‴} c =
+          let A = map (move (λ x. x + 0 - 0)) (between 0 before l) in
+          let B = up first (plainRegions g r) in
+          let C = map (move (λ x. x + (first + length r) - second)) (between after n l) in
+          let b′ : Laid B kept out′ out″ own = subst (λ (z : List Plain). Laid z kept out′ out″ own) (drop-up first (regions g r)) (laid-drop b) in
+          let all : Laid (A ++ (B ++ C)) 0 out out‴ k = laid-both a (laid-both b′ c) in
+          let size : length (A ++ (B ++ C)) ≡ before + length (regions g r) + (n - after) = omega (arith, all .next, a .next, b .next, c .next, rows-kept, rows-own, rows-moved) in
+          record { count = omega (arith, all .next); list = laid-over all (omega (arith, size, w .moved .room)) }
+
+-- ---- a replacement's end
+open-same : (eol : ℕ) (g : Gram) (len first second : ℕ) (r : List ℕ) → leftOpen eol (plainRegions g) len (edit first second r) ≡ openEnd eol (ltb second len) r (reaches (length r) (regions g r))
+unfolding leftOpen joint
+open-same eol g len first second r = ap (λ (y : Bool). ltb second len && not (afterEmptyLine eol r (length r) && not y)) (drop-reaches (length r) (regions g r))
+
+module _ (eol : ℕ) (g : Gram) (len first second : ℕ) (r : List ℕ) (own : Counted) (y : Bool) (c : Gives (surveyed g r) own) (h : Gives (openEnd eol (ltb second len) r (own .reaching)) y) where
+  open-told : leftOpen eol (plainRegions g) len (edit first second r) ≡ y
+  open-told = open-same eol g len first second r ∙ ap (λ (w : Counted). openEnd eol (ltb second len) r (w .reaching)) (sym (c .answer)) ∙ sym (h .answer)
+
+  pub settled-open : (l : List Plain) (out : List ℕ) → y ≡ true → Settled eol len (plainRegions g) l (edit first second r) out out (refused 8)
+  unfolding settledAnswer
+  settled-open l out e = record { answer = simp (open-told, e); list = simp (open-told, e) }
+
+-- ---- cuts that may be made
+pub ready-orderly : {l : List ℕ} {n first second len : ℕ} {r : List ℕ} → Ready l n first second len r → Orderly l n 4294967295
+ready-orderly {l} {n} {len = len} w = orderly-longer l n len 4294967295 (w .short) (w .orderly)
+
+pub starts-few : (l : List ℕ) (n k a : ℕ) → Gives (length (keepBefore k (listed n l))) a → a ≤ n
+starts-few l n k a g = omega (arith, g .answer, before-few k (listed n l), listed-length n l)
+
+-- the rows before, and the rows from `after` on
+module _ (g : Gram) (l : List ℕ) (n first second len : ℕ) (r : List ℕ) (ready : Ready l n first second len r) (before after : ℕ)
+    (hb : Gives (length (keepBefore first (listed n l))) before) (ha : Gives (length (keepBefore second (listed n l))) after) where
+  few-before : before ≤ n
+  few-before = starts-few l n first before hb
+
+  few-after : after ≤ n
+  few-after = starts-few l n second after ha
+
+  front : between 0 before l ≡ keepBefore first (listed n l)
+  front =
+      between-zero before l ∙ sym (listed-take n before l few-before) ∙ ap (λ (k : ℕ). take k (listed n l)) (hb .answer)
+      ∙ sym (before-take first 0 len (listed n l) (ready .orderly .order))
+
+  rest : between after n l ≡ keepFrom second (listed n l)
+  rest =
+      sym (listed-drop n after l few-after) ∙ ap (λ (k : ℕ). drop k (listed n l)) (ha .answer)
+      ∙ sym (from-drop second 0 len (listed n l) (ready .orderly .order))
+
+  -- what is written in three parts is the list asked for
+  parts-same : parts g l n before after first second r ≡ amendedRegions (plainRegions g) len (edit first second r) (listed n l)
+  unfolding parts amendedRegions
+  parts-same =
+      ap (λ (z : List Plain). z ++ (up first (plainRegions g r) ++ map (move (λ x. x + (first + length r) - second)) (between after n l))) (stay (between 0 before l) ∙ front)
+      ∙ ap (λ (z : List Plain). keepBefore first (listed n l) ++ (up first (plainRegions g r) ++ z)) (ap (map (move (λ x. x + (first + length r) - second))) rest ∙ unless-end (λ x. x + (first + length r) - second) second len 0 (listed n l) (ready .inside) (ready .orderly .order))
+
+  total : length (amendedRegions (plainRegions g) len (edit first second r) (listed n l)) ≡ before + length (regions g r) + (n - after)
+  unfolding parts
+  total =
+      let A = map (move (λ x. x + 0 - 0)) (between 0 before l) in
+      let B = up first (plainRegions g r) in
+      let C = map (move (λ x. x + (first + length r) - second)) (between after n l) in
+      let a = length-map (between 0 before l) (move (λ x. x + 0 - 0)) ∙ listed-length (before - 0) (drop (0 * 2) l) in
+      let b = length-map (plainRegions g r) (move (λ x. first + x)) ∙ length-map (regions g r) dropTag in
+      let c = length-map (between after n l) (move (λ x. x + (first + length r) - second)) ∙ listed-length (n - after) (drop (after * 2) l) in
+      sym (ap length parts-same) ∙ omega (arith, length-append A (B ++ C), length-append B C, a, b, c)
+
+  module _ (own : Counted) (c : Gives (surveyed g r) own) (out : List ℕ) where
+    counted : own .count ≡ length (regions g r)
+    counted = ap (λ (w : Counted). w .count) (c .answer)
+
+    -- the sums that the room is compared with fit
+    module _ (held : length l * 4 < 2 ^ 63) where
+      pub two-fit : Fits w64 (before + own .count)
+      two-fit = record { fits = omega (arith, counted, few-before, ready .orderly .roomy, ready .small, regions-few g r) }
+
+      pub three-fit : Fits w64 (before + own .count + (n - after))
+      three-fit = record { fits = omega (arith, counted, few-before, ready .orderly .roomy, ready .small, regions-few g r) }
+
+    pub roomy : before + own .count + (n - after) ≤ length out / 2 → Roomy g l n before after first second r out
+    roomy h =
+        record {
+          kept =
+              record {
+                ahead = omega arith;
+                inside = omega (arith, few-before, ready .orderly .roomy);
+                order = subst (InOrder 0 (4294967295 + 0 - 0)) (listed-take n before l few-before ∙ sym (between-zero before l)) (order-take 0 4294967295 before (listed n l) (order-longer 0 len 4294967295 (listed n l) (ready .short) (ready .orderly .order)));
+                room = omega (arith, counted);
+              };
+          own = record { fits = omega (arith, ready .small, ready .cuts, ready .inside); room = omega (arith, counted) };
+          moved =
+              record {
+                ahead = few-after;
+                inside = ready .orderly .roomy;
+                order =
+                    subst (InOrder second (4294967295 + second - (first + length r))) (sym rest)
+                    (order-longer second len (4294967295 + second - (first + length r)) (keepFrom second (listed n l)) (omega (arith, ready .small, ready .cuts, ready .inside)) (order-from second 0 len (listed n l) (ready .orderly .order)));
+                room = omega (arith, counted);
+              };
+        }
+
+    module _ (eol : ℕ) (y : Bool) (e : y ≡ false) (o : Gives (openEnd eol (ltb second len) r (own .reaching)) y) where
+      shut : leftOpen eol (plainRegions g) len (edit first second r) ≡ false
+      shut = open-told eol g len first second r own y c o ∙ e
+
+      pub settled-full : length out / 2 < before + own .count + (n - after) → Settled eol len (plainRegions g) (listed n l) (edit first second r) out out (refused 3)
+      unfolding settledAnswer
+      settled-full h =
+          let f : crowded (amendedRegions (plainRegions g) len (edit first second r) (listed n l)) out ≡ true = lt-ltb (length out / 2) (length (amendedRegions (plainRegions g) len (edit first second r) (listed n l))) (omega (arith, total, counted)) in
+          record { answer = simp (shut, f); list = simp (shut, f) }
+
+      pub settled-done : (out′ : List ℕ) (k : ℕ) → before + own .count + (n - after) ≤ length out / 2 → Merged g l n before after first second r out out′ k
+          → Settled eol len (plainRegions g) (listed n l) (edit first second r) out out′ (given (k ∷ []))
+      unfolding settledAnswer
+      settled-done out′ k h w =
+          let f : crowded (amendedRegions (plainRegions g) len (edit first second r) (listed n l)) out ≡ false = le-ltb (length out / 2) (length (amendedRegions (plainRegions g) len (edit first second r) (listed n l))) (omega (arith, total, counted)) in
+          record {
+            answer = ap (λ (m : ℕ). given (m ∷ [])) (w .count ∙ ap length parts-same) ∙ simp (shut, f);
+            list = w .list ∙ ap (λ (z : List Plain). over (flatten pair z) out) parts-same ∙ simp (shut, f);
+          }

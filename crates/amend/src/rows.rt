@@ -1,0 +1,148 @@
+// A list as rows of two numbers: a region's start and its end.
+ghost use mathlib.Core.Bool.{_&&_};
+ghost use Prim.Native.Nat.{_+_, _-_, _*_, _≤_, _<_};
+ghost use lib.Dec.{ltb, leb};
+ghost use lib.ListN.{length, getD};
+ghost use Rattle.common.specs.Promise.{Gives};
+ghost use Rattle.common.specs.Entry.{rows, shaped};
+ghost use Rattle.context.specs.Region.{keepBefore};
+ghost use Rattle.context.specs.Build.{Puts, Put};
+ghost use Rattle.amend.specs.Amended.{listed, misshapen};
+ghost use Rattle.amend.specs.Parts.{Orderly, Moves, Copies, Copied};
+
+// The column of a region's start.
+const START: usize = 0;
+
+// The column of its end.
+pub(crate) const END: usize = 1;
+
+// A number of a list as a place.
+fn place_of(number: u32) -> usize
+    ensures { λ r. ⌜ Gives number r ⌝ }
+{
+    number as usize
+}
+
+// The number at column `j` of row `i`.
+pub(crate) fn number(list: &[u32], i: usize, j: usize) -> usize
+    requires { ⌜ i * 2 + j < length (now list) ⌝ }
+    ensures { λ r. ⌜ Gives (getD (now (list .entry)) (i * 2 + j) 0) r ⌝ }
+{
+    place_of(list[i * 2 + j])
+}
+
+// Whether a region from `start` up to `end` may follow one that ends at `low`, in a text of `len` bytes.
+fn may_follow(low: usize, start: usize, end: usize, len: usize) -> bool
+    ensures { λ r. ⌜ Gives (leb low start && ltb start end && leb end len) r ⌝ }
+{
+    if start < low {
+        return false;
+    }
+    if end <= start {
+        return false;
+    }
+    end <= len
+}
+
+// Whether the first `count` regions are sorted, apart, none of them empty, and within `len`.
+fn in_order(list: &[u32], count: usize, len: usize) -> bool
+    requires { ⌜ count * 2 ≤ length (now list) ⌝ }
+    ensures { λ r. ⌜ Gives (shaped 0 len (rows 2 count (now (list .entry)))) r ⌝ }
+{
+    let mut low = 0;
+    let mut k = 0;
+    while k < count {
+        let start = number(list, k, START);
+        let end = number(list, k, END);
+        if may_follow(low, start, end, len) {
+            low = end;
+            k += 1;
+            continue;
+        }
+        return false;
+    }
+    true
+}
+
+// Whether the stated count is over the list's room, or the regions are no list of a text of `len` bytes.
+pub(crate) fn is_misshapen(list: &[u32], count: usize, len: usize) -> bool
+    ensures { λ r. ⌜ Gives (misshapen (now (list .entry)) count len) r ⌝ }
+{
+    if list.len() / 2 < count {
+        return true;
+    }
+    if in_order(list, count, len) {
+        return false;
+    }
+    true
+}
+
+// How many regions start before `k`. They are sorted, so that halving finds it.
+pub(crate) fn starts_before(list: &[u32], count: usize, k: usize) -> usize
+    requires { ⌜ Orderly (now list) count 4294967295 ⌝ }
+    ensures { λ r. ⌜ Gives (length (keepBefore k (listed count (now (list .entry))))) r ⌝ }
+{
+    let mut low = 0;
+    let mut high = count;
+    while low < high {
+        let middle = low + (high - low) / 2;
+        if number(list, middle, START) < k {
+            low = middle + 1;
+            continue;
+        }
+        high = middle;
+    }
+    low
+}
+
+// Writes row `n`, and answers the next row's number.
+fn put(out: &mut [u32], n: usize, start: usize, end: usize) -> usize
+    requires { ⌜ Puts n start end (now out) ⌝ }
+    ensures { λ r. ⌜ Put n start end (now (out .entry)) (now (out .exit)) r ⌝ }
+{
+    let k = n * 2;
+    out[k] = start as u32;
+    out[k + 1] = end as u32;
+    n + 1
+}
+
+// Writes row `n` with both places moved up by `by`.
+pub(crate) fn put_moved(out: &mut [u32], n: usize, start: usize, end: usize, by: usize) -> usize
+    requires { ⌜ Puts n (start + by) (end + by) (now out) ⌝ }
+    ensures { λ r. ⌜ Put n (start + by) (end + by) (now (out .entry)) (now (out .exit)) r ⌝ }
+{
+    put(out, n, start + by, end + by)
+}
+
+// A place, lowered by `down` and raised by `up`: in this order, so that no step leaves the range.
+fn moved(place: usize, down: usize, up: usize) -> usize
+    requires { ⌜ Moves place down up ⌝ }
+    ensures { λ r. ⌜ Gives (place + up - down) r ⌝ }
+{
+    place - down + up
+}
+
+// Copies the rows from `from` up to `to`, each place lowered by `down` and raised by `up`, to row `row` of `out` and on. Answers
+// the row after them.
+pub(crate) fn copy_rows(
+    list: &[u32],
+    from: usize,
+    to: usize,
+    down: usize,
+    up: usize,
+    out: &mut [u32],
+    row: usize,
+) -> usize
+    requires { ⌜ Copies (now list) from to down up (now out) row ⌝ }
+    ensures { λ r. ⌜ Copied (now (list .entry)) from to down up row (now (out .entry)) (now (out .exit)) r ⌝ }
+{
+    let mut i = from;
+    let mut n = row;
+    while i < to {
+        let start = moved(number(list, i, START), down, up);
+        let end = moved(number(list, i, END), down, up);
+        n = put(out, n, start, end);
+        i += 1;
+    }
+    n
+}
