@@ -111,9 +111,9 @@ module _ (eol sep tab : ℕ) (t : ℕ → Bool) (s : List ℕ) (q : ℕ) where
 pub ruleset line-rules = (line-none, line-blank, line-passed, line-bare, line-found)
 
 -- ---- every turn moves on within the text
--- where an item's content lies that is found before n
+-- where an item's content lies that is found between q and n: behind its marker and the byte after that
 abbrev pub Lies : ℕ → ℕ → MarkerItem → Type 0
-Lies q n i = (i .span .start ≤ i .span .end) × (i .span .end ≤ n)
+Lies q n i = (i .span .start ≤ i .span .end) × (i .span .end ≤ n) × (q + 2 ≤ i .span .start)
 
 module _ (g : ItemGrammar) (s : List ℕ) where
   hit-ahead : (q p : ℕ) → q ≤ p → p < length s → Ahead Lies q (length s) (streamHit g s p)
@@ -124,7 +124,7 @@ module _ (g : ItemGrammar) (s : List ℕ) where
       let m = holds-true (blank g) s (p + 1) (v .1) .0 in
       let a = find-ge (is (g .eol)) s (p + 2) in
       let b = find-le (is (g .eol)) s (p + 2) (omega arith) in
-      (omega arith, omega arith, (omega arith, omega arith)))
+      (omega arith, omega arith, (omega arith, omega arith, omega arith)))
       (λ u. let a = find-ge (is (g .eol)) s p in (omega arith, omega arith))
 
   pub stream-adv : Adv Lies (streamTurn g s) (length s)
@@ -137,7 +137,7 @@ module _ (g : ItemGrammar) (s : List ℕ) where
 
   pub mark-most : (q e n : ℕ) (l : List ℕ) → q + length l ≡ e → e ≤ n → AtMost (Lies q n) (markLine g q l)
   unfolding markLine
-  mark-most q e n l f m = most-from g mark (Lies q n) (q + length (leading (blank g) l)) (beyond (blank g) l) (λ x k a b. (a, omega (arith, leading-beyond (blank g) l)))
+  mark-most q e n l f m = most-from g mark (Lies q n) (q + length (leading (blank g) l)) (beyond (blank g) l) (λ x k a b. (a, omega (arith, leading-beyond (blank g) l), omega arith))
 
   pub line-adv : Adv Lies (lineTurn g s) (length s)
   line-adv = read-adv g (markLine g) s Lies mark-most

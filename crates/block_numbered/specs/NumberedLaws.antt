@@ -189,9 +189,9 @@ module _ (eol sep tab : ℕ) (t : ℕ → Bool) (s : List ℕ) (q : ℕ) where
 pub ruleset line-rules = (line-none, line-digitless, line-short, line-passed, line-bare, line-found)
 
 -- ---- every turn moves on within the text
--- where an item's content lies that is found before n, and how large its number is
+-- where an item's content lies that is found between q and n, behind its delimiter and the byte after that; and how large its number is
 abbrev pub Lies : ℕ → ℕ → NumberedItem → Type 0
-Lies q n i = (i .span .start ≤ i .span .end) × (i .span .end ≤ n) × (i .number < 1000000000)
+Lies q n i = (i .span .start ≤ i .span .end) × (i .span .end ≤ n) × (i .number < 1000000000) × (q + 2 ≤ i .span .start)
 
 module _ (g : ItemGrammar) (s : List ℕ) where
   hit-ahead : (q p : ℕ) → q ≤ p → p < length s → Ahead Lies q (length s) (streamHit g s p (back digit s p))
@@ -203,7 +203,7 @@ module _ (g : ItemGrammar) (s : List ℕ) where
       let m = holds-true (blank g) s (p + 1) (w .1) .0 in
       let a = find-ge (is (g .eol)) s (p + 2) in
       let b = find-le (is (g .eol)) s (p + 2) (omega arith) in
-      (omega arith, omega arith, (omega arith, omega arith, small (v .0))))
+      (omega arith, omega arith, (omega arith, omega arith, small (v .0), omega arith)))
       (λ u. (omega arith, omega arith))
     where
       n : ℕ
@@ -221,15 +221,15 @@ module _ (g : ItemGrammar) (s : List ℕ) where
   }
 
   -- behind digits that write a small number
-  then-most : (q e n k : ℕ) (ds l : List ℕ) → k + length l ≡ e → e ≤ n → (oneToNine (length ds) ≡ true → decimal ds < 1000000000) → AtMost (Lies q n) (numberThen g ds k l)
-  then-most q e n k ds l f m small = both (AtMost (Lies q n)) (oneToNine (length ds)) _ _ (λ y. most-from g (numbered ds) (Lies q n) k l (λ x j a b. (a, omega arith, small y))) (λ y. tt)
+  then-most : (q e n k : ℕ) (ds l : List ℕ) → q ≤ k → k + length l ≡ e → e ≤ n → (oneToNine (length ds) ≡ true → decimal ds < 1000000000) → AtMost (Lies q n) (numberThen g ds k l)
+  then-most q e n k ds l c f m small = both (AtMost (Lies q n)) (oneToNine (length ds)) _ _ (λ y. most-from g (numbered ds) (Lies q n) k l (λ x j a b. (a, omega arith, small y, omega arith))) (λ y. tt)
 
   pub read-most : (q e n : ℕ) (l : List ℕ) → q + length l ≡ e → e ≤ n → AtMost (Lies q n) (readLine g q l)
   unfolding readLine
   read-most q e n l f m =
       let r = beyond (blank g) l in
       let ds = readDigits r in
-      then-most q e n (q + length (leading (blank g) l) + length ds) ds (drop (length ds) r)
+      then-most q e n (q + length (leading (blank g) l) + length ds) ds (drop (length ds) r) (omega arith)
       (omega (arith, leading-beyond (blank g) l, length-drop (length (readDigits (beyond (blank g) l))) (beyond (blank g) l), leading-beyond digit (take 9 (beyond (blank g) l)), length-take 9 (beyond (blank g) l))) m
       (λ y. digits-small (take 9 r) (read-nine r))
 

@@ -1,5 +1,5 @@
 -- The numbered scanner's step and run: the ways out of a step, that its promise leaves one answer and one state, and that stepping a state until none comes yields all items. Assumes nothing.
-use mathlib.Core.Path.{_≡_, refl, sym, ap, _∙_}
+use mathlib.Core.Path.{_≡_, refl, sym, ap, subst, _∙_}
 use mathlib.Core.Bool.{Bool, true, false, cond}
 use mathlib.Core.List.{List}
 use Prim.Native.Nat.{ℕ, suc, _≤_, _<_}
@@ -13,8 +13,8 @@ use borrow.Author.Tests.{leb-true}
 use Rattle.common.specs.Promise.{Gives, Steps}
 use Rattle.common.specs.Sets.{probe, accepted}
 use Rattle.common.specs.Refusals.{Outcome, refused}
-use Rattle.common.specs.Turn.{Turn, go, stop, found, firstTurn, allFound, Adv, Each, OnFound, yields, stepOf, drain}
-use Rattle.common.specs.TurnLaws.{last-fits, collect-each, scan-each, drain-answers, answers-take}
+use Rattle.common.specs.Turn.{Turn, go, stop, found, thenCollect, firstTurn, allFound, Adv, Leads, Each, OnFound, yields, stepOf, thenDrain, drain}
+use Rattle.common.specs.TurnLaws.{by-turn, by-last, last-fits, collect-each, collect-scan, scan-each, scan-ends, drain-answers, answers-take}
 use Rattle.common.specs.Items.{grammar, has, said, placeOf}
 use Rattle.common.specs.ItemLaws.{both, needle-set, step-long, step-past, step-served, step-seen, number-same, number-some}
 use Rattle.common.specs.declared.sets.Probe.{Probe}
@@ -120,21 +120,37 @@ yields-as g (go n) = refl
 yields-as g (stop v) = refl
 yields-as g (found i n) = refl
 
-module _ (set : List Bool) (s : List ℕ) (short : length s ≤ 4294967295) (g : BlockNumberedIter) (next : BlockNumberedIter → NumberedStep)
-    (keeps : (q : ℕ) → q ≤ length s → Kept (at g q) set s (next (at g q))) where
-  steps : (q : ℕ) → q ≤ length s → stepped (next (at g q)) ≡ stepOf (at g) (first (at g q) set s)
+module _ (set : List Bool) (s : List ℕ) (short : length s ≤ 4294967295) (g : BlockNumberedIter) where
+  step : (q : ℕ) (r : NumberedStep) → q ≤ length s → Kept (at g q) set s r → stepped r ≡ stepOf (at g) (first (at g q) set s)
   unfolding answer state
-  steps q h =
+  step q r h kept =
       let t = first (at g q) set s in
-      let r = next (at g q) in
-      let w = step-served values at (at g q) s q t h short (keeps q h) in
+      let w = step-served values at (at g q) s q t h short kept in
       let x : r .found ≡ toldAs t = told-same (r .found) (toldAs t) (w .0 ∙ sym (told-as t)) in
       ap (λ (f : NumberedFound). yielded f (r .next)) x ∙ ap (yielded (toldAs t)) (w .1) ∙ yields-as g t
 
+  -- the items that a state's scan has before it are what a step yields, and those that the state after it has
+  pub step-items : (r : NumberedStep) → g .pos ≤ length s → Kept g set s r → items g set s ≡ thenDrain (λ k. items k set s) (stepped r)
+  unfolding first turn
+  step-items r h kept =
+      collect-scan (turn-adv g set s) (suc (length s)) (g .pos) h (omega arith)
+      ∙ by-last (turn-adv g set s) (λ t. thenCollect (allFound (turn g set s) (length s)) t ≡ thenDrain (λ k. items k set s) (stepOf (at g) t)) (g .pos) h (λ v. refl) (λ a n i. refl)
+      ∙ sym (ap (thenDrain (λ k. items k set s)) (step (g .pos) r h kept))
+
+  -- and that state stands within the text
+  pub step-inside : (r : NumberedStep) → g .pos ≤ length s → Kept g set s r → r .next .pos ≤ length s
+  unfolding first answer state
+  step-inside r h kept =
+      subst (λ (k : BlockNumberedIter). k .pos ≤ length s) (sym (step-served values at g s (g .pos) (first g set s) h short kept .1))
+      (scan-ends (turn g set s) (λ q. q ≤ length s) (λ t. placeOf t ≤ length s)
+      (λ q i. by-turn (turn-adv g set s) (Leads (λ q. q ≤ length s) (λ t. placeOf t ≤ length s)) q i (λ n m j. j) (λ v m j. j) (λ a n m j w. j)) (λ q i. i) (suc (length s)) (g .pos) h)
+
+module _ (set : List Bool) (s : List ℕ) (short : length s ≤ 4294967295) (g : BlockNumberedIter) (next : BlockNumberedIter → NumberedStep)
+    (keeps : (q : ℕ) → q ≤ length s → Kept (at g q) set s (next (at g q))) where
   -- the first n steps yield the first n of the items that the state's scan has before it
   pub run : (n : ℕ) → g .pos ≤ length s → drain (λ k. stepped (next k)) n g ≡ take n (items g set s)
   unfolding first turn
-  run n h = drain-answers (turn-adv g set s) (λ k. stepped (next k)) (at g) steps n (g .pos) h ∙ answers-take (turn-adv g set s) n (g .pos) h
+  run n h = drain-answers (turn-adv g set s) (λ k. stepped (next k)) (at g) (λ q i. step set s short g q (next (at g q)) i (keeps q i)) n (g .pos) h ∙ answers-take (turn-adv g set s) n (g .pos) h
 
   -- enough steps yield them all
   pub run-all : (n : ℕ) → g .pos ≤ length s → length (items g set s) ≤ n → drain (λ k. stepped (next k)) n g ≡ items g set s

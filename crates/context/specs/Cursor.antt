@@ -1,7 +1,7 @@
 -- The cursor over a list of regions: what it answers of a place, and the index that it goes on from. Assumes nothing.
 use mathlib.Core.Bool.{Bool, true, false, cond, _&&_}
 use mathlib.Core.List.{List, [], _∷_}
-use Prim.Native.Nat.{ℕ, _+_, _*_, _≤_}
+use Prim.Native.Nat.{ℕ, _+_, _*_, _≤_, _<_}
 use lib.Dec.{ltb, leb}
 use lib.ListN.{getD}
 use Rattle.common.specs.Search.{firstPlace}
@@ -59,3 +59,8 @@ coverRun w l count index (p ∷ ps) = coverAnswer w l count index p ∷ coverRun
 abbrev pub Rising : ℕ → List ℕ → Type 0
 Rising low [] = Unit {0}
 Rising low (p ∷ ps) = (low ≤ p) × Rising p ps
+
+-- what a run of queries knows: an index all of whose regions before it end at or before a place
+pub record Ended (w : ℕ) (l : List ℕ) (count index place : ℕ) : Type 0 where
+  pub within : index ≤ count
+  pub before : (j : ℕ) → j < index → stopAt w l j ≤ place

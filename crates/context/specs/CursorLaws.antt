@@ -23,7 +23,7 @@ use Rattle.context.specs.Ahead.{regions-in-order}
 use Rattle.context.specs.Columns.{Columns, gramOf}
 use Rattle.context.specs.Build.{Filled, Built, full, unequal, builtAnswer, builtList}
 use Rattle.context.specs.BuildLaws.{pair-two}
-use Rattle.context.specs.Cursor.{startAt, stopAt, after, passed, endAt, coverAnswer, coverNext, covers, coverage, coverRun, Rising}
+use Rattle.context.specs.Cursor.{startAt, stopAt, after, passed, endAt, coverAnswer, coverNext, covers, coverage, coverRun, Rising, Ended}
 use Rattle.context.specs.declared.cursor.Cover.{Cover}
 
 -- ---- the loop that skips regions, at index i
@@ -177,6 +177,16 @@ module _ (w : ℕ) (wide : 2 ≤ w) (l : List ℕ) (count from len : ℕ) (shape
             rw (u, e)
 
   module _ (fits : count ≤ room w l) where
+    -- one query from an index that is `Ended` for its place is plain coverage, and leaves such an index
+    pub query-ended : {index place i : ℕ} {o : Outcome} → Ended w l count index place → Steps (coverAnswer w l count index place) (coverNext w l count index place) o i
+        → (o ≡ given (coverage place (rows w count l))) × Ended w l count i place
+    unfolding coverAnswer coverNext
+    query-ended {index} {place} {i} e q =
+        let n : i ≡ passed w l count index place = q .next ∙ simp (le-ltb (room w l) count fits) in (
+          q .answer ∙ simp (le-ltb (room w l) count fits) (ap given (query-plain index place (e .within) (e .before))),
+          rw n (record { within = passed-within index place (e .within) (e .before); before = passed-ended index place (e .within) (e .before) }),
+        )
+
     run-plain : (index low : ℕ) (ps : List ℕ) → index ≤ count → ((j : ℕ) → j < index → stopAt w l j ≤ low) → Rising low ps → coverRun w l count index ps ≡ map (λ p. given (coverage p (rows w count l))) ps
     unfolding coverRun coverAnswer coverNext
     run-plain index low [] h ended up = refl

@@ -16,3 +16,5 @@ pub mod RecordLaws
 pub mod RuleTables
 pub mod RuleTableLaws
 pub mod NextLaws
+pub mod Shape
+pub mod ShapeLaws

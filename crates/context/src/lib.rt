@@ -6,6 +6,7 @@ pub mod records; // fence rules as records
 pub mod region; // regions, and what made them
 pub mod rule_tables; // all rules by byte, folded once
 pub mod search_bytes; // the bytes searched for
+pub mod shape; // what is asked of a list that is given
 pub mod step; // the next region from a place
 pub mod tables; // rules by byte
 

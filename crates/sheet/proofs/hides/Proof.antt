@@ -1,0 +1,20 @@
+-- `hides` meets its contract. Assumes nothing.
+use borrow.Author.Needs.{needs}
+use Rattle.sheet.specs.ShowLaws.{hid}
+use Rattle.sheet.proofs.hides.Statement.{statement}
+use Rattle.sheet.proofs.hides.Tie as tie
+
+place-of-requires : tie.Need-place-of-requires
+place-of-requires c κs = search needs
+
+covering-end-requires : tie.Need-covering-end-requires
+covering-end-requires c κs = search needs
+
+is-at-requires : tie.Need-is-at-requires
+is-at-requires c κs = search needs
+
+returns : tie.Need-returns
+returns c = search hid
+
+pub hides-spec : {M : Type 1} → statement M
+hides-spec = tie.close (tie.spec place-of-requires covering-end-requires is-at-requires returns)

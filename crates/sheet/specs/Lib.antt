@@ -1,0 +1,6 @@
+pub mod Sheet
+pub mod Parts
+pub mod FeedLaws
+pub mod ShowLaws
+pub mod RunLaws
+pub mod SheetLaws

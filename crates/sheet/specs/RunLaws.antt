@@ -1,0 +1,116 @@
+-- Laws of the scanners' items: their content starts rise, merged too, and they are no more than the text has bytes. Assumes nothing.
+use mathlib.Core.Path.{_≡_, ap, _∙_}
+use mathlib.Core.Bool.{Bool, true, false}
+use mathlib.Core.List.{List, [], _∷_, map}
+use mathlib.Core.Logic.{_⊎_, inl, inr}
+use Prim.Native.Nat.{ℕ, zero, suc, _+_, _*_, _≤_}
+use native.Mathlib.Omega.{arith}
+use lib.Dec.{ltb}
+use lib.ListN.{length}
+use borrow.Author.Tests.{ltb-true, ltb-false}
+use Rattle.common.specs.SearchLaws.{decide}
+use Rattle.common.specs.Turn.{Turn, thenCollect, collect, Adv}
+use Rattle.common.specs.TurnLaws.{by-turn}
+use Rattle.common.specs.declared.grammar.Grammar.{Grammar}
+use Rattle.block_marker.specs.Marker as marker
+use Rattle.block_marker.specs.MarkerRun as marker-run
+use Rattle.block_numbered.specs.Numbered as numbered
+use Rattle.block_numbered.specs.NumberedRun as numbered-run
+use Rattle.context.specs.Cursor.{Rising}
+use Rattle.sheet.specs.Sheet.{marked, counted, markItems, numberedItems, merge, placeOf, inside, outside}
+use Rattle.sheet.specs.FeedLaws.{merge-number, merge-mark}
+use Rattle.sheet.specs.declared.item.SheetItem.{SheetItem}
+
+-- items whose content starts never fall, none of them before `low`
+abbrev Rises : ℕ → List SheetItem → Type 0
+Rises low [] = Unit {0}
+Rises low (i ∷ l) = (low ≤ i .start) × Rises (i .start) l
+
+rises-later : (q n : ℕ) (l : List SheetItem) → q ≤ n → Rises n l → Rises q l
+rises-later q n [] h w = tt
+rises-later q n (i ∷ l) h w = (omega arith, w .1)
+
+-- ---- one scanner: its items have two bytes each before their content
+module _ {A : Type 0} {Lies : ℕ → ℕ → A → Type 0} {step : ℕ → Turn A} {len : ℕ} (adv : Adv Lies step len) (item : A → SheetItem)
+    (lies : (q n : ℕ) (a : A) → Lies q n a → (q + 2 ≤ item a .start) × (item a .start ≤ n)) where
+  collect-rises : (f q : ℕ) → q ≤ len → Rises q (map item (collect step f q))
+  unfolding collect
+  collect-rises zero q h = tt
+  collect-rises (suc f) q h =
+      by-turn adv (λ t. Rises q (map item (thenCollect (collect step f) t))) q h (λ n m i. rises-later q n (map item (collect step f n)) (omega arith) (collect-rises f n i)) (λ v m i. tt)
+      (λ a n m i w. let l = lies q n a w in (omega arith, rises-later (item a .start) n (map item (collect step f n)) (l .1) (collect-rises f n i)))
+
+  collect-few : (f q : ℕ) → q ≤ len → q + length (map item (collect step f q)) * 2 ≤ len
+  unfolding collect
+  collect-few zero q h = omega arith
+  collect-few (suc f) q h =
+      by-turn adv (λ t. q + length (map item (thenCollect (collect step f) t)) * 2 ≤ len) q h (λ n m i. omega (arith, collect-few f n i)) (λ v m i. omega arith)
+      (λ a n m i w. let l = lies q n a w in omega (arith, collect-few f n i))
+
+module _ (g : Grammar) (set : List Bool) (s : List ℕ) where
+  mark-rises : Rises 0 (markItems g set s)
+  unfolding markItems
+  mark-rises = collect-rises (marker-run.turn-adv (marker.fresh (g .eol) (g .sep) (g .tab) set) set s) marked (λ q n a w. (w .2, omega arith)) (suc (length s)) 0 (omega arith)
+
+  mark-few : length (markItems g set s) * 2 ≤ length s
+  unfolding markItems
+  mark-few = omega (arith, collect-few (marker-run.turn-adv (marker.fresh (g .eol) (g .sep) (g .tab) set) set s) marked (λ q n a w. (w .2, omega arith)) (suc (length s)) 0 (omega arith))
+
+  numbered-rises : Rises 0 (numberedItems g set s)
+  unfolding numberedItems
+  numbered-rises = collect-rises (numbered-run.turn-adv (numbered.fresh (g .eol) (g .sep) (g .tab) set) set s) counted (λ q n a w. (w .3, omega arith)) (suc (length s)) 0 (omega arith)
+
+  numbered-few : length (numberedItems g set s) * 2 ≤ length s
+  unfolding numberedItems
+  numbered-few = omega (arith, collect-few (numbered-run.turn-adv (numbered.fresh (g .eol) (g .sep) (g .tab) set) set s) counted (λ q n a w. (w .3, omega arith)) (suc (length s)) 0 (omega arith))
+
+-- ---- both, merged
+merge-rises : (low : ℕ) (xs ys : List SheetItem) → Rises low xs → Rises low ys → Rises low (merge xs ys)
+unfolding merge
+merge-rises low [] ys v w = w
+merge-rises low (x ∷ xs) [] v w = v
+merge-rises low (x ∷ xs) (y ∷ ys) v w = by (merge-rises (y .start) (x ∷ xs) ys) (merge-rises (x .start) xs (y ∷ ys)) (decide (ltb (y .start) (x .start)))
+  where
+    by : (Rises (y .start) (x ∷ xs) → Rises (y .start) ys → Rises (y .start) (merge (x ∷ xs) ys)) → (Rises (x .start) xs → Rises (x .start) (y ∷ ys) → Rises (x .start) (merge xs (y ∷ ys)))
+        → (ltb (y .start) (x .start) ≡ true) ⊎ (ltb (y .start) (x .start) ≡ false) → Rises low (merge (x ∷ xs) (y ∷ ys))
+    by f g (inl u) = rw (merge-number x y xs ys u) (w .0, f (omega (arith, ltb-true (y .start) (x .start) u), v .1) (w .1))
+    by f g (inr u) = rw (merge-mark x y xs ys u) (v .0, g (v .1) (ltb-false (y .start) (x .start) u, w .1))
+
+merge-length : (xs ys : List SheetItem) → length (merge xs ys) ≡ length xs + length ys
+unfolding merge
+merge-length [] ys = omega arith
+merge-length (x ∷ xs) [] = omega arith
+merge-length (x ∷ xs) (y ∷ ys) = by (merge-length (x ∷ xs) ys) (merge-length xs (y ∷ ys)) (decide (ltb (y .start) (x .start)))
+  where
+    by : length (merge (x ∷ xs) ys) ≡ length (x ∷ xs) + length ys → length (merge xs (y ∷ ys)) ≡ length xs + length (y ∷ ys) → (ltb (y .start) (x .start) ≡ true) ⊎ (ltb (y .start) (x .start) ≡ false)
+        → length (merge (x ∷ xs) (y ∷ ys)) ≡ length (x ∷ xs) + length (y ∷ ys)
+    by f g (inl u) = ap length (merge-number x y xs ys u) ∙ omega arith
+    by f g (inr u) = ap length (merge-mark x y xs ys u) ∙ omega arith
+
+-- ---- the places that decide never fall, since the content starts don't
+place-rises : (i j : SheetItem) → i .start ≤ j .start → placeOf i ≤ placeOf j
+place-rises i j h = h
+
+rises-places : (p low : ℕ) (l : List SheetItem) → ((i : SheetItem) → low ≤ i .start → p ≤ placeOf i) → Rises low l → Rising p (map placeOf l)
+rises-places p low [] f w = tt
+rises-places p low (i ∷ l) f w = (f i (w .0), rises-places (placeOf i) (i .start) l (place-rises i) (w .1))
+
+-- ---- all items of a text
+module _ (g : Grammar) (markers delims : List Bool) (s : List ℕ) where
+  -- no more than the text has bytes
+  pub items-few : length (merge (markItems g markers s) (numberedItems g delims s)) ≤ length s
+  items-few = omega (arith, merge-length (markItems g markers s) (numberedItems g delims s), mark-few g markers s, numbered-few g delims s)
+
+  pub places-rise : Rising 0 (map placeOf (merge (markItems g markers s) (numberedItems g delims s)))
+  places-rise =
+      rises-places 0 0 (merge (markItems g markers s) (numberedItems g delims s)) (λ i h. omega arith) (merge-rises 0 (markItems g markers s) (numberedItems g delims s) (mark-rises g markers s) (numbered-rises g delims s))
+
+-- ---- those that are shown
+pub outside-few : (regions : List (List ℕ)) (l : List SheetItem) → length (outside regions l) ≤ length l
+unfolding outside
+outside-few regions [] = omega arith
+outside-few regions (i ∷ l) = by (outside-few regions l) (decide (inside regions (placeOf i)))
+  where
+    by : length (outside regions l) ≤ length l → (inside regions (placeOf i) ≡ true) ⊎ (inside regions (placeOf i) ≡ false) → length (outside regions (i ∷ l)) ≤ suc (length l)
+    by ih (inl u) = rw (u, outside) (omega arith)
+    by ih (inr u) = rw (u, outside) (omega arith)

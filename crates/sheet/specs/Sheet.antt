@@ -1,0 +1,81 @@
+-- The work sheet of a text: what it holds, and what making one answers and writes. Assumes nothing.
+use mathlib.Core.Path.{_≡_}
+use mathlib.Core.Bool.{Bool, true, false, _||_}
+use mathlib.Core.List.{List, [], _∷_, map}
+use Prim.Native.Nat.{ℕ}
+use lib.Dec.{ltb}
+use lib.ListN.{length}
+use Rattle.common.specs.Entry.{flatten, rows, room, over}
+use Rattle.common.specs.Refusals.{Outcome, given, refuse, tooLong}
+use Rattle.common.specs.declared.grammar.Grammar.{Grammar}
+use Rattle.block_marker.specs.Marker as marker
+use Rattle.block_marker.specs.declared.MarkerItem.{MarkerItem}
+use Rattle.block_numbered.specs.Numbered as numbered
+use Rattle.block_numbered.specs.declared.NumberedItem.{NumberedItem}
+use Rattle.context.specs.Build.{unless}
+use Rattle.context.specs.Cursor.{covers}
+use Rattle.context.specs.Shape.{misshapen}
+use Rattle.sheet.specs.declared.item.SheetItem.{SheetItem}
+
+-- ---- items
+-- "An item is five numbers: start, end, kind (0 marker, 1 numbered), accepted byte, number (0 for a marker)."
+abbrev pub five : SheetItem → List ℕ
+five i = i .start ∷ i .end ∷ i .kind ∷ i .byte ∷ i .number ∷ []
+
+abbrev pub marked : MarkerItem → SheetItem
+marked i = record { start = i .span .start; end = i .span .end; kind = 0; byte = i .marker; number = 0 }
+
+abbrev pub counted : NumberedItem → SheetItem
+counted i = record { start = i .span .start; end = i .span .end; kind = 1; byte = i .delimiter; number = i .number }
+
+-- "the marker and numbered items, both scanned from place 0": all that a fresh state's scan has before it
+unfoldable pub markItems : Grammar → List Bool → List ℕ → List SheetItem
+markItems g set s = map marked (marker.items (marker.fresh (g .eol) (g .sep) (g .tab) set) set s)
+
+unfoldable pub numberedItems : Grammar → List Bool → List ℕ → List SheetItem
+numberedItems g set s = map counted (numbered.items (numbered.fresh (g .eol) (g .sep) (g .tab) set) set s)
+
+-- marker items and numbered items in one list: "by rising content start, the marker item first where two are equal"
+unfoldable pub merge : List SheetItem → List SheetItem → List SheetItem
+merge [] ys = ys
+merge (x ∷ xs) [] = x ∷ xs
+merge (x ∷ xs) (y ∷ ys) = elim (ltb (y .start) (x .start)) [ true ↦ y ∷ merge (x ∷ xs) ys | false ↦ x ∷ merge xs (y ∷ ys) ]
+
+-- ---- those that are shown
+-- the place that decides: the "content start"
+abbrev pub placeOf : SheetItem → ℕ
+placeOf i = i .start
+
+-- whether a place is "inside a region"
+unfoldable pub inside : List (List ℕ) → ℕ → Bool
+inside [] p = false
+inside (r ∷ l) p = covers p r || inside l p
+
+-- the items "whose content start isn't inside a region"
+unfoldable pub outside : List (List ℕ) → List SheetItem → List SheetItem
+outside regions [] = []
+outside regions (i ∷ l) = elim (inside regions (placeOf i)) [ true ↦ outside regions l | false ↦ i ∷ outside regions l ]
+
+-- ---- the sheet
+-- "The work sheet takes a text, the grammar bytes, the marker and delimiter sets and a list": s, g, the sets, and the n regions of l
+unfoldable pub sheetOf : Grammar → List Bool → List Bool → List ℕ → ℕ → List ℕ → List SheetItem
+sheetOf g markers delims l n s = outside (rows 2 n l) (merge (markItems g markers s) (numberedItems g delims s))
+
+-- 3: "the answer has more regions, or items, than there is room for"; "Its room is a fifth of the run, rounded down."
+abbrev pub full : List SheetItem → List ℕ → Bool
+full items out = ltb (room 5 out) (length items)
+
+-- "For a work sheet: 1, 5, 3."; else the count
+unfoldable pub sheetAnswer : Grammar → List Bool → List Bool → List ℕ → ℕ → List ℕ → List ℕ → Outcome
+sheetAnswer g markers delims l n s out =
+    refuse 1 (tooLong s) (refuse 5 (misshapen l n (length s)) (refuse 3 (full (sheetOf g markers delims l n s) out) (given (length (sheetOf g markers delims l n s) ∷ []))))
+
+-- "Success writes the regions from place 0 … and changes nothing beyond them", here the items; a refusal changes nothing
+unfoldable pub sheetList : Grammar → List Bool → List Bool → List ℕ → ℕ → List ℕ → List ℕ → List ℕ
+sheetList g markers delims l n s out =
+    unless (tooLong s) out (unless (misshapen l n (length s)) out (unless (full (sheetOf g markers delims l n s) out) out (over (flatten five (sheetOf g markers delims l n s)) out)))
+
+-- the promise of a work sheet: its answer, and the run that it leaves
+pub record Sheeted (g : Grammar) (markers delims : List Bool) (l : List ℕ) (n : ℕ) (s out out′ : List ℕ) (o : Outcome) : Type 0 where
+  pub answer : o ≡ sheetAnswer g markers delims l n s out
+  pub list : out′ ≡ sheetList g markers delims l n s out

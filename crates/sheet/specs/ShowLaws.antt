@@ -1,0 +1,110 @@
+-- Laws of what the list hides: the ways out of a query and of a turn. Assumes nothing.
+use mathlib.Core.Path.{_≡_, refl, sym, ap, subst, _∙_}
+use mathlib.Core.Bool.{Bool, true, false}
+use mathlib.Core.List.{List, [], _∷_, map}
+use mathlib.Core.Logic.{_⊎_, inl, inr}
+use Prim.Native.Nat.{ℕ, _<_}
+use native.Mathlib.Omega.{arith}
+use lib.ListN.{length}
+use Rattle.common.specs.Promise.{Gives, Steps}
+use Rattle.common.specs.SearchLaws.{decide}
+use Rattle.common.specs.Refusals.{Outcome, toldFound}
+use Rattle.common.specs.Entry.{rows}
+use Rattle.common.specs.declared.refusal.Found.{Found}
+use Rattle.common.specs.declared.refusal.Found.the-variants as found
+use Rattle.context.specs.Cursor.{coverAnswer, coverNext, covers, coverage, Rising, Ended}
+use Rattle.context.specs.CursorLaws.{query-ended}
+use Rattle.context.specs.declared.cursor.Cover.{Cover}
+use Rattle.sheet.specs.Sheet.{placeOf, inside, outside}
+use Rattle.sheet.specs.Parts.{ahead, Took, Orderly, isAt, Hid, left, Ready, Turned}
+use Rattle.sheet.specs.declared.item.SheetItem.{SheetItem}
+use Rattle.sheet.specs.declared.feed.Head.the-variants as head
+use Rattle.sheet.specs.declared.feed.Feed.{Feed}
+use Rattle.sheet.specs.declared.feed.Taken.{Taken}
+use Rattle.sheet.specs.declared.Query.{Query}
+use Rattle.sheet.specs.declared.Seen.the-variants as seen
+
+-- ---- a query
+-- whether a list of ends has one
+some : List ℕ → Bool
+some [] = false
+some (x ∷ l) = true
+
+covered : (p : ℕ) (regions : List (List ℕ)) → some (coverage p regions) ≡ inside regions p
+unfolding some coverage inside
+covered p [] = refl
+covered p (r ∷ l) = by (covered p l) (decide (covers p r))
+  where
+    by : some (coverage p l) ≡ inside l p → (covers p r ≡ true) ⊎ (covers p r ≡ false) → some (coverage p (r ∷ l)) ≡ inside (r ∷ l) p
+    by ih (inl u) = rw (u, coverage)
+    by ih (inr u) = rw (u, coverage) ih
+
+at-some : (f : Found) → isAt f ≡ some (toldFound f .values)
+unfolding some
+at-some (found.At q) = refl
+at-some found.Nothing = refl
+at-some (found.Refused r) = refl
+
+-- the cursor's answer is plain coverage
+pub hid : (l : List ℕ) (n index place p : ℕ) (c : Cover) (b : Bool) → Orderly l n → Ended 2 l n index place → Gives place p → Steps (coverAnswer 2 l n index p) (coverNext 2 l n index p) (toldFound (c .found)) (c .index) → Gives (isAt (c .found)) b
+    → Hid l n place (record { hidden = b; index = c .index })
+hid l n index place p c b o e gp q g =
+    let w = query-ended 2 (omega arith) l n 0 (o .len) (o .order) (o .fits) e (subst (λ (k : ℕ). Steps (coverAnswer 2 l n index k) (coverNext 2 l n index k) (toldFound (c .found)) (c .index)) (gp .answer) q) in
+    record {
+      hidden = g .answer ∙ at-some (c .found) ∙ ap (λ (r : Outcome). some (r .values)) (w .0) ∙ covered place (rows 2 n l);
+      ended = w .1;
+    }
+
+-- ---- a turn
+outside-hidden : (regions : List (List ℕ)) (i : SheetItem) (l : List SheetItem) → inside regions (placeOf i) ≡ true → outside regions (i ∷ l) ≡ outside regions l
+unfolding outside
+outside-hidden regions i l e = rw (e, outside)
+
+outside-shown : (regions : List (List ℕ)) (i : SheetItem) (l : List SheetItem) → inside regions (placeOf i) ≡ false → outside regions (i ∷ l) ≡ i ∷ outside regions l
+unfolding outside
+outside-shown regions i l e = rw (e, outside)
+
+module _ (markers delims : List Bool) (l : List ℕ) (n : ℕ) (s : List ℕ) (f : Feed) (t : Taken) where
+  pub turned-end : t .head ≡ head.End → Took markers delims s f t → Turned markers delims l n s f (record { seen = seen.End; rest = t .rest })
+  unfolding left outside
+  turned-end e w =
+      let z : ahead markers delims s f ≡ [] = w .same ∙ rw e in
+      record { same = ap (outside (rows 2 n l)) z; goes = tt }
+
+  module _ (i : SheetItem) (e : t .head ≡ head.Item i) (w : Took markers delims s f t) (r : Ready markers delims l n s f) where
+    next : ahead markers delims s f ≡ i ∷ ahead markers delims s (t .rest)
+    next = w .same ∙ rw e
+
+    rises : Rising (r .low) (placeOf i ∷ map placeOf (ahead markers delims s (t .rest)))
+    rises = subst (λ (k : List SheetItem). Rising (r .low) (map placeOf k)) next (r .rising)
+
+    -- the item's place is not before the last one
+    pub item-ended : Ended 2 l n (t .rest .index) (placeOf i)
+    item-ended = rw (w .index) (record { within = r .ended .within; before = λ j h. omega (arith, r .ended .before j h, rises .0) })
+
+    module _ (q : Query) (h : Hid l n (placeOf i) q) where
+      -- what comes after it, with the cursor moved on
+      rest : Feed
+      rest = record { marks = t .rest .marks; numbers = t .rest .numbers; index = q .index }
+
+      goes-on : Ready markers delims l n s rest × (length (ahead markers delims s rest) < length (ahead markers delims s f))
+      unfolding rest ahead
+      goes-on = (
+        record {
+          within = record { marks = w .within .marks; numbers = w .within .numbers; short = w .within .short };
+          orderly = r .orderly;
+          low = placeOf i;
+          ended = h .ended;
+          rising = rises .1;
+          few = omega (arith, r .few, ap length next);
+        },
+        omega (arith, ap length next),
+      )
+
+      pub turned-hidden : q .hidden ≡ true → Turned markers delims l n s f (record { seen = seen.Hidden; rest = record { marks = t .rest .marks; numbers = t .rest .numbers; index = q .index } })
+      unfolding rest left ahead
+      turned-hidden u = record { same = ap (outside (rows 2 n l)) next ∙ outside-hidden (rows 2 n l) i (ahead markers delims s (t .rest)) (sym (h .hidden) ∙ u); goes = goes-on }
+
+      pub turned-shown : q .hidden ≡ false → Turned markers delims l n s f (record { seen = seen.Shown i; rest = record { marks = t .rest .marks; numbers = t .rest .numbers; index = q .index } })
+      unfolding rest left ahead
+      turned-shown u = record { same = ap (outside (rows 2 n l)) next ∙ outside-shown (rows 2 n l) i (ahead markers delims s (t .rest)) (sym (h .hidden) ∙ u); goes = goes-on }

@@ -1,0 +1,193 @@
+// Both scanners as one run of items: each stands one item ahead, so that the lesser of the two is known and no item is sought twice.
+use crate::item::SheetItem;
+use block_marker::BlockMarkerIter;
+use block_marker::MarkerFound;
+use block_numbered::BlockNumberedIter;
+use block_numbered::NumberedFound;
+use common::grammar::Grammar;
+ghost use Prim.Native.Nat.{_≤_};
+ghost use lib.ListN.{length};
+ghost use Rattle.common.specs.Promise.{Gives};
+ghost use Rattle.sheet.specs.Parts.{picked, marksOf, numbersOf, Led, Within, Started, Took};
+
+// The next item, or the end of the run.
+pub(crate) enum Head {
+    Item(SheetItem),
+    End,
+}
+
+// The marker scanner, one item ahead.
+pub(crate) struct Marks {
+    pub head: Head,
+    pub rest: BlockMarkerIter,
+}
+
+// The numbered scanner, one item ahead.
+pub(crate) struct Numbers {
+    pub head: Head,
+    pub rest: BlockNumberedIter,
+}
+
+// Both, and the cursor's index in the list.
+pub(crate) struct Feed {
+    pub marks: Marks,
+    pub numbers: Numbers,
+    pub index: usize,
+}
+
+// The next item of both, and what comes after it.
+pub(crate) struct Taken {
+    pub head: Head,
+    pub rest: Feed,
+}
+
+// Which scanner's item is next.
+enum Pick {
+    Mark(SheetItem),
+    Number(SheetItem),
+    Neither,
+}
+
+// The marker scanner's next item.
+fn next_mark(g: BlockMarkerIter, src: &[u8], set: &[bool; 256]) -> Marks
+    requires { ⌜ g .pos ≤ length (now src) ⌝ }
+    requires { ⌜ length (now src) ≤ 4294967295 ⌝ }
+    ensures { λ r. ⌜ Led (marksOf g (now (set .entry)) (now (src .entry))) (length (now (src .entry))) (r .head) (marksOf (r .rest) (now (set .entry)) (now (src .entry))) (r .rest .pos) ⌝ }
+{
+    let step = g.next(src, set);
+    let rest = step.next;
+    let found = step.found;
+    match found {
+        MarkerFound::Item(i) => Marks {
+            head: Head::Item(SheetItem {
+                start: i.span.start,
+                end: i.span.end,
+                kind: 0,
+                byte: i.marker,
+                number: 0,
+            }),
+            rest,
+        },
+        MarkerFound::Nothing => Marks {
+            head: Head::End,
+            rest,
+        },
+        MarkerFound::Refused(_) => Marks {
+            head: Head::End,
+            rest,
+        },
+    }
+}
+
+// The numbered scanner's next item.
+fn next_number(g: BlockNumberedIter, src: &[u8], set: &[bool; 256]) -> Numbers
+    requires { ⌜ g .pos ≤ length (now src) ⌝ }
+    requires { ⌜ length (now src) ≤ 4294967295 ⌝ }
+    ensures { λ r. ⌜ Led (numbersOf g (now (set .entry)) (now (src .entry))) (length (now (src .entry))) (r .head) (numbersOf (r .rest) (now (set .entry)) (now (src .entry))) (r .rest .pos) ⌝ }
+{
+    let step = g.next(src, set);
+    let rest = step.next;
+    let found = step.found;
+    match found {
+        NumberedFound::Item(i) => Numbers {
+            head: Head::Item(SheetItem {
+                start: i.span.start,
+                end: i.span.end,
+                kind: 1,
+                byte: i.delimiter,
+                number: i.number,
+            }),
+            rest,
+        },
+        NumberedFound::Nothing => Numbers {
+            head: Head::End,
+            rest,
+        },
+        NumberedFound::Refused(_) => Numbers {
+            head: Head::End,
+            rest,
+        },
+    }
+}
+
+// Both scanners from the text's start, by fresh states, and a fresh cursor.
+pub(crate) fn start(g: Grammar, src: &[u8], markers: &[bool; 256], delims: &[bool; 256]) -> Feed
+    requires { ⌜ length (now src) ≤ 4294967295 ⌝ }
+    ensures { λ r. ⌜ Started g (now (markers .entry)) (now (delims .entry)) (now (src .entry)) r ⌝ }
+{
+    let marks = next_mark(
+        BlockMarkerIter::new(g.eol, g.sep, g.tab, markers),
+        src,
+        markers,
+    );
+    let numbers = next_number(
+        BlockNumberedIter::new(g.eol, g.sep, g.tab, delims),
+        src,
+        delims,
+    );
+    Feed {
+        marks,
+        numbers,
+        index: 0,
+    }
+}
+
+// The item that starts first, the marker where both start at one place.
+fn first_of(mark: Head, number: Head) -> Pick
+    ensures { λ r. ⌜ Gives (picked mark number) r ⌝ }
+{
+    match mark {
+        Head::Item(x) => match number {
+            Head::Item(y) => {
+                if y.start < x.start {
+                    return Pick::Number(y);
+                }
+                Pick::Mark(x)
+            }
+            Head::End => Pick::Mark(x),
+        },
+        Head::End => match number {
+            Head::Item(y) => Pick::Number(y),
+            Head::End => Pick::Neither,
+        },
+    }
+}
+
+// Takes the next item of both, and moves its scanner on.
+pub(crate) fn take(f: Feed, src: &[u8], markers: &[bool; 256], delims: &[bool; 256]) -> Taken
+    requires { ⌜ Within f (length (now src)) ⌝ }
+    ensures { λ r. ⌜ Took (now (markers .entry)) (now (delims .entry)) (now (src .entry)) f r ⌝ }
+{
+    let marks = f.marks;
+    let numbers = f.numbers;
+    let mark = marks.head;
+    let number = numbers.head;
+    match first_of(mark, number) {
+        Pick::Mark(x) => {
+            let more = next_mark(marks.rest, src, markers);
+            Taken {
+                head: Head::Item(x),
+                rest: Feed {
+                    marks: more,
+                    numbers,
+                    index: f.index,
+                },
+            }
+        }
+        Pick::Number(y) => {
+            let more = next_number(numbers.rest, src, delims);
+            Taken {
+                head: Head::Item(y),
+                rest: Feed {
+                    marks,
+                    numbers: more,
+                    index: f.index,
+                },
+            }
+        }
+        Pick::Neither => Taken {
+            head: Head::End,
+            rest: f,
+        },
+    }
+}
