@@ -5,7 +5,7 @@ use mathlib.Core.List.{List, [], _∷_, _++_, map}
 use Prim.Native.Nat.{ℕ, _+_, _-_}
 use lib.Dec.{ltb}
 use lib.ListN.{length, take, drop}
-use Rattle.common.specs.Entry.{flatten, rows, startOf, stopOf, room, shaped, over}
+use Rattle.common.specs.Entry.{flatten, rows, startOf, stopOf, room, over}
 use Rattle.common.specs.Refusals.{Outcome, given, refuse, tooLong, past}
 use Rattle.common.specs.declared.grammar.Grammar.{Grammar}
 use Rattle.context.specs.Region.{Region, Plain, dropTag, pair, move, up, keepBefore, keepFrom}
@@ -13,6 +13,7 @@ use Rattle.context.specs.Grammar.{Gram}
 use Rattle.context.specs.Regions.{regions}
 use Rattle.context.specs.Columns.{Columns, gramOf}
 use Rattle.context.specs.Build.{unequal, unless}
+use Rattle.context.specs.Shape.{misshapen}
 use Rattle.amend.specs.Amend.{Edit, joint}
 use Rattle.amend.specs.Local.{usesLineEnd}
 
@@ -52,10 +53,6 @@ amendedRegions build len e l =
 -- 4: "first cut after second, or second past the text"
 abbrev pub miscut : List ℕ → Edit → Bool
 miscut s e = ltb (e .second) (e .first) || past s (e .second)
-
--- 5: "a list's stated count is over its room; … also: regions unsorted, overlapping, empty (end not after start) or past the text"
-unfoldable pub misshapen : List ℕ → ℕ → ℕ → Bool
-misshapen list n len = ltb (room 2 list) n || not (shaped 0 len (rows 2 n list))
 
 -- 7: "a cut is not at a joint (the second may be the text's end)"
 unfoldable pub offJoint : {T : Type 0} → ℕ → List ℕ → List (Region T) → ℕ → ℕ → Bool

@@ -26,7 +26,8 @@ use Rattle.context.specs.RuleTableLaws.{rule-tables-gram}
 use Rattle.context.specs.declared.rule_tables.RuleTables.{RuleTables}
 use Rattle.amend.specs.Amend.{Edit, afterEmptyLine, joint}
 use Rattle.amend.specs.Local.{usesLineEnd}
-use Rattle.amend.specs.Amended.{listed, plainRegions, edit, edited, follows, miscut, misshapen, offJoint, amendedAnswer, Amended}
+use Rattle.context.specs.Shape.{misshapen}
+use Rattle.amend.specs.Amended.{listed, plainRegions, edit, edited, follows, miscut, offJoint, amendedAnswer, Amended}
 use Rattle.amend.specs.Parts.{marks, judged, said, Judged, Ready, settledAnswer, Settled}
 use Rattle.amend.specs.Edits.{or-false}
 use Rattle.amend.specs.RowLaws.{orderly-told}

@@ -8,7 +8,8 @@ use lib.ListN.{length, take, drop, length-append, length-take, length-drop}
 use borrow.Author.Tests.{lt-ltb, le-ltb}
 use Rattle.common.specs.Promise.{Gives}
 use Rattle.common.specs.Refusals.{Outcome, refused, tooLong}
-use Rattle.amend.specs.Amended.{listed, edit, edited, miscut, misshapen, offJoint}
+use Rattle.context.specs.Shape.{misshapen}
+use Rattle.amend.specs.Amended.{listed, edit, edited, miscut, offJoint}
 use Rattle.amend.specs.Parts.{judged}
 
 pub edited-length : (s : List ℕ) (first second : ℕ) (r : List ℕ) → first ≤ second → second ≤ length s → length (edited (edit first second r) s) ≡ length s - (second - first) + length r

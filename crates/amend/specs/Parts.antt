@@ -12,7 +12,8 @@ use Rattle.context.specs.Region.{Region, Plain, pair, move, up, reaches, InOrde
 use Rattle.context.specs.Grammar.{Gram}
 use Rattle.context.specs.Regions.{regions}
 use Rattle.amend.specs.Amend.{Edit, afterEmptyLine}
-use Rattle.amend.specs.Amended.{listed, plainRegions, edited, amendedRegions, miscut, misshapen, offJoint, leftOpen, crowded, leaves}
+use Rattle.context.specs.Shape.{misshapen}
+use Rattle.amend.specs.Amended.{listed, plainRegions, edited, amendedRegions, miscut, offJoint, leftOpen, crowded, leaves}
 use Rattle.amend.specs.declared.Verdict.{Verdict}
 use Rattle.amend.specs.declared.Verdict.the-variants as verdict
 use Rattle.amend.specs.declared.own.Counted.{Counted}

@@ -1,24 +1,22 @@
--- Laws of lists as rows of two numbers: the regions that rows say, and the rules of the loops that test, search and copy rows. Assumes nothing.
+-- Laws of lists as rows of two numbers: the regions that rows say, and the rules of the loops that search and copy rows. Assumes nothing.
 use mathlib.Core.Path.{_≡_, refl, sym, ap, subst, _∙_}
-use mathlib.Core.Bool.{Bool, true, false, not, _&&_}
+use mathlib.Core.Bool.{Bool, false, not}
 use mathlib.Core.List.{List, [], _∷_, map}
-use mathlib.Core.Logic.{_⊎_, inl, inr}
 use Prim.Native.Nat.{ℕ, zero, suc, _+_, _-_, _*_, _/_, _≤_, _<_}
-use native.Mathlib.Nat.{add-zero, sub-zero}
+use native.Mathlib.Nat.{sub-zero}
 use native.Mathlib.Omega.{arith}
-use lib.Dec.{ltb, leb}
+use lib.Dec.{leb}
 use lib.ListN.{length, getD, take, drop, length-map, List·getD-map}
 use lib.Seq.{getD-take, getD-drop, drop-drop}
-use borrow.Author.Tests.{lt-ltb, le-ltb, ltb-true, ltb-false, lt-leb, le-leb, leb-true, leb-false, not-false}
 use Rattle.common.specs.Promise.{Gives}
-use Rattle.common.specs.SearchLaws.{decide, and-true}
-use Rattle.common.specs.Entry.{flatten, rows, startOf, stopOf, shaped, Shaped, Shaping, putAt}
-use Rattle.common.specs.EntryLaws.{length-rows, rows-at, room-fits, length-put, shaped-holds, shaping-again, shaping-early, shaping-empty, shaping-long}
+use Rattle.common.specs.Entry.{flatten, rows, startOf, stopOf, Shaped, putAt}
+use Rattle.common.specs.EntryLaws.{length-rows, rows-at, room-fits, length-put}
 use Rattle.context.specs.Region.{Region, Plain, pair, move, reaches, keepBefore, InOrder}
 use Rattle.context.specs.Build.{Puts, Put}
-use Rattle.amend.specs.Amended.{plainOf, listed, misshapen}
+use Rattle.context.specs.Shape.{misshapen}
+use Rattle.context.specs.ShapeLaws.{shape-fits, shape-order}
+use Rattle.amend.specs.Amended.{plainOf, listed}
 use Rattle.amend.specs.Parts.{Orderly, Fair, between, Laid, Moves, Copies, Copied}
-use Rattle.amend.specs.Edits.{or-false}
 use Rattle.amend.specs.Starts.{order-later, order-longer, before-few, before-below, before-above, reach-none, reach-last}
 
 -- ---- rows and regions
@@ -87,25 +85,10 @@ ordered : (from len : ℕ) (l : List (List ℕ)) → Shaped from len l → InOrd
 ordered from len [] w = tt
 ordered from len (r ∷ l) w = (w .0, w .1, w .2, ordered (stopOf r) len l (w .3))
 
-pub misshapen-over : (l : List ℕ) (n len : ℕ) → length l / 2 < n → true ≡ misshapen l n len
-unfolding misshapen
-misshapen-over l n len h = rw (lt-ltb (length l / 2) n h)
-
-module _ (l : List ℕ) (n len : ℕ) (h : n ≤ length l / 2) (y : Bool) where
-  pub misshapen-no : y ≡ true → Gives (shaped 0 len (rows 2 n l)) y → false ≡ misshapen l n len
-  unfolding misshapen
-  misshapen-no e g = rw (le-ltb (length l / 2) n h, ← (g .answer), e)
-
-  pub misshapen-yes : y ≡ false → Gives (shaped 0 len (rows 2 n l)) y → true ≡ misshapen l n len
-  unfolding misshapen
-  misshapen-yes e g = rw (le-ltb (length l / 2) n h, ← (g .answer), e)
-
 -- a list that is not misshapen
 pub orderly-told : (l : List ℕ) (n len : ℕ) → misshapen l n len ≡ false → Orderly l n len
-unfolding misshapen listed
-orderly-told l n len e =
-    let w = or-false (ltb (length l / 2) n) (not (shaped 0 len (rows 2 n l))) e in
-    record { roomy = room-fits 2 n l (ltb-false (length l / 2) n (w .0)); order = ordered 0 len (rows 2 n l) (shaped-holds 0 len (rows 2 n l) (not-false (shaped 0 len (rows 2 n l)) (w .1))) }
+unfolding listed
+orderly-told l n len e = record { roomy = room-fits 2 n l (shape-fits l n len e); order = ordered 0 len (rows 2 n l) (shape-order l n len e) }
 
 pub orderly-longer : (l : List ℕ) (n len m : ℕ) → len ≤ m → Orderly l n len → Orderly l n m
 orderly-longer l n len m h w = record { roomy = w .roomy; order = order-longer 0 len m (listed n l) h (w .order) }
@@ -115,42 +98,6 @@ fair l n len y h e g = record { shape = sym (g .answer) ∙ e; short = h }
 
 pub fair-orderly : {l : List ℕ} {n len : ℕ} → Fair l n len → Orderly l n 4294967295
 fair-orderly {l} {n} {len} w = orderly-longer l n len 4294967295 (w .short) (orderly-told l n len (w .shape))
-
--- ---- the loop that tests: a and b are the numbers that were read of row k
-module _ (low a b len : ℕ) where
-  pub follow-early : a < low → false ≡ (leb low a && ltb a b && leb b len)
-  follow-early h = rw (lt-leb low a h)
-
-  module _ (l : low ≤ a) where
-    pub follow-empty : b ≤ a → false ≡ (leb low a && ltb a b && leb b len)
-    follow-empty h = rw (le-leb low a l, le-ltb a b h)
-
-    pub follow-on : a < b → leb b len ≡ (leb low a && ltb a b && leb b len)
-    follow-on h = rw (le-leb low a l, lt-ltb a b h)
-
-module _ {n len from k low : ℕ} {l : List ℕ} (a b : ℕ) (y : Bool) where
-  pub tested-again : y ≡ true → Gives (leb low a && ltb a b && leb b len) y → Gives (getD l (k * 2 + 0) 0) a → Gives (getD l (k * 2 + 1) 0) b → Shaping 2 l n len from k low → k < n
-      → Shaping 2 l n len from (k + 1) b
-  tested-again e g ga gb i h =
-      let t = and-true (leb low a && ltb a b) (leb b len) (sym (g .answer) ∙ e) in
-      let u = and-true (leb low a) (ltb a b) (t .0) in
-      let c : a ≡ getD l (k * 2) 0 = rw add-zero at (ga .answer) in
-      rw (gb .answer) (shaping-again i h (omega (arith, leb-true low a (u .0))) (omega (arith, gb .answer, ltb-true a b (u .1))) (omega (arith, gb .answer, leb-true b len (t .1))))
-
-  pub tested-not : y ≡ false → Gives (leb low a && ltb a b && leb b len) y → Gives (getD l (k * 2 + 0) 0) a → Gives (getD l (k * 2 + 1) 0) b → Shaping 2 l n len from k low → k < n
-      → false ≡ shaped from len (rows 2 n l)
-  tested-not e g ga gb i h =
-      by (decide (leb low a)) (decide (ltb a b))
-    where
-      c : a ≡ getD l (k * 2) 0
-      c = rw add-zero at (ga .answer)
-
-      by : (leb low a ≡ true) ⊎ (leb low a ≡ false) → (ltb a b ≡ true) ⊎ (ltb a b ≡ false) → false ≡ shaped from len (rows 2 n l)
-      by (inr u) v = shaping-early i h (omega (arith, c, leb-false low a u))
-      by (inl u) (inr v) = shaping-empty i h (omega (arith, c, gb .answer, ltb-false a b v))
-      by (inl u) (inl v) =
-          let z : leb b len ≡ false = sym (g .answer ∙ rw (u, v)) ∙ e in
-          shaping-long i h (omega (arith, gb .answer, leb-false b len z))
 
 -- ---- the loop that halves: the regions that start before k are at least `low` and at most `high`
 pub record Halving (l : List ℕ) (n k low high : ℕ) : Type 0 where

@@ -23,7 +23,8 @@ use Rattle.context.specs.Ahead.{regions-in-order}
 use Rattle.context.specs.Build.{unequal, full, builtAnswer, builtList, Built}
 use Rattle.amend.specs.Amend.{Edit, joint, Fits, none, last, next}
 use Rattle.amend.specs.Local.{usesLineEnd}
-use Rattle.amend.specs.Amended.{plainOf, listed, plainRegions, edit, edited, amendedRegions, miscut, misshapen, offJoint, leftOpen, crowded, result, amendedAnswer, Amended}
+use Rattle.context.specs.Shape.{misshapen}
+use Rattle.amend.specs.Amended.{plainOf, listed, plainRegions, edit, edited, amendedRegions, miscut, offJoint, leftOpen, crowded, result, amendedAnswer, Amended}
 use Rattle.amend.specs.Lists.{drop-order}
 use Rattle.amend.specs.Starts.{unless-end}
 use Rattle.amend.specs.Edits.{or-false, relist-one}

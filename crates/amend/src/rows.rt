@@ -1,13 +1,10 @@
 // A list as rows of two numbers: a region's start and its end.
-ghost use mathlib.Core.Bool.{_&&_};
-ghost use Prim.Native.Nat.{_+_, _-_, _*_, _≤_, _<_};
-ghost use lib.Dec.{ltb, leb};
+ghost use Prim.Native.Nat.{_+_, _-_, _*_, _<_};
 ghost use lib.ListN.{length, getD};
 ghost use Rattle.common.specs.Promise.{Gives};
-ghost use Rattle.common.specs.Entry.{rows, shaped};
 ghost use Rattle.context.specs.Region.{keepBefore};
 ghost use Rattle.context.specs.Build.{Puts, Put};
-ghost use Rattle.amend.specs.Amended.{listed, misshapen};
+ghost use Rattle.amend.specs.Amended.{listed};
 ghost use Rattle.amend.specs.Parts.{Orderly, Moves, Copies, Copied};
 
 // The column of a region's start.
@@ -29,52 +26,6 @@ pub(crate) fn number(list: &[u32], i: usize, j: usize) -> usize
     ensures { λ r. ⌜ Gives (getD (now (list .entry)) (i * 2 + j) 0) r ⌝ }
 {
     place_of(list[i * 2 + j])
-}
-
-// Whether a region from `start` up to `end` may follow one that ends at `low`, in a text of `len` bytes.
-fn may_follow(low: usize, start: usize, end: usize, len: usize) -> bool
-    ensures { λ r. ⌜ Gives (leb low start && ltb start end && leb end len) r ⌝ }
-{
-    if start < low {
-        return false;
-    }
-    if end <= start {
-        return false;
-    }
-    end <= len
-}
-
-// Whether the first `count` regions are sorted, apart, none of them empty, and within `len`.
-fn in_order(list: &[u32], count: usize, len: usize) -> bool
-    requires { ⌜ count * 2 ≤ length (now list) ⌝ }
-    ensures { λ r. ⌜ Gives (shaped 0 len (rows 2 count (now (list .entry)))) r ⌝ }
-{
-    let mut low = 0;
-    let mut k = 0;
-    while k < count {
-        let start = number(list, k, START);
-        let end = number(list, k, END);
-        if may_follow(low, start, end, len) {
-            low = end;
-            k += 1;
-            continue;
-        }
-        return false;
-    }
-    true
-}
-
-// Whether the stated count is over the list's room, or the regions are no list of a text of `len` bytes.
-pub(crate) fn is_misshapen(list: &[u32], count: usize, len: usize) -> bool
-    ensures { λ r. ⌜ Gives (misshapen (now (list .entry)) count len) r ⌝ }
-{
-    if list.len() / 2 < count {
-        return true;
-    }
-    if in_order(list, count, len) {
-        return false;
-    }
-    true
 }
 
 // How many regions start before `k`. They are sorted, so that halving finds it.

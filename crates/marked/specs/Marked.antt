@@ -11,8 +11,9 @@ use Rattle.common.specs.Items.{leading, beyond, itemAt, itemsOf}
 use Rattle.block_numbered.specs.Numbered.{digit, decimalFrom, numberLine}
 use Rattle.cont.specs.Frames.{markAt, afterMark, marksFrom, marks, begun, ending, frames}
 use Rattle.context.specs.Region.{reaches, keepBefore, keepFrom}
+use Rattle.context.specs.Shape.{misshapen}
 use Rattle.amend.specs.Amend.{joint}
-use Rattle.amend.specs.Amended.{listed, amendedRegions, misshapen, offJoint, leftOpen, amendedAnswer}
+use Rattle.amend.specs.Amended.{listed, amendedRegions, offJoint, leftOpen, amendedAnswer}
 use Rattle.marked.specs.Page.{All, page}
 
 pub marked : All page
