@@ -1,6 +1,7 @@
 // Replays stored answers. Standard input holds lists of questions with their answers; ours are asked the same, and each line whose
 // answer isn't the same is told. The head of each list says how to read it.
 mod blocks; // a question asked of many texts
+mod cells; // lists of so many cells
 mod covers; // section 7: the cursor
 mod cuts; // the parts of a question
 mod fences; // section 2: the fence scanner
@@ -20,6 +21,7 @@ mod question; // a question that has a text
 mod regions; // section 6: regions, and the bytes that are searched for
 mod report; // what is printed
 mod sections; // which section asks what
+mod sheets; // section 8: the work sheet
 mod spans; // what a scanner of spans answers
 mod sums; // the checksums of a block
 mod tally; // what is counted

@@ -24,6 +24,7 @@ pub(crate) fn reply(letter: u8, asked: &[u32], out: &mut [u32]) -> usize {
         b'v' => question::reply(7, b'v', false, asked, out),
         b'w' => question::reply(7, b'w', false, asked, out),
         b'o' => question::reply(6, b'c', false, asked, out),
+        b'u' => question::reply(8, b'c', false, asked, out),
         b'b' => member(asked, out),
         _ => plain(letter, asked, out),
     }

@@ -1,4 +1,5 @@
 // Section 6: regions, and the bytes that are searched for.
+use crate::cells;
 use crate::cuts;
 use crate::cuts::byte_at;
 use crate::cuts::number_at;
@@ -20,9 +21,6 @@ use context::search_bytes::search_bytes;
 use context::step::next_region;
 use context::tables::fence_rows;
 use context::tables::inline_tables;
-
-// The most cells that a list is built into.
-const CELLS: usize = 64;
 
 pub(crate) fn form_of(letter: u8) -> Form {
     // The counts of inline rules may be any numbers.
@@ -137,63 +135,26 @@ fn built(letter: u8, asked: &[u32], ends: Ends, text: &[u8], out: &mut [u32]) ->
     match build_within(letter, asked, ends, grammar_of(asked), text, 2, room, out) {
         Answer::Value(count) => {
             put_two(out, 0, 1, number_of(count));
-            regions_end(count, room)
+            cells::behind_two(count, 2, room)
         }
         Answer::Refused(r) => put_two(out, 0, 0, r.number()),
     }
 }
 
-// Where the regions end that stand behind two numbers.
-fn regions_end(count: usize, room: usize) -> usize {
-    if count < room / 2 {
-        return count * 2 + 2;
-    }
-    room
-}
-
-// The count or 0, the refusal's number or 0, and the cells, which held other numbers before.
 fn built_into(size: usize, asked: &[u32], ends: Ends, text: &[u8], out: &mut [u32]) -> usize {
-    if size > CELLS {
-        return 0;
-    }
-    let n = put_two(out, 2, 0, number_of(size));
-    let end = put_marks(out, n, size);
-    match build_within(
+    let end = cells::put_marked(out, size);
+    let answer = build_within(
         b'c',
         asked,
         ends,
         grammar_of(cuts::part(asked, 1, 5)),
         text,
-        n,
+        cells::START,
         end,
         out,
-    ) {
-        Answer::Value(count) => put_two(out, 0, 1, number_of(count)),
-        Answer::Refused(r) => {
-            put_two(out, 0, 1, 0);
-            put(out, 2, r.number())
-        }
-    }
-    ;
+    );
+    cells::put_answer(out, answer);
     end
-}
-
-// As many numbers as are wanted, all different.
-fn put_marks(out: &mut [u32], from: usize, size: usize) -> usize {
-    let mut n = from;
-    let mut left = size;
-    while left > 0 {
-        n = put(out, n, mark(left));
-        left -= 1;
-    }
-    n
-}
-
-fn mark(left: usize) -> u32 {
-    if left > CELLS {
-        return 0;
-    }
-    left as u32 + 1000
 }
 
 fn searched(asked: &[u32], ends: Ends, out: &mut [u32]) -> usize {

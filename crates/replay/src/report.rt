@@ -72,6 +72,8 @@ fn print_name(section: u32) {
         5 => print(b"cont"),
         6 => print(b"context"),
         7 => print(b"cursor"),
+        8 => print(b"sheet"),
+        9 => print(b"listing"),
         NO_SECTION => print(b"before any section"),
         _ => {
             print(b"section ");

@@ -9,6 +9,7 @@ use crate::leaves;
 use crate::markers;
 use crate::numbered;
 use crate::regions;
+use crate::sheets;
 
 pub(crate) fn form_of(section: u32, letter: u8) -> Form {
     match section {
@@ -18,6 +19,7 @@ pub(crate) fn form_of(section: u32, letter: u8) -> Form {
         5 => frames::form_of(letter),
         6 => regions::form_of(letter),
         7 => covers::form_of(letter),
+        8 => sheets::form_of(letter),
         _ => Form::unknown(),
     }
 }
@@ -40,6 +42,7 @@ pub(crate) fn ask(
         5 => frames::ask(letter, asked, ends, text, place, out),
         6 => regions::ask(letter, asked, ends, text, out),
         7 => covers::ask(letter, asked, ends, out),
+        8 => sheets::ask(letter, asked, ends, text, out),
         _ => 0,
     }
 }

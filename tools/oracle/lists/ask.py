@@ -25,7 +25,7 @@ def flat(entries):
 
 # The parameters that are lists of any length, each with the names of its columns: in a line every
 # column is a list of its own.
-COLUMNS = {'rules': ('rules', 'minimums'), 'accepted': ('accepted',), 'open': ('open',),
+COLUMNS = {'rules': ('rules', 'minimums'), 'accepted': ('accepted',), 'markers': ('markers',), 'delimiters': ('delimiters',), 'open': ('open',),
            'fences': ('fences', 'minimums'), 'symmetric': ('symmetric', 'times'),
            'asymmetric': ('openers', 'closers', 'counts')}
 

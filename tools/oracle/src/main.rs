@@ -7,6 +7,7 @@ mod answer;
 mod block;
 mod context;
 mod leaves;
+mod listing;
 mod question;
 mod scanners;
 mod words;
@@ -74,7 +75,13 @@ fn asked(name: &str, words: &mut Words) -> Result<Answer, String> {
 
 /// The question of this name, with its parameters read from `words`.
 fn find(name: &str, words: &mut Words) -> Result<Question, String> {
-    for group in [leaves::question, scanners::question, context::question] {
+    let groups = [
+        leaves::question,
+        scanners::question,
+        context::question,
+        listing::question,
+    ];
+    for group in groups {
         if let Some(question) = group(name, words)? {
             return Ok(question);
         }

@@ -2,8 +2,8 @@
 use borrow.Author.Needs.{needs}
 use mathlib.Core.Path.{_≡_}
 use lib.ListN.{length}
-use Rattle.replay.proofs.regions.put_marks.Statement.{statement}
-use Rattle.replay.proofs.regions.put_marks.Tie as tie
+use Rattle.replay.proofs.cells.put_marks.Statement.{statement}
+use Rattle.replay.proofs.cells.put_marks.Tie as tie
 
 abbrev Inv-loop : tie.InvT-loop
 Inv-loop out₀ from size n₀ left₀ out n left = length out ≡ length out₀
