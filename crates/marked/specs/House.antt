@@ -5,17 +5,15 @@ use Rattle.common.specs.Grammars.{house}
 use Rattle.common.specs.Search.{oneOf}
 use Rattle.common.specs.Items.{ItemGrammar, grammar}
 use Rattle.context.specs.Grammar.{Gram}
-use Rattle.context.specs.Columns.{Columns, columns, gramOf}
+use Rattle.context.specs.Columns.{gramOf}
+use Rattle.listing.specs.Listing.{houseRules}
 use Rattle.fence.specs.Fence.{fresh}
 use Rattle.fence.specs.declared.FenceIter.{FenceIter}
 use Rattle.cont.specs.declared.Marks.{Marks}
 
 -- "fences backtick and tilde, min 3; symmetric backtick, count 1; asymmetric `<` `>`, count 1"
-abbrev pub rules : Columns
-rules = columns (96 ∷ 126 ∷ []) (3 ∷ 3 ∷ []) (96 ∷ []) (1 ∷ []) (60 ∷ []) (62 ∷ []) (1 ∷ [])
-
 abbrev pub gram : Gram
-gram = gramOf house rules
+gram = gramOf house houseRules
 
 -- "min 3", of either fence byte
 abbrev pub fence : ℕ → FenceIter

@@ -11,8 +11,9 @@ use Rattle.context.specs.Regions.{regions}
 use Rattle.fence.specs.Fence.{fences}
 use Rattle.block_numbered.specs.Numbered.{numbers, values}
 use Rattle.cont.specs.Frames.{frames}
+use Rattle.listing.specs.Listing.{houseRules}
 use Rattle.amend.specs.Amended.{edit, Amended}
-use Rattle.marked.specs.House.{rules, gram, fence, delimiters, quotes}
+use Rattle.marked.specs.House.{gram, fence, delimiters, quotes}
 
 -- a text with the list of its regions; with its fences of a byte, start and end each; with its numbered items, start, end, delimiter and
 -- number each; with its frames to a depth, start and end each; with two cuts, a replacement and the list that amending its own list
@@ -39,8 +40,8 @@ Says (listed s l) = flatten pair (regions gram s) ≡ l
 Says (fenced byte s l) = flatten (λ f. f .start ∷ f .end ∷ []) (fences (fence byte) s) ≡ l
 Says (counted s l) = flatten values (numbers delimiters s) ≡ l
 Says (framed nest s l) = flatten (λ f. f .start ∷ f .end ∷ []) (frames (quotes nest) s) ≡ l
-Says (mended s a b r l) = Amended house rules s (own s) (length (own s) / 2) (edit a b r) blank (over l blank) (given (length l / 2 ∷ []))
-Says (refusing s a b r n) = Amended house rules s (own s) (length (own s) / 2) (edit a b r) blank blank (refused n)
+Says (mended s a b r l) = Amended house houseRules s (own s) (length (own s) / 2) (edit a b r) blank (over l blank) (given (length l / 2 ∷ []))
+Says (refusing s a b r n) = Amended house houseRules s (own s) (length (own s) / 2) (edit a b r) blank blank (refused n)
 
 -- what all rows of a table say
 abbrev pub All : List Row → Type 0

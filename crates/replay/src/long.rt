@@ -4,7 +4,7 @@ use crate::cuts::number_at;
 use common::search;
 
 // The room for a text.
-pub(crate) const ROOM: usize = 1280;
+pub(crate) const ROOM: usize = 8200;
 
 pub(crate) struct Long {
     pub(crate) bytes: [u8; ROOM],

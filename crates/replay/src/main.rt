@@ -12,6 +12,7 @@ mod items; // what the item scanners share
 mod judge; // a line, put to its section
 mod leaves; // section 1: the leaves of common.rs, and the fence tests
 mod line; // the numbers of a line
+mod listings; // section 9: what `spans` prints
 mod long; // texts that are too long for a line
 mod markers; // section 3: the marker scanner
 mod numbered; // section 4: the scanner of numbered items

@@ -4,7 +4,7 @@
 pub(crate) const MOST: usize = 128;
 
 // The room for an answer.
-pub(crate) const ROOM: usize = 2048;
+pub(crate) const ROOM: usize = 16384;
 
 pub(crate) struct Numbers {
     pub(crate) cells: [u32; MOST],

@@ -6,6 +6,7 @@ use crate::form::Form;
 use crate::frames;
 use crate::items;
 use crate::leaves;
+use crate::listings;
 use crate::markers;
 use crate::numbered;
 use crate::regions;
@@ -20,6 +21,7 @@ pub(crate) fn form_of(section: u32, letter: u8) -> Form {
         6 => regions::form_of(letter),
         7 => covers::form_of(letter),
         8 => sheets::form_of(letter),
+        9 => listings::form_of(letter),
         _ => Form::unknown(),
     }
 }
@@ -43,6 +45,7 @@ pub(crate) fn ask(
         6 => regions::ask(letter, asked, ends, text, out),
         7 => covers::ask(letter, asked, ends, out),
         8 => sheets::ask(letter, asked, ends, text, out),
+        9 => listings::ask(text, out),
         _ => 0,
     }
 }

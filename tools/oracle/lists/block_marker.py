@@ -76,25 +76,16 @@ def positions(listing):
     items.handmade(S, listing, items.HOUSE, tuple(b'\n'), b'\n \n ')
 
 
+# By turns: separator, tab, both = line end; separator = tab; accepted line end, separator, tab, all three; a
+# letter for a line end; all equal; an accepted separator, line end.
+COLLISIONS = (((10, 10, 9), b'-*'), ((10, 32, 10), b'-*'), ((10, 10, 10), b'-'), ((10, 32, 32), b'-*'), (items.HOUSE, b'\n-'),
+              (items.HOUSE, b' -'), (items.HOUSE, b'\t-'), (items.HOUSE, b'\n \t'), ((97, 32, 9), b'-*'), ((45, 45, 45), b'-'),
+              ((10, 45, 9), b'-*'), ((45, 32, 9), b'-*'))
+
+
 def blocks(listing):
-    listing.comment('blocks: every text to five bytes, no to five accepted bytes')
-    for accepted in (b'-*', b'-*+a', b'-', b'', b'*+-', b'*+-ab'):
-        R.blocks(listing, (*items.HOUSE, tuple(accepted)), TELLING, 5)
-    listing.comment('handmade states at every position, both flags, every needle count, to four bytes')
-    for streaming in (0, 1):
-        for nn in range(5):
-            S.blocks(listing, (nn, streaming, *items.HOUSE, (42, 45, 97), tuple(b'-*')), TELLING, 4)
-    listing.comment('equal bytes, every text to four bytes')
-    # By turns: separator, tab, both = line end; separator = tab; accepted line end, separator, tab, all
-    # three; a letter for a line end; all equal.
-    for bounds, accepted in (((10, 10, 9), b'-*'), ((10, 32, 10), b'-*'), ((10, 10, 10), b'-'), ((10, 32, 32), b'-*'),
-                             (items.HOUSE, b'\n-'), (items.HOUSE, b' -'), (items.HOUSE, b'\t-'), (items.HOUSE, b'\n \t'),
-                             ((97, 32, 9), b'-*'), ((45, 45, 45), b'-'), ((10, 45, 9), b'-*'), ((45, 32, 9), b'-*')):
-        for more in (b'', b'wxyz'):
-            accepted = bytes(accepted + more)
-            R.blocks(listing, (*bounds, tuple(accepted)), TELLING, 4)
-            S.blocks(listing, (3, 1, *bounds, items.needles(accepted), tuple(accepted)), TELLING, 4)
-            S.blocks(listing, (3, 0, *bounds, items.needles(accepted), tuple(accepted)), TELLING, 4)
+    sets = b'-*', b'-*+a', b'-', b'', b'*+-', b'*+-ab'
+    items.blocks(R, S, listing, TELLING, sets, ((42, 45, 97), tuple(b'-*')), COLLISIONS)
     listing.comment('texts that are drawn')
     for seed, accepted in enumerate((b'-*+', b'-*+z', b'-'), 1):
         R.drawn(listing, (*items.HOUSE, tuple(accepted)), b'-*+\n\n \tab', 60, seed, 1000)

@@ -90,26 +90,16 @@ def positions(listing):
     items.handmade(S, listing, (49, 32, 9), tuple(b'.'), b'1. 1. a')
 
 
+# By turns: separator, tab, both = line end; separator = tab; accepted line end, separator, tab, digit, all of
+# them; a digit for a line end, for a separator, for both; an accepted line end; all equal; an accepted separator.
+COLLISIONS = (((10, 10, 9), b'.'), ((10, 32, 10), b'.'), ((10, 10, 10), b'.'), ((10, 32, 32), b'.'), (items.HOUSE, b'\n.'),
+              (items.HOUSE, b' .'), (items.HOUSE, b'\t.'), (items.HOUSE, b'1.'), (items.HOUSE, b'\n 1'), ((49, 32, 9), b'.'),
+              ((10, 49, 9), b'.'), ((49, 49, 9), b'.'), ((46, 32, 9), b'.'), ((49, 49, 49), b'1'), ((10, 46, 9), b'.'))
+
+
 def blocks(listing):
-    listing.comment('blocks: every text to five bytes, no to five accepted bytes')
-    for accepted in (b'.', b'.)xyz', b'', b'.a', b'.a)', b'.a)x'):
-        R.blocks(listing, (*items.HOUSE, tuple(accepted)), TELLING, 5)
-    listing.comment('handmade states at every position, both flags, every needle count, to four bytes')
-    for streaming in (0, 1):
-        for nn in range(5):
-            S.blocks(listing, (nn, streaming, *items.HOUSE, (97, 46, 41), tuple(b'.a')), TELLING, 4)
-    listing.comment('equal bytes, every text to four bytes')
-    # By turns: separator, tab, both = line end; separator = tab; accepted line end, separator, tab, digit,
-    # all of them; a digit for a line end, for a separator, for both; all equal.
-    for bounds, accepted in (((10, 10, 9), b'.'), ((10, 32, 10), b'.'), ((10, 10, 10), b'.'), ((10, 32, 32), b'.'),
-                             (items.HOUSE, b'\n.'), (items.HOUSE, b' .'), (items.HOUSE, b'\t.'), (items.HOUSE, b'1.'),
-                             (items.HOUSE, b'\n 1'), ((49, 32, 9), b'.'), ((10, 49, 9), b'.'), ((49, 49, 9), b'.'),
-                             ((46, 32, 9), b'.'), ((49, 49, 49), b'1'), ((10, 46, 9), b'.')):
-        for more in (b'', b'wxyz'):
-            accepted = bytes(accepted + more)
-            R.blocks(listing, (*bounds, tuple(accepted)), TELLING, 4)
-            S.blocks(listing, (3, 1, *bounds, items.needles(accepted), tuple(accepted)), TELLING, 4)
-            S.blocks(listing, (3, 0, *bounds, items.needles(accepted), tuple(accepted)), TELLING, 4)
+    sets = b'.', b'.)xyz', b'', b'.a', b'.a)', b'.a)x'
+    items.blocks(R, S, listing, TELLING, sets, ((97, 46, 41), tuple(b'.a')), COLLISIONS)
     listing.comment('texts that are drawn')
     for seed, accepted in enumerate((b'.)', b'.)xyz', b'.'), 1):
         R.drawn(listing, (*items.HOUSE, tuple(accepted)), b'1234.)\n\n \ta', 60, seed, 1000)

@@ -37,3 +37,22 @@ def handmade(step, listing, bounds, accepted, text, others=()):
             for nn in range(5):
                 values = nn, streaming, *bounds, cells, tuple(accepted)
                 step.full(listing, values, text, *range(len(text) + 1))
+
+
+def blocks(run, step, listing, telling, sets, state, collisions):
+    """Blocks over the telling bytes: runs for sets of none to five accepted bytes, a handmade state (its
+    needles and its set), and bytes that collide, streamed and line by line."""
+    listing.comment('blocks: every text to five bytes, no to five accepted bytes')
+    for accepted in sets:
+        run.blocks(listing, (*HOUSE, tuple(accepted)), telling, 5)
+    listing.comment('handmade states at every position, both flags, every needle count, to four bytes')
+    for streaming in (0, 1):
+        for nn in range(5):
+            step.blocks(listing, (nn, streaming, *HOUSE, *state), telling, 4)
+    listing.comment('equal bytes, every text to four bytes')
+    for bounds, few in collisions:
+        for more in (b'', b'wxyz'):
+            accepted = tuple(few + more)
+            run.blocks(listing, (*bounds, accepted), telling, 4)
+            for streaming in (1, 0):
+                step.blocks(listing, (3, streaming, *bounds, needles(accepted), accepted), telling, 4)

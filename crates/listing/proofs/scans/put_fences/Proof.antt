@@ -1,0 +1,22 @@
+-- `put_fences` meets its contract. Assumes nothing.
+use Rattle.listing.specs.PartLaws.{part-first, part-second, part-both, part-last, part-before}
+use Rattle.listing.specs.Parts.{fence-parts}
+use borrow.Author.Needs.{needs}
+use Rattle.listing.proofs.scans.put_fences.Statement.{statement}
+use Rattle.listing.proofs.scans.put_fences.Tie as tie
+
+put-fences-of-requires : tie.Need-put-fences-of-requires
+put-fences-of-requires c κs = search (part-first fence-parts, part-last fence-parts, needs)
+
+put-fences-of-requires-2 : tie.Need-put-fences-of-requires-2
+put-fences-of-requires-2 c κs = search (part-second fence-parts, part-before fence-parts, needs)
+
+same-length : tie.Need-same-length
+same-length c = search needs
+
+returns : tie.Need-returns
+returns c = search (part-both fence-parts)
+
+pub put-fences-spec : {M : Type 1} → statement M
+put-fences-spec =
+    tie.close (tie.spec put-fences-of-requires put-fences-of-requires-2 same-length returns)

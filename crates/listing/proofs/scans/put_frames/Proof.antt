@@ -1,0 +1,72 @@
+-- `put_frames` meets its contract. Assumes nothing.
+use Prim.Native.Nat.{_-_}
+use Rattle.listing.specs.FrameLines.{Framing, frames-first, frames-again, frames-less, frames-none, frames-refused}
+use Rattle.listing.specs.GoingLaws.{going-same, going-here}
+use borrow.Author.Needs.{needs}
+use Rattle.listing.proofs.scans.put_frames.Statement.{statement}
+use Rattle.listing.proofs.scans.put_frames.Tie as tie
+
+abbrev Inv-loop : tie.InvT-loop
+Inv-loop text out₀ n state₀ k₀ out state k = Framing text n out₀ state out k
+
+abbrev μ-loop : tie.MeasureT-loop
+μ-loop text out₀ n state₀ k₀ out state k = 1000000 - k
+
+new-requires : tie.Need-new-requires Inv-loop μ-loop
+new-requires c κs = search needs
+
+loop-holds : tie.Need-loop-holds Inv-loop μ-loop
+loop-holds c = search (frames-first, needs)
+
+next-requires : tie.Need-next-requires Inv-loop μ-loop
+next-requires c κs = search needs
+
+enum-known-found : tie.Need-enum-known-found Inv-loop μ-loop
+enum-known-found c = search needs
+
+put-two-requires : tie.Need-put-two-requires Inv-loop μ-loop
+put-two-requires c κs = search going-here
+
+loop-less : tie.Need-loop-less Inv-loop μ-loop
+loop-less c = search frames-less
+
+loop-again : tie.Need-loop-again Inv-loop μ-loop
+loop-again c = search frames-again
+
+enum-told : tie.Need-enum-told Inv-loop μ-loop
+enum-told c = search needs
+
+same-length : tie.Need-same-length Inv-loop μ-loop
+same-length c = search going-same
+
+returns : tie.Need-returns Inv-loop μ-loop
+returns c = search frames-none
+
+enum-told-2 : tie.Need-enum-told-2 Inv-loop μ-loop
+enum-told-2 c = search needs
+
+same-length-2 : tie.Need-same-length-2 Inv-loop μ-loop
+same-length-2 c = search going-same
+
+returns-2 : tie.Need-returns-2 Inv-loop μ-loop
+returns-2 c = search frames-refused
+
+pub put-frames-spec : {M : Type 1} → statement M
+put-frames-spec =
+    tie.close
+    (tie.spec
+    Inv-loop
+    μ-loop
+    new-requires
+    loop-holds
+    next-requires
+    enum-known-found
+    put-two-requires
+    loop-less
+    loop-again
+    enum-told
+    same-length
+    returns
+    enum-told-2
+    same-length-2
+    returns-2)

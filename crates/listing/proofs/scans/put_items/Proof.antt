@@ -1,0 +1,22 @@
+-- `put_items` meets its contract. Assumes nothing.
+use Rattle.listing.specs.PartLaws.{part-first, part-second, part-both}
+use Rattle.listing.specs.Parts.{item-parts}
+use borrow.Author.Needs.{needs}
+use Rattle.listing.proofs.scans.put_items.Statement.{statement}
+use Rattle.listing.proofs.scans.put_items.Tie as tie
+
+put-markers-requires : tie.Need-put-markers-requires
+put-markers-requires c κs = search (part-first item-parts, needs)
+
+put-numbered-requires : tie.Need-put-numbered-requires
+put-numbered-requires c κs = search (part-second item-parts, needs)
+
+same-length : tie.Need-same-length
+same-length c = search needs
+
+returns : tie.Need-returns
+returns c = search (part-both item-parts)
+
+pub put-items-spec : {M : Type 1} → statement M
+put-items-spec =
+    tie.close (tie.spec put-markers-requires put-numbered-requires same-length returns)

@@ -1,0 +1,44 @@
+-- Regions and items held as runs of numbers, and the lines of their rows. Assumes nothing.
+use mathlib.Core.Path.{_≡_}
+use mathlib.Core.Bool.{cond}
+use mathlib.Core.List.{List, [], _∷_, _++_, map}
+use Prim.Native.Nat.{ℕ, _+_, _-_, _*_, _≤_}
+use lib.Dec.{eqb}
+use lib.ListN.{length, getD, drop}
+use Rattle.common.specs.Entry.{rows, putAt}
+use Rattle.context.specs.Region.{pair}
+use Rattle.sheet.specs.Sheet.{five}
+use Rattle.listing.specs.Lines.{lines}
+use Rattle.listing.specs.Listing.{regions, shown}
+
+-- a run whose first n rows are the text's regions
+pub record Held (s list : List ℕ) (n : ℕ) : Type 0 where
+  pub same : rows 2 n list ≡ map pair (regions s)
+  pub few : n ≤ 4097
+  pub long : length list ≡ 8194
+
+-- the lines of its first n rows
+unfoldable pub heldLines : List ℕ → ℕ → List ℕ
+heldLines list n = lines 82 (λ r. r) (rows 2 n list)
+
+-- a run whose first n rows are the items of the text's work sheet
+pub record Filed (s list : List ℕ) (n : ℕ) : Type 0 where
+  pub same : rows 5 n list ≡ map five (shown s)
+  pub few : n ≤ 8193
+  pub long : length list ≡ 40965
+
+-- the fields of a row of five numbers
+abbrev pub rowFields : List ℕ → List ℕ
+rowFields r = cond (eqb (getD r 2 0) 0) (getD r 0 0 ∷ getD r 1 0 ∷ getD r 3 0 ∷ []) (getD r 0 0 ∷ getD r 1 0 ∷ getD r 3 0 ∷ getD r 4 0 ∷ [])
+
+unfoldable pub filedLines : List ℕ → ℕ → List ℕ
+filedLines list n = lines 87 rowFields (rows 5 n list)
+
+-- what a loop knows that has put the lines of the first i of n rows
+pub record Rowing (letter w : ℕ) (row : List ℕ → List ℕ) (l : List ℕ) (n n₀ : ℕ) (out₀ : List ℕ) (i : ℕ) (out : List ℕ) (k : ℕ) : Type 0 where
+  pub within : i ≤ n
+  pub done : List ℕ
+  pub whole : lines letter row (rows w n l) ≡ done ++ lines letter row (rows w (n - i) (drop (i * w) l))
+  pub here : k ≡ n₀ + length done
+  pub list : out ≡ putAt n₀ done out₀
+  pub fits : n₀ + length (lines letter row (rows w n l)) ≤ 1000000

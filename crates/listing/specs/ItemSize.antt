@@ -1,0 +1,117 @@
+-- The bytes that lead the house's items are bytes, and a sheet's items are those. Assumes nothing.
+use mathlib.Core.Path.{_≡_, refl}
+use mathlib.Core.Bool.{true, false, _&&_}
+use mathlib.Core.List.{List, [], _∷_}
+use mathlib.Core.Logic.{_⊎_, inl, inr}
+use Prim.Native.Nat.{ℕ, _+_, _-_, _<_}
+use native.Mathlib.Omega.{arith}
+use lib.Dec.{eqb, ltb}
+use lib.ListN.{length, getD, take}
+use borrow.Author.Tests.{ltb-true, eqb-true}
+use Rattle.common.specs.Rules.{tabulate}
+use Rattle.common.specs.Search.{find, oneOf, back, holds}
+use Rattle.common.specs.SearchLaws.{decide, clash, find-at}
+use Rattle.common.specs.Sets.{acceptedFrom}
+use Rattle.common.specs.Items.{ItemGrammar, blank, leads}
+use Rattle.common.specs.ItemLaws.{both}
+use Rattle.common.specs.Turn.{Turn, Each, OnFound}
+use Rattle.block_marker.specs.Marker as marker
+use Rattle.block_marker.specs.declared.MarkerItem.{MarkerItem}
+use Rattle.block_numbered.specs.Numbered as numbered
+use Rattle.block_numbered.specs.declared.NumberedItem.{NumberedItem}
+use Rattle.sheet.specs.Sheet.{merge, inside, placeOf, outside}
+use Rattle.sheet.specs.declared.item.SheetItem.{SheetItem}
+use Rattle.listing.specs.Listing.{houseMarkers, houseDelims}
+
+-- one of some bytes is a byte
+one-small : (l : List ℕ) (x : ℕ) → Each (λ y. y < 256) l → oneOf l x ≡ true → x < 256
+unfolding oneOf
+one-small [] x w e = absurd (clash e refl)
+one-small (y ∷ l) x w e = by (one-small l x (w .1)) (decide (eqb x y))
+  where
+    by : (oneOf l x ≡ true → x < 256) → (eqb x y ≡ true) ⊎ (eqb x y ≡ false) → x < 256
+    by ih (inl u) = omega (arith, eqb-true x y u)
+    by ih (inr u) = ih (rw u at e)
+
+-- ---- fresh states of the house stream, by these needles
+mark-streams : marker.fresh 10 32 9 houseMarkers .streaming ≡ true
+unfolding acceptedFrom tabulate oneOf
+mark-streams = refl
+
+mark-needles : (x : ℕ) → oneOf (take (marker.fresh 10 32 9 houseMarkers .nn) (marker.fresh 10 32 9 houseMarkers .needles)) x ≡ true → x < 256
+unfolding acceptedFrom tabulate oneOf
+mark-needles x e = one-small (42 ∷ 43 ∷ 45 ∷ []) x (omega arith, (omega arith, (omega arith, tt))) e
+
+number-streams : numbered.fresh 10 32 9 houseDelims .streaming ≡ true
+unfolding acceptedFrom tabulate oneOf
+number-streams = refl
+
+number-needles : (x : ℕ) → oneOf (take (numbered.fresh 10 32 9 houseDelims .nn) (numbered.fresh 10 32 9 houseDelims .needles)) x ≡ true → x < 256
+unfolding acceptedFrom tabulate oneOf
+number-needles x e = one-small (41 ∷ 46 ∷ []) x (omega arith, (omega arith, tt)) e
+
+-- ---- what their turns find
+abbrev pub Mark : MarkerItem → Type 0
+Mark i = i .marker < 256
+
+abbrev pub Delimiter : NumberedItem → Type 0
+Delimiter i = i .delimiter < 256
+
+pub mark-byte : (s : List ℕ) (q : ℕ) → OnFound Mark (marker.turn (marker.fresh 10 32 9 houseMarkers) houseMarkers s q)
+unfolding marker.turn marker.streamTurn
+mark-byte s q = both (λ (t : ℕ → Turn MarkerItem). OnFound Mark (t q)) (marker.fresh 10 32 9 houseMarkers .streaming) _ _ (λ e. streamed) (λ e. absurd (clash mark-streams e))
+  where
+    g : ItemGrammar
+    g = marker.byNeedles (marker.fresh 10 32 9 houseMarkers)
+
+    p : ℕ
+    p = find (g .accepts) s q
+
+    streamed : OnFound Mark (marker.streamTurn g s q)
+    streamed =
+        both (OnFound Mark) (ltb p (length s)) _ _
+        (λ u.
+        both (OnFound Mark) (leads (g .eol) (g .sep) (g .tab) s p && holds (blank g) s (p + 1)) _ _ (λ v. mark-needles (getD s p 0) (find-at (g .accepts) s q (ltb-true p (length s) u))) (λ v. tt))
+        (λ u. tt)
+
+pub number-byte : (s : List ℕ) (q : ℕ) → OnFound Delimiter (numbered.turn (numbered.fresh 10 32 9 houseDelims) houseDelims s q)
+unfolding numbered.turn numbered.streamTurn
+number-byte s q = both (λ (t : ℕ → Turn NumberedItem). OnFound Delimiter (t q)) (numbered.fresh 10 32 9 houseDelims .streaming) _ _ (λ e. streamed) (λ e. absurd (clash number-streams e))
+  where
+    g : ItemGrammar
+    g = numbered.byNeedles (numbered.fresh 10 32 9 houseDelims)
+
+    p : ℕ
+    p = find (g .accepts) s q
+
+    n : ℕ
+    n = back numbered.digit s p
+
+    streamed : OnFound Delimiter (numbered.streamTurn g s q)
+    streamed =
+        both (OnFound Delimiter) (ltb p (length s)) _ _
+        (λ u.
+        both (OnFound Delimiter) (numbered.oneToNine n && (leads (g .eol) (g .sep) (g .tab) s (p - n) && holds (blank g) s (p + 1))) _ _
+        (λ v. number-needles (getD s p 0) (find-at (g .accepts) s q (ltb-true p (length s) u))) (λ v. tt))
+        (λ u. tt)
+
+-- ---- what all items have, those of a sheet have
+module _ (P : SheetItem → Type 0) where
+  pub each-merge : (a b : List SheetItem) → Each P a → Each P b → Each P (merge a b)
+  unfolding merge
+  each-merge [] b v w = w
+  each-merge (x ∷ a) [] v w = v
+  each-merge (x ∷ a) (y ∷ b) v w = by (each-merge (x ∷ a) b v (w .1)) (each-merge a (y ∷ b) (v .1) w) (decide (ltb (y .start) (x .start)))
+    where
+      by : Each P (merge (x ∷ a) b) → Each P (merge a (y ∷ b)) → (ltb (y .start) (x .start) ≡ true) ⊎ (ltb (y .start) (x .start) ≡ false) → Each P (merge (x ∷ a) (y ∷ b))
+      by f g (inl u) = rw (u, merge) (w .0, f)
+      by f g (inr u) = rw (u, merge) (v .0, g)
+
+  pub each-outside : (regions : List (List ℕ)) (l : List SheetItem) → Each P l → Each P (outside regions l)
+  unfolding outside
+  each-outside regions [] w = tt
+  each-outside regions (i ∷ l) w = by (each-outside regions l (w .1)) (decide (inside regions (placeOf i)))
+    where
+      by : Each P (outside regions l) → (inside regions (placeOf i) ≡ true) ⊎ (inside regions (placeOf i) ≡ false) → Each P (outside regions (i ∷ l))
+      by f (inl u) = rw (u, outside) f
+      by f (inr u) = rw (u, outside) (w .0, f)

@@ -1,0 +1,98 @@
+-- The listing of a text by the house grammar. Assumes nothing.
+use mathlib.Core.Path.{_≡_}
+use mathlib.Core.Bool.{Bool, cond}
+use mathlib.Core.List.{List, [], _∷_, _++_}
+use Prim.Native.Nat.{ℕ}
+use lib.Dec.{eqb, ltb}
+use lib.ListN.{length}
+use Rattle.common.specs.Entry.{flatten, over}
+use Rattle.common.specs.Grammars.{house}
+use Rattle.common.specs.Refusals.{Outcome, given, refuse}
+use Rattle.common.specs.Sets.{setOf}
+use Rattle.common.specs.declared.span.Span.{Span}
+use Rattle.fence.specs.Fence as fence
+use Rattle.cont.specs.Frames.{frames}
+use Rattle.cont.specs.Cont as cont
+use Rattle.block_marker.specs.Marker as marker
+use Rattle.block_numbered.specs.Numbered as numbered
+use Rattle.context.specs.Region.{Caused, pair}
+use Rattle.context.specs.Build.{unless}
+use Rattle.context.specs.Columns.{Columns, columns, gramOf}
+use Rattle.context.specs.Regions as context
+use Rattle.sheet.specs.Sheet.{sheetOf}
+use Rattle.sheet.specs.declared.item.SheetItem.{SheetItem}
+use Rattle.listing.specs.Lines.{line, lines}
+
+-- ---- "House grammar: line end 10, escape 92, separator 32, tab 9" (`house`)
+-- "fences backtick and tilde, min 3; symmetric backtick, count 1; asymmetric `<` `>`, count 1"
+abbrev pub houseRules : Columns
+houseRules = columns (96 ∷ 126 ∷ []) (3 ∷ 3 ∷ []) (96 ∷ []) (1 ∷ []) (60 ∷ []) (62 ∷ []) (1 ∷ [])
+
+-- "markers `- * +`; delimiters `. )`"
+abbrev pub houseMarkers : List Bool
+houseMarkers = setOf (45 ∷ 42 ∷ 43 ∷ [])
+
+abbrev pub houseDelims : List Bool
+houseDelims = setOf (46 ∷ 41 ∷ [])
+
+-- ---- "`R` start end"
+unfoldable pub regions : List ℕ → List Caused
+regions s = context.regions (gramOf house houseRules) s
+
+unfoldable pub regionLines : List ℕ → List ℕ
+regionLines s = lines 82 pair (regions s)
+
+-- ---- "`F` start end fence byte"
+abbrev pub fenceRow : ℕ → fence.Fence → List ℕ
+fenceRow byte f = f .start ∷ f .end ∷ byte ∷ []
+
+unfoldable pub fencesOf : ℕ → List ℕ → List ℕ
+fencesOf byte s = lines 70 (fenceRow byte) (fence.fences (fence.fresh byte 3 10 32 9) s)
+
+-- ---- "`C` start end": "continuation `>`, nest 8"
+abbrev pub frameRow : Span → List ℕ
+frameRow f = f .start ∷ f .end ∷ []
+
+unfoldable pub frameLines : List ℕ → List ℕ
+frameLines s = lines 67 frameRow (frames (cont.marksOf (cont.fresh 62 10 32 9 8)) s)
+
+-- ---- "`M` start end marker byte": all items that a fresh state has before it
+unfoldable pub markerLines : List ℕ → List ℕ
+markerLines s = lines 77 marker.values (marker.items (marker.fresh 10 32 9 houseMarkers) houseMarkers s)
+
+-- ---- "`N` start end delimiter number"
+unfoldable pub numberedLines : List ℕ → List ℕ
+numberedLines s = lines 78 numbered.values (numbered.items (numbered.fresh 10 32 9 houseDelims) houseDelims s)
+
+-- ---- "then `W` for sheet items, with their M or N fields": kind 0 is a marker
+abbrev pub sheetRow : SheetItem → List ℕ
+sheetRow i = cond (eqb (i .kind) 0) (i .start ∷ i .end ∷ i .byte ∷ []) (i .start ∷ i .end ∷ i .byte ∷ i .number ∷ [])
+
+-- the work sheet by the list of the text's regions
+unfoldable pub shown : List ℕ → List SheetItem
+shown s = sheetOf house houseMarkers houseDelims (flatten pair (regions s)) (length (regions s)) s
+
+unfoldable pub sheetLines : List ℕ → List ℕ
+sheetLines s = lines 87 sheetRow (shown s)
+
+-- ---- the listing
+-- "`R` …; `F` … (backtick fences first); `C` …; `M` …; `N` …; then `W` …"
+unfoldable pub entries : List ℕ → List ℕ
+entries s = regionLines s ++ (fencesOf 96 s ++ (fencesOf 126 s ++ (frameLines s ++ (markerLines s ++ (numberedLines s ++ sheetLines s)))))
+
+-- "more than 8,192 bytes, the program's own limit, prints only `X<TAB>1`"
+unfoldable pub listed : List ℕ → List ℕ
+listed s = cond (ltb 8192 (length s)) (line 88 (1 ∷ [])) (entries s)
+
+-- ---- what is promised
+-- 3 where the run is too small for the listing; else the number of bytes written
+unfoldable pub listingAnswer : List ℕ → List ℕ → Outcome
+listingAnswer s out = refuse 3 (ltb (length out) (length (listed s))) (given (length (listed s) ∷ []))
+
+-- the listing over the front of the run, and nothing beyond it changed; a refusal changes nothing
+unfoldable pub listingRun : List ℕ → List ℕ → List ℕ
+listingRun s out = unless (ltb (length out) (length (listed s))) out (over (listed s) out)
+
+pub record Listed (s out out′ : List ℕ) (o : Outcome) : Type 0 where
+  pub answer : o ≡ listingAnswer s out
+  pub run : out′ ≡ listingRun s out

@@ -1,0 +1,88 @@
+-- Laws of what is put at a place of a run: one behind the other, and the rules of the functions that put bytes, numbers and lines. Assumes nothing.
+use mathlib.Core.Path.{_≡_, refl, sym, ap, _∙_}
+use mathlib.Core.List.{List, [], _∷_, _++_, append-assoc, append-nil}
+use Prim.Native.Nat.{ℕ, suc, _+_, _≤_, _<_, _/_, _%_}
+use native.Mathlib.Omega.{arith}
+use lib.ListN.{length, set, length-append}
+use lib.Seq.{set-out}
+use mir.Val.{Fits}
+use mir.Syntax.{w32}
+use Rattle.common.specs.Promise.{Gives}
+use Rattle.common.specs.Entry.{putAt}
+use Rattle.listing.specs.Lines.{decimal, field, fields, line}
+use Rattle.listing.specs.LineLaws.{decimal-small, decimal-more, decimal-few}
+use Rattle.listing.specs.Put.{Put}
+
+-- one list behind another
+pub put-append : (k : ℕ) (a b out : List ℕ) → putAt k (a ++ b) out ≡ putAt (k + length a) b (putAt k a out)
+put-append k [] b out =
+    let z : k + 0 ≡ k = omega arith in
+    rw z
+put-append k (x ∷ a) b out =
+    let z : k + suc (length a) ≡ k + 1 + length a = omega arith in
+    rw z (put-append (k + 1) a b (set out k x))
+
+-- ---- one byte
+module _ {b n : ℕ} {out : List ℕ} where
+  pub byte-in : n < length out → Put 1 (b ∷ []) n out (set out n b) (n + 1)
+  byte-in h = record { next = refl; list = refl; short = omega arith }
+
+  pub byte-past : length out ≤ n → Put 1 (b ∷ []) n out out (n + 1)
+  byte-past h = record { next = refl; list = sym (set-out out n b h); short = omega arith }
+
+-- ---- one behind the other
+module _ {a b : List ℕ} {n r r′ : ℕ} {out out′ out″ : List ℕ} where
+  then : {k m : ℕ} → Put k a n out out′ r → Put m b r out′ out″ r′ → (most : ℕ) → r′ ≤ n + most → Put most (a ++ b) n out out″ r′
+  then w v most h =
+      record {
+        next = v .next ∙ rw (w .next, length-append a b) (omega arith);
+        list = v .list ∙ rw (w .list, w .next) (sym (put-append n a b out));
+        short = h;
+      }
+
+-- ---- a number
+module _ {x d n r : ℕ} {out out′ : List ℕ} where
+  pub number-small : x < 10 → Gives (48 + x % 10) d → Put 1 (d ∷ []) n out out′ r → Put 10 (decimal x) n out out′ r
+  number-small h g w =
+      let e : d ∷ [] ≡ decimal x = rw (decimal-small x h, g .answer) (ap (λ (y : ℕ). y ∷ []) (omega arith)) in
+      record { next = w .next ∙ ap (λ (l : List ℕ). n + length l) e; list = w .list ∙ ap (λ (l : List ℕ). putAt n l out) e; short = omega (arith, w .short) }
+
+  pub number-more : {k : ℕ} {out″ : List ℕ} → 10 ≤ x → Gives (48 + x % 10) d → Put 1 (d ∷ []) k out′ out″ r → Put 10 (decimal (x / 10)) n out out′ k → Fits w32 x → Put 10 (decimal x) n out out″ r
+  number-more h g w v b =
+      let e : decimal (x / 10) ++ (d ∷ []) ≡ decimal x = rw (g .answer) (sym (decimal-more x h)) in
+      let u = then v w (1 + 10) (omega (arith, w .short, v .short)) in
+      record {
+        next = u .next ∙ ap (λ (l : List ℕ). n + length l) e;
+        list = u .list ∙ ap (λ (l : List ℕ). putAt n l out) e;
+        short = omega (arith, u .next, ap length e, decimal-few 9 x (omega (arith, b .fits)));
+      }
+
+-- ---- fields and lines
+module _ {n r r₁ : ℕ} {out out₁ out′ : List ℕ} where
+  pub field-put : (x : ℕ) → Put 10 (decimal x) r₁ out₁ out′ r → Put 1 (9 ∷ []) n out out₁ r₁ → Put 11 (field x) n out out′ r
+  unfolding field
+  field-put x w v = then v w 11 (omega (arith, w .short, v .short))
+
+  pub two-put : (letter a b : ℕ) → Put 1 (10 ∷ []) r₁ out₁ out′ r → Put 23 (letter ∷ fields (a ∷ b ∷ [])) n out out₁ r₁ → Put 24 (line letter (a ∷ b ∷ [])) n out out′ r
+  two-put letter a b w v = then v w 24 (omega (arith, w .short, v .short))
+
+put-as : {most n r : ℕ} {a b out out′ : List ℕ} → a ≡ b → Put most a n out out′ r → Put most b n out out′ r
+put-as e w = rw (← e) w
+
+module _ (letter a : ℕ) {n r r₁ r₂ : ℕ} {out out₁ out₂ out′ : List ℕ} where
+  pub one-put : Put 1 (10 ∷ []) r₂ out₂ out′ r → Put 11 (field a) r₁ out₁ out₂ r₂ → Put 1 (letter ∷ []) n out out₁ r₁ → Put 13 (line letter (a ∷ [])) n out out′ r
+  one-put x w v = put-as (simp append-assoc) (then (then v w 12 (omega (arith, w .short, v .short))) x 13 (omega (arith, x .short, w .short, v .short)))
+
+  module _ (b : ℕ) where
+    pub head-put : Put 11 (field b) r₂ out₂ out′ r → Put 11 (field a) r₁ out₁ out₂ r₂ → Put 1 (letter ∷ []) n out out₁ r₁ → Put 23 (letter ∷ fields (a ∷ b ∷ [])) n out out′ r
+    head-put x w v = put-as (rw (append-nil (field b))) (then (then v w 12 (omega (arith, w .short, v .short))) x 23 (omega (arith, x .short, w .short, v .short)))
+
+    pub four-put : (c d : ℕ) → Put 1 (10 ∷ []) r₂ out₂ out′ r → Put 11 (field d) r₁ out₁ out₂ r₂ → Put 34 (letter ∷ fields (a ∷ b ∷ c ∷ [])) n out out₁ r₁ → Put 46 (line letter (a ∷ b ∷ c ∷ d ∷ [])) n out out′ r
+    four-put c d x w v = put-as (simp append-assoc) (then (then v w 45 (omega (arith, w .short, v .short))) x 46 (omega (arith, x .short, w .short, v .short)))
+
+module _ (letter a b c : ℕ) {n r r₁ : ℕ} {out out₁ out′ : List ℕ} where
+  pub head-three-put : Put 11 (field c) r₁ out₁ out′ r → Put 23 (letter ∷ fields (a ∷ b ∷ [])) n out out₁ r₁ → Put 34 (letter ∷ fields (a ∷ b ∷ c ∷ [])) n out out′ r
+  head-three-put w v = put-as (simp (append-assoc, append-nil)) (then v w 34 (omega (arith, w .short, v .short)))
+
+  pub three-put : Put 1 (10 ∷ []) r₁ out₁ out′ r → Put 34 (letter ∷ fields (a ∷ b ∷ c ∷ [])) n out out₁ r₁ → Put 35 (line letter (a ∷ b ∷ c ∷ [])) n out out′ r
+  three-put w v = then v w 35 (omega (arith, w .short, v .short))

@@ -1,0 +1,194 @@
+-- How long a listing can be: at most 1,000,000 bytes for each text that is listed. Assumes nothing.
+use mathlib.Core.Path.{_≡_}
+use mathlib.Core.List.{List, [], _∷_, _++_, map}
+use Prim.Native.Nat.{ℕ, zero, suc, _+_, _*_, _≤_, _<_}
+use native.Mathlib.Nat.{zero-mul, suc-mul}
+use native.Mathlib.Omega.{arith}
+use lib.Dec.{ltb}
+use lib.ListN.{length, length-append}
+use borrow.Author.Tests.{ltb-false}
+use Rattle.common.specs.Grammars.{house}
+use Rattle.common.specs.Entry.{flatten, rows}
+use Rattle.common.specs.Search.{find}
+use Rattle.common.specs.Turn.{Turn, go, stop, found, thenCollect, collect, Adv, Each, OnFound}
+use Rattle.common.specs.TurnLaws.{by-turn, collect-each}
+use Rattle.common.specs.ItemLaws.{both}
+use Rattle.context.specs.Region.{Caused, pair, InOrder}
+use Rattle.context.specs.Columns.{gramOf}
+use Rattle.context.specs.Ahead.{regions-in-order}
+use Rattle.fence.specs.Fence as fence
+use Rattle.fence.specs.Laws as fenceLaws
+use Rattle.fence.specs.Run as fenceRun
+use Rattle.cont.specs.Frames.{frames}
+use Rattle.cont.specs.Cont as cont
+use Rattle.block_marker.specs.Marker as marker
+use Rattle.block_marker.specs.MarkerRun as markerRun
+use Rattle.block_marker.specs.declared.MarkerItem.{MarkerItem}
+use Rattle.block_numbered.specs.Numbered as numbered
+use Rattle.block_numbered.specs.NumberedRun as numberedRun
+use Rattle.block_numbered.specs.declared.NumberedItem.{NumberedItem}
+use Rattle.sheet.specs.Sheet.{marked, counted, markItems, numberedItems, merge, sheetOf}
+use Rattle.sheet.specs.declared.item.SheetItem.{SheetItem}
+use Rattle.listing.specs.Lines.{decimal, field, fields, line, lines}
+use Rattle.listing.specs.LineLaws.{decimal-few}
+use Rattle.listing.specs.Put.{Room}
+use Rattle.listing.specs.Listing.{houseRules, houseMarkers, houseDelims, regions, regionLines, fenceRow, fencesOf, frameRow, frameLines, markerLines, numberedLines, sheetRow, shown, sheetLines, entries, listed}
+use Rattle.listing.specs.FoundLaws.{few-regions, few-shown}
+use Rattle.listing.specs.FrameSize.{each-as, Inside, frames-inside, frames-few}
+use Rattle.listing.specs.ItemSize.{Mark, Delimiter, mark-byte, number-byte, each-merge, each-outside}
+
+-- ---- lines
+field-most : (d n : ℕ) → length (decimal n) ≤ d → length (field n) ≤ suc d
+unfolding field
+field-most d n h = omega arith
+
+-- a place of the text, a byte, and the number of an item
+place-most : (n : ℕ) → n ≤ 8192 → length (field n) ≤ 5
+place-most n h = field-most 4 n (decimal-few 3 n (omega arith))
+
+byte-most : (n : ℕ) → n < 256 → length (field n) ≤ 4
+byte-most n h = field-most 3 n (decimal-few 2 n (omega arith))
+
+number-most : (n : ℕ) → n < 1000000000 → length (field n) ≤ 10
+number-most n h = field-most 9 n (decimal-few 8 n (omega arith))
+
+line-size : (letter : ℕ) (ns : List ℕ) → length (line letter ns) ≡ 2 + length (fields ns)
+line-size letter ns = omega (arith, length-append (fields ns) (10 ∷ []))
+
+fields-size : (n : ℕ) (ns : List ℕ) → length (fields (n ∷ ns)) ≡ length (field n) + length (fields ns)
+fields-size n ns = length-append (field n) (fields ns)
+
+module _ (letter a b : ℕ) (ha : a ≤ 8192) (hb : b ≤ 8192) where
+  two-most : length (line letter (a ∷ b ∷ [])) ≤ 12
+  two-most = omega (arith, line-size letter (a ∷ b ∷ []), fields-size a (b ∷ []), fields-size b [], place-most a ha, place-most b hb)
+
+  module _ (c : ℕ) (hc : c < 256) where
+    three-most : length (line letter (a ∷ b ∷ c ∷ [])) ≤ 16
+    three-most = omega (arith, line-size letter (a ∷ b ∷ c ∷ []), fields-size a (b ∷ c ∷ []), fields-size b (c ∷ []), fields-size c [], place-most a ha, place-most b hb, byte-most c hc)
+
+    four-most : (d : ℕ) → d < 1000000000 → length (line letter (a ∷ b ∷ c ∷ d ∷ [])) ≤ 26
+    four-most d hd =
+        omega (arith, line-size letter (a ∷ b ∷ c ∷ d ∷ []), fields-size a (b ∷ c ∷ d ∷ []), fields-size b (c ∷ d ∷ []), fields-size c (d ∷ []), fields-size d [], place-most a ha, place-most b hb, byte-most c hc, number-most d hd)
+
+lines-most : {A : Type 0} (letter m : ℕ) (row : A → List ℕ) (l : List A) → Each (λ a. length (line letter (row a)) ≤ m) l → length (lines letter row l) ≤ length l * m
+lines-most letter m row [] w = omega (arith, zero-mul m)
+lines-most letter m row (a ∷ l) w = omega (arith, length-append (line letter (row a)) (lines letter row l), lines-most letter m row l (w .1), suc-mul (length l) m)
+
+-- ---- what turns find is no more than the text has places
+module _ {A : Type 0} {Lies : ℕ → ℕ → A → Type 0} {step : ℕ → Turn A} {len : ℕ} (adv : Adv Lies step len) where
+  found-few : (f q : ℕ) → q ≤ len → length (collect step f q) + q ≤ len
+  unfolding collect
+  found-few zero q h = omega arith
+  found-few (suc f) q h =
+      by-turn adv (λ t. length (thenCollect (collect step f) t) + q ≤ len) q h (λ n m i. omega (arith, found-few f n i)) (λ v m i. omega arith) (λ a n m i w. omega (arith, found-few f n i))
+
+-- what each turn says of the thing that it finds holds of all
+collect-found : {A : Type 0} (P : A → Type 0) (step : ℕ → Turn A) → ((q : ℕ) → OnFound P (step q)) → (f q : ℕ) → Each P (collect step f q)
+unfolding collect
+collect-found P step w zero q = tt
+collect-found {A} P step w (suc f) q = by (collect-found P step w f) (step q) (w q)
+  where
+    by : ((n : ℕ) → Each P (collect step f n)) → (t : Turn A) → OnFound P t → Each P (thenCollect (collect step f) t)
+    by ih (go n) v = ih n
+    by ih (stop n) v = tt
+    by ih (found a n) v = (v, ih n)
+
+each-both : {A : Type 0} (P Q : A → Type 0) (l : List A) → Each P l → Each Q l → Each (λ a. P a × Q a) l
+each-both P Q [] v w = tt
+each-both P Q (a ∷ l) v w = ((v .0, w .0), each-both P Q l (v .1) (w .1))
+
+each-map : {A B : Type 0} (P : B → Type 0) (f : A → B) (l : List A) → Each (λ a. P (f a)) l → Each P (map f l)
+each-map P f [] w = tt
+each-map P f (a ∷ l) w = (w .0, each-map P f l (w .1))
+
+module _ (s : List ℕ) (h : length s ≤ 8192) where
+  -- ---- regions
+  regions-inside : (from : ℕ) (l : List Caused) → InOrder from (length s) l → Each (λ r. length (line 82 (pair r)) ≤ 12) l
+  regions-inside from [] w = tt
+  regions-inside from (r ∷ l) w = (two-most 82 (r .start) (r .stop) (omega arith) (omega arith), regions-inside (r .stop) l (w .3))
+
+  region-most : length (regionLines s) ≤ 49164
+  unfolding regionLines regions
+  region-most = omega (arith, few-regions s h, lines-most 82 12 pair (regions s) (regions-inside 0 (regions s) (regions-in-order (gramOf house houseRules) s)))
+
+  -- ---- fences
+  fence-most : (byte : ℕ) → byte < 256 → length (fencesOf byte s) ≤ 131072
+  unfolding fencesOf fence.fences
+  fence-most byte k =
+      let g = fence.fresh byte 3 10 32 9 in
+      let adv = fenceLaws.turn-adv g s in
+      let l = collect (fence.openTurn g s) (suc (length s)) 0 in
+      let w : Each (λ f. length (line 70 (fenceRow byte f)) ≤ 16) l = collect-each adv (λ f. length (line 70 (fenceRow byte f)) ≤ 16) (λ q n f i v. three-most 70 (f .start) (f .end) (omega arith) (omega arith) byte k) (suc (length s)) 0 (omega arith) in
+      rw (← (fenceRun.turns-find g s 0 (omega arith))) (omega (arith, found-few adv (suc (length s)) 0 (omega arith), lines-most 70 16 (fenceRow byte) l w))
+
+  -- ---- frames
+  frame-most : length (frameLines s) ≤ 98304
+  unfolding frameLines
+  frame-most =
+      let m = cont.marksOf (cont.fresh 62 10 32 9 8) in
+      omega (arith, frames-few m s, lines-most 67 12 frameRow (frames m s) (each-as (Inside (length s)) (λ f. length (line 67 (frameRow f)) ≤ 12) (λ f w. two-most 67 (f .start) (f .end) (omega arith) (omega arith)) (frames m s) (frames-inside m s)))
+
+  -- ---- items
+  marks-fit : Each (λ i. (i .span .start ≤ 8192) × (i .span .end ≤ 8192) × (i .marker < 256)) (marker.items (marker.fresh 10 32 9 houseMarkers) houseMarkers s)
+  marks-fit =
+      let g = marker.fresh 10 32 9 houseMarkers in
+      let l = marker.items g houseMarkers s in
+      let In : MarkerItem → Type 0 = λ i. (i .span .start ≤ 8192) × (i .span .end ≤ 8192) in
+      each-as (λ i. In i × Mark i) (λ i. (i .span .start ≤ 8192) × (i .span .end ≤ 8192) × (i .marker < 256)) (λ i w. (w .0 .0, w .0 .1, w .1)) l
+      (each-both In Mark l (collect-each (markerRun.turn-adv g houseMarkers s) In (λ q n i k w. (omega arith, omega arith)) (suc (length s)) 0 (omega arith)) (collect-found Mark (marker.turn g houseMarkers s) (mark-byte s) (suc (length s)) 0))
+
+  numbers-fit : Each (λ i. (i .span .start ≤ 8192) × (i .span .end ≤ 8192) × (i .delimiter < 256) × (i .number < 1000000000)) (numbered.items (numbered.fresh 10 32 9 houseDelims) houseDelims s)
+  numbers-fit =
+      let g = numbered.fresh 10 32 9 houseDelims in
+      let l = numbered.items g houseDelims s in
+      let In : NumberedItem → Type 0 = λ i. (i .span .start ≤ 8192) × (i .span .end ≤ 8192) × (i .number < 1000000000) in
+      each-as (λ i. In i × Delimiter i) (λ i. (i .span .start ≤ 8192) × (i .span .end ≤ 8192) × (i .delimiter < 256) × (i .number < 1000000000)) (λ i w. (w .0 .0, w .0 .1, w .1, w .0 .2)) l
+      (each-both In Delimiter l (collect-each (numberedRun.turn-adv g houseDelims s) In (λ q n i k w. (omega arith, omega arith, omega arith)) (suc (length s)) 0 (omega arith))
+      (collect-found Delimiter (numbered.turn g houseDelims s) (number-byte s) (suc (length s)) 0))
+
+  marker-most : length (markerLines s) ≤ 131072
+  unfolding markerLines
+  marker-most =
+      let l = marker.items (marker.fresh 10 32 9 houseMarkers) houseMarkers s in
+      omega (arith, found-few (markerRun.turn-adv (marker.fresh 10 32 9 houseMarkers) houseMarkers s) (suc (length s)) 0 (omega arith), lines-most 77 16 marker.values l (each-as (λ i. (i .span .start ≤ 8192) × (i .span .end ≤ 8192) × (i .marker < 256)) (λ i. length (line 77 (marker.values i)) ≤ 16) (λ i w. three-most 77 (i .span .start) (i .span .end) (w .0) (w .1) (i .marker) (w .2)) l marks-fit))
+
+  numbered-most : length (numberedLines s) ≤ 212992
+  unfolding numberedLines
+  numbered-most =
+      let l = numbered.items (numbered.fresh 10 32 9 houseDelims) houseDelims s in
+      omega (arith, found-few (numberedRun.turn-adv (numbered.fresh 10 32 9 houseDelims) houseDelims s) (suc (length s)) 0 (omega arith), lines-most 78 26 numbered.values l (each-as (λ i. (i .span .start ≤ 8192) × (i .span .end ≤ 8192) × (i .delimiter < 256) × (i .number < 1000000000)) (λ i. length (line 78 (numbered.values i)) ≤ 26) (λ i w. four-most 78 (i .span .start) (i .span .end) (w .0) (w .1) (i .delimiter) (w .2) (i .number) (w .3)) l numbers-fit))
+
+  -- ---- the work sheet
+  shown-fit : Each (λ i. length (line 87 (sheetRow i)) ≤ 26) (shown s)
+  unfolding shown sheetOf markItems numberedItems
+  shown-fit =
+      let P : SheetItem → Type 0 = λ i. length (line 87 (sheetRow i)) ≤ 26 in
+      let ms = marker.items (marker.fresh 10 32 9 houseMarkers) houseMarkers s in
+      let ns = numbered.items (numbered.fresh 10 32 9 houseDelims) houseDelims s in
+      let a : Each P (map marked ms) = each-map P marked ms (each-as (λ i. (i .span .start ≤ 8192) × (i .span .end ≤ 8192) × (i .marker < 256)) (λ i. P (marked i)) (λ i w. omega (arith, three-most 87 (i .span .start) (i .span .end) (w .0) (w .1) (i .marker) (w .2))) ms marks-fit) in
+      let b : Each P (map counted ns) = each-map P counted ns (each-as (λ i. (i .span .start ≤ 8192) × (i .span .end ≤ 8192) × (i .delimiter < 256) × (i .number < 1000000000)) (λ i. P (counted i)) (λ i w. four-most 87 (i .span .start) (i .span .end) (w .0) (w .1) (i .delimiter) (w .2) (i .number) (w .3)) ns numbers-fit) in
+      each-outside P (rows 2 (length (regions s)) (flatten pair (regions s))) (merge (map marked ms) (map counted ns)) (each-merge P (map marked ms) (map counted ns) a b)
+
+  sheet-most : length (sheetLines s) ≤ 212992
+  unfolding sheetLines
+  sheet-most = omega (arith, few-shown s, lines-most 87 26 sheetRow (shown s) shown-fit)
+
+  -- ---- all of it
+  entries-most : length (entries s) ≤ 1000000
+  unfolding entries
+  entries-most =
+      let f = fencesOf 96 s in
+      let g = fencesOf 126 s in
+      let c = frameLines s in
+      let m = markerLines s in
+      let n = numberedLines s in
+      let w = sheetLines s in
+      omega (arith, length-append (regionLines s) (f ++ (g ++ (c ++ (m ++ (n ++ w))))), length-append f (g ++ (c ++ (m ++ (n ++ w)))), length-append g (c ++ (m ++ (n ++ w))), length-append c (m ++ (n ++ w)), length-append m (n ++ w), length-append n w, region-most, fence-most 96 (omega arith), fence-most 126 (omega arith), frame-most, marker-most, numbered-most, sheet-most)
+
+  pub entries-room : Room 0 (entries s)
+  entries-room = record { fits = omega (arith, entries-most) }
+
+-- a run of 1,000,000 bytes has room for the listing of every text
+pub listed-most : (s : List ℕ) → length (listed s) ≤ 1000000
+unfolding listed
+listed-most s = both (λ (l : List ℕ). length l ≤ 1000000) (ltb 8192 (length s)) (line 88 (1 ∷ [])) (entries s) (λ e. omega (arith, line-size 88 (1 ∷ []), fields-size 1 [], byte-most 1 (omega arith))) (λ e. entries-most s (ltb-false 8192 (length s) e))

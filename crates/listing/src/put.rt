@@ -1,0 +1,113 @@
+// Bytes, numbers and lines, put at a place of a run. What lies past the run's end is passed over but counted: so that the same code
+// counts and writes. A listing ends at or before place 1,000,000 and its lines are short, so that no place is too large for a sum.
+ghost use mathlib.Core.List.{[], _∷_};
+ghost use Prim.Native.Nat.{_+_, _%_, _≤_};
+ghost use Rattle.common.specs.Promise.{Gives};
+ghost use Rattle.listing.specs.Lines.{decimal, field, fields, line};
+ghost use Rattle.listing.specs.Put.{Put};
+
+const TAB: u8 = 9;
+
+const EOL: u8 = 10;
+
+// The last digit of a number.
+fn digit(x: u32) -> u8
+    ensures { λ r. ⌜ Gives (48 + x % 10) r ⌝ }
+{
+    (48 + x % 10) as u8
+}
+
+// Puts one byte at place `n`, and answers the next place.
+fn put_byte(out: &mut [u8], n: usize, b: u8) -> usize
+    requires { ⌜ n ≤ 1000100 ⌝ }
+    ensures { λ r. ⌜ Put 1 (b ∷ []) n (now (out .entry)) (now (out .exit)) r ⌝ }
+{
+    if n < out.len() {
+        out[n] = b;
+        return n + 1;
+    }
+    n + 1
+}
+
+// A number in decimal.
+fn put_number(out: &mut [u8], n: usize, x: u32) -> usize
+    requires { ⌜ n ≤ 1000090 ⌝ }
+    ensures { λ r. ⌜ Put 10 (decimal x) n (now (out .entry)) (now (out .exit)) r ⌝ }
+{
+    if x < 10 {
+        return put_byte(out, n, digit(x));
+    }
+    let k = put_number(out, n, x / 10);
+    put_byte(out, k, digit(x))
+}
+
+// A tab and a number.
+fn put_field(out: &mut [u8], n: usize, x: u32) -> usize
+    requires { ⌜ n ≤ 1000080 ⌝ }
+    ensures { λ r. ⌜ Put 11 (field x) n (now (out .entry)) (now (out .exit)) r ⌝ }
+{
+    let k = put_byte(out, n, TAB);
+    put_number(out, k, x)
+}
+
+// A line's letter and its first two fields.
+fn put_head(out: &mut [u8], n: usize, letter: u8, a: u32, b: u32) -> usize
+    requires { ⌜ n ≤ 1000000 ⌝ }
+    ensures { λ r. ⌜ Put 23 (letter ∷ fields (a ∷ b ∷ [])) n (now (out .entry)) (now (out .exit)) r ⌝ }
+{
+    let i = put_byte(out, n, letter);
+    let j = put_field(out, i, a);
+    put_field(out, j, b)
+}
+
+// A line's letter and its first three fields.
+fn put_head_three(out: &mut [u8], n: usize, letter: u8, a: u32, b: u32, c: u32) -> usize
+    requires { ⌜ n ≤ 1000000 ⌝ }
+    ensures { λ r. ⌜ Put 34 (letter ∷ fields (a ∷ b ∷ c ∷ [])) n (now (out .entry)) (now (out .exit)) r ⌝ }
+{
+    let i = put_head(out, n, letter, a, b);
+    put_field(out, i, c)
+}
+
+// Lines of one, two, three and four fields.
+pub(crate) fn put_one(out: &mut [u8], n: usize, letter: u8, a: u32) -> usize
+    requires { ⌜ n ≤ 1000000 ⌝ }
+    ensures { λ r. ⌜ Put 13 (line letter (a ∷ [])) n (now (out .entry)) (now (out .exit)) r ⌝ }
+{
+    let i = put_byte(out, n, letter);
+    let j = put_field(out, i, a);
+    put_byte(out, j, EOL)
+}
+
+pub(crate) fn put_two(out: &mut [u8], n: usize, letter: u8, a: u32, b: u32) -> usize
+    requires { ⌜ n ≤ 1000000 ⌝ }
+    ensures { λ r. ⌜ Put 24 (line letter (a ∷ b ∷ [])) n (now (out .entry)) (now (out .exit)) r ⌝ }
+{
+    let i = put_head(out, n, letter, a, b);
+    put_byte(out, i, EOL)
+}
+
+pub(crate) fn put_three(out: &mut [u8], n: usize, letter: u8, a: u32, b: u32, c: u32) -> usize
+    requires { ⌜ n ≤ 1000000 ⌝ }
+    ensures { λ r. ⌜ Put 35 (line letter (a ∷ b ∷ c ∷ [])) n (now (out .entry)) (now (out .exit)) r ⌝ }
+{
+    let i = put_head_three(out, n, letter, a, b, c);
+    put_byte(out, i, EOL)
+}
+
+pub(crate) fn put_four(
+    out: &mut [u8],
+    n: usize,
+    letter: u8,
+    a: u32,
+    b: u32,
+    c: u32,
+    d: u32,
+) -> usize
+    requires { ⌜ n ≤ 1000000 ⌝ }
+    ensures { λ r. ⌜ Put 46 (line letter (a ∷ b ∷ c ∷ d ∷ [])) n (now (out .entry)) (now (out .exit)) r ⌝ }
+{
+    let i = put_head_three(out, n, letter, a, b, c);
+    let j = put_field(out, i, d);
+    put_byte(out, j, EOL)
+}
