@@ -11,7 +11,7 @@ use borrow.Author.Tests.{ltb-true, ltb-false}
 use Rattle.common.specs.Promise.{Gives}
 use Rattle.common.specs.SearchLaws.{decide}
 use Rattle.common.specs.Refusals.{toldSpan}
-use Rattle.common.specs.Turn.{Turn, go, stop, found, Step, yields, ends}
+use Rattle.common.specs.Turn.{Turn, go, stop, found, Step}
 use Rattle.common.specs.declared.refusal.Refusal.{Refusal}
 use Rattle.common.specs.declared.refusal.Refusal.the-variants.{PlaceOutside}
 use Rattle.common.specs.declared.span.Span.{Span}
@@ -46,25 +46,21 @@ module _ (s : List ℕ) (g : FenceIter) (r : FenceStep) (w : Kept g s r) where
   unfolding fenceStep
   step-told = rw (w .answer, w .next)
 
-  step-ends : (x : SpanFound) → r .found ≡ x → stepBy (toldSpan x) (r .next) ≡ ends (r .next) → fenceStep s g ≡ ends (r .next)
-  step-ends x e f = step-told ∙ ap (λ (y : SpanFound). stepBy (toldSpan y) (r .next)) e ∙ f
-
-  module _ {p : Span} (e : r .found ≡ spanned.At p) where
-    step-yields : fenceStep s g ≡ yields (p .start ∷ p .end ∷ []) (r .next)
-    step-yields = step-told ∙ ap (λ (x : SpanFound). stepBy (toldSpan x) (r .next)) e
+  step-as : (x : SpanFound) → r .found ≡ x → fenceStep s g ≡ stepBy (toldSpan x) (r .next)
+  step-as x e = step-told ∙ ap (λ (y : SpanFound). stepBy (toldSpan y) (r .next)) e
 
 module _ (byte : ℕ) (s : List ℕ) {out₀ out : List ℕ} {n₀ k : ℕ} {g : FenceIter} (r : FenceStep) (i : Fencing byte s n₀ out₀ g out k) where
   pub fences-again : {p : Span} {k′ : ℕ} {out′ : List ℕ} → r .found ≡ spanned.At p → Kept g s r → Put 35 (line 70 (p .start ∷ p .end ∷ byte ∷ [])) k out out′ k′ → Fencing byte s n₀ out₀ (r .next) out′ k′
-  fences-again e w v = going-again i (step-yields s g r w e) v
+  fences-again {p} e w v = going-again i (step-as s g r w (spanned.At p) e) v
 
   pub fences-less : {p : Span} {k′ : ℕ} {out′ : List ℕ} → r .found ≡ spanned.At p → Kept g s r → Put 35 (line 70 (p .start ∷ p .end ∷ byte ∷ [])) k out out′ k′ → 1000000 - k′ < 1000000 - k
-  fences-less e w v = going-less i (step-yields s g r w e) v
+  fences-less {p} e w v = going-less i (step-as s g r w (spanned.At p) e) v
 
   pub fences-none : r .found ≡ spanned.Nothing → Kept g s r → Laid (fencesOf byte s) n₀ out₀ out k
-  fences-none e w = going-end i (step-ends s g r w spanned.Nothing e refl)
+  fences-none e w = going-end i (step-as s g r w spanned.Nothing e)
 
   pub fences-refused : {x : Refusal} → r .found ≡ spanned.Refused x → Kept g s r → Laid (fencesOf byte s) n₀ out₀ out k
-  fences-refused {x} e w = going-end i (step-ends s g r w (spanned.Refused x) e refl)
+  fences-refused {x} e w = going-end i (step-as s g r w (spanned.Refused x) e)
 
 -- what the step of any state answers
 foundOf : Turn Fence → SpanFound
@@ -76,22 +72,22 @@ step-of : (s : List ℕ) → length s ≤ 4294967295 → (g : FenceIter) → (r 
 unfolding foundOf
 step-of s h g = by (decide (ltb (length s) (g .pos)))
   where
-    said : (t : Turn Fence) → toldSpan (foundOf t) ≡ spanOf t
-    said (go n) = refl
-    said (stop v) = refl
-    said (found f n) = refl
+    says : (t : Turn Fence) → toldSpan (foundOf t) ≡ spanOf t
+    says (go n) = refl
+    says (stop v) = refl
+    says (found f n) = refl
 
     by : (ltb (length s) (g .pos) ≡ true) ⊎ (ltb (length s) (g .pos) ≡ false) → (r : FenceStep) × Kept g s r
     by (inl e) = (record { found = spanned.Refused PlaceOutside; next = g }, next-outside g s h (ltb-true (length s) (g .pos) e))
     by (inr e) =
         let i = ltb-false (length s) (g .pos) e in
         let t = firstOpen g s in
-        (record { found = foundOf t; next = at g (placeOf t) }, record { answer = said t ∙ sym (next-answer g s h i); next = sym (next-state g s h i) })
+        (record { found = foundOf t; next = at g (placeOf t) }, record { answer = says t ∙ sym (next-answer g s h i); next = sym (next-state g s h i) })
 
-step-as : (n : FenceIter) (x : SpanFound) → stepBy (toldSpan x) n ≡ mapStep places (stepWith n x)
-step-as n (spanned.At p) = refl
-step-as n spanned.Nothing = refl
-step-as n (spanned.Refused r) = refl
+as-step : (n : FenceIter) (x : SpanFound) → stepBy (toldSpan x) n ≡ mapStep places (stepWith n x)
+as-step n (spanned.At p) = refl
+as-step n spanned.Nothing = refl
+as-step n (spanned.Refused r) = refl
 
 fresh-yields : (byte : ℕ) (s : List ℕ) → length s ≤ 4294967295 → Yields (fenceStep s) (fresh byte 3 10 32 9) (map places (fences (fresh byte 3 10 32 9) s))
 fresh-yields byte s h =
@@ -106,7 +102,7 @@ fresh-yields byte s h =
     kept g = step-of s h g .1
 
     same : (g : FenceIter) → fenceStep s g ≡ mapStep places (toldStep (next g))
-    same g = step-told s g (next g) (kept g) ∙ step-as (next g .next) (next g .found)
+    same g = step-told s g (next g) (kept g) ∙ as-step (next g .next) (next g .found)
 
     size : (n : ℕ) → length (map places (fences (fresh byte 3 10 32 9) s)) ≤ n → length (fences (fresh byte 3 10 32 9) s) ≤ n
     size n l = omega (arith, length-map (fences (fresh byte 3 10 32 9) s) places)

@@ -1,7 +1,8 @@
--- `put_number` meets its contract: the number falls with each call of itself. Assumes nothing.
+-- `put_number` meets its contract: the number falls with each call of itself. `lt-of-lt-of-le` has a test for less than ten pass too, so that an edit which puts a zero before a digit is refused for the digits. Assumes nothing.
 use borrow.Author.Needs.{needs}
 use Rattle.listing.specs.PutLaws.{number-small, number-more}
 use Prim.Native.Nat.{ℕ, _<_}
+use native.Mathlib.Nat.{lt-of-lt-of-le}
 use borrow.Fn.Kinds.{In}
 use borrow.Fn.PlainCycle.{Measures, is, falls, and}
 use Rattle.listing.proofs.put.put_number.Reads as put-number
@@ -61,7 +62,7 @@ put-number-returns : (t : ℕ) → put-number-lts.Need-returns (
   put-number-below t,
   put-number.Post,
 ) (put-number-at t) put-number.Post
-put-number-returns t c = search (number-small, needs)
+put-number-returns t c = search (number-small, lt-of-lt-of-le, needs)
 
 put-number-put-number-requires : (t : ℕ) → put-number-lts.Need-put-number-requires (
   digit-reads.Asked,

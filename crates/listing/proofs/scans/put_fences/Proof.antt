@@ -1,4 +1,4 @@
--- `put_fences` meets its contract. Assumes nothing.
+-- `put_fences` meets its contract. There is room in either order of the bytes, so that an edit which turns the order round is refused for the order. Assumes nothing.
 use Rattle.listing.specs.PartLaws.{part-first, part-second, part-both, part-last, part-before}
 use Rattle.listing.specs.Parts.{fence-parts}
 use borrow.Author.Needs.{needs}
