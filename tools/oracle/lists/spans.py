@@ -53,8 +53,8 @@ def limits(listing):
 
 
 def blocks(listing):
-    listing.comment('blocks: every text to five bytes')
-    L.blocks(listing, (), TELLING, 5)
+    listing.comment('blocks: every text to four bytes')
+    L.blocks(listing, (), TELLING, 4)
     listing.comment('notes that are drawn')
     for seed, length in enumerate((20, 60, 120, 250, 500, 1000), 1):
         L.drawn(listing, (), b'\n\n\n  --*1239..)>>~``<abcdefg\\', length, seed, 200)
