@@ -52,7 +52,7 @@ number-back NotAtJoint = refl
 number-back ReplacementOpen = refl
 number-back LineEndMark = refl
 
-number-some : (r : Refusal) → eqb (numberOf r) 0 ≡ false
+pub number-some : (r : Refusal) → eqb (numberOf r) 0 ≡ false
 number-some TextTooLong = refl
 number-some PlaceOutside = refl
 number-some NoRoom = refl

@@ -1,0 +1,16 @@
+-- What the cursor's entry answers. Assumes nothing.
+use mathlib.Core.Bool.{cond}
+use mathlib.Core.List.{List, [], _∷_}
+use Prim.Native.Nat.{ℕ}
+use Rattle.common.specs.Refusals.{Outcome}
+use Rattle.context.specs.Cursor.{coverAnswer, coverNext}
+use Rattle.panel.specs.Bytes.{cells}
+use Rattle.panel.specs.Reply.{served}
+
+-- an answer's values behind an index; a refusal has none
+abbrev pub behind : ℕ → Outcome → Outcome
+behind i o = record { number = o .number; values = cond (served o) (i ∷ o .values) [] }
+
+-- the next index, and the end or none, over the list that a byte run holds
+unfoldable pub covered : List ℕ → ℕ → ℕ → ℕ → Outcome
+covered list count index place = behind (coverNext 2 (cells list) count index place) (coverAnswer 2 (cells list) count index place)

@@ -1,0 +1,16 @@
+pub mod Bytes
+pub mod Reply
+pub mod Leaves
+pub mod Covered
+pub mod State
+pub mod ContState
+pub mod Building
+pub mod ByteLaws
+pub mod ReplyLaws
+pub mod LeafLaws
+pub mod CellLaws
+pub mod StateLaws
+pub mod CoveredLaws
+pub mod ContStateLaws
+pub mod RuleLaws
+pub mod PourLaws
