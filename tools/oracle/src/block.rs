@@ -30,16 +30,21 @@ impl fmt::Display for Sums {
     }
 }
 
-/// All texts of one length over an alphabet.
-pub fn all(words: &mut Words) -> Result<Sums, String> {
+/// All texts of one length over an alphabet, or those of a part: so many from a first one on.
+pub fn all(words: &mut Words, is_part: bool) -> Result<Sums, String> {
     let mut block = Block::read(words)?;
     let (alphabet, length) = (words.bytes("alphabet")?, words.number("length")?);
+    let (first, times): (u64, u64) = if is_part {
+        (words.number("first")?, words.number("times")?)
+    } else {
+        let texts = u32::try_from(length)
+            .ok()
+            .and_then(|n| (alphabet.len() as u64).checked_pow(n))
+            .ok_or("too many texts")?;
+        (0, texts)
+    };
     words.end()?;
-    let texts = u32::try_from(length)
-        .ok()
-        .and_then(|n| (alphabet.len() as u64).checked_pow(n))
-        .ok_or("too many texts")?;
-    for i in 0..texts {
+    for i in first..first + times {
         block.ask(&text(&alphabet, length, i))?;
     }
     block.sums()

@@ -22,6 +22,10 @@ pub fn question(name: &str, words: &mut Words) -> Result<Option<Question>, Strin
                 Answer::all(grammar.regions(text).into_iter().map(caused).collect())
             })
         }
+        "context_cover" => {
+            let grammar = Grammar::read(words)?;
+            of_text(move |text| Answer::all(covered(&grammar.regions(text), text.len())))
+        }
         "context_into" => {
             let cells = words.number("cells")?;
             let grammar = Grammar::read(words)?;
@@ -191,6 +195,16 @@ impl Grammar {
             && text.get(last) == Some(&byte)
             && reach::fence_closes(text, last, end, byte, count, self.sep, self.tab)
     }
+}
+
+/// What one cursor answers at every place to `len`, rising and then falling: the end, or 0, and the index after the query.
+fn covered(regions: &[Span], len: usize) -> Vec<Vec<u64>> {
+    let mut cursor = reach::cursor(regions, 0);
+    let query = |place| {
+        let end = cursor.covering_end(place).unwrap_or(0);
+        vec![end as u64, reach::index(&cursor) as u64]
+    };
+    (0..=len).chain((0..=len).rev()).map(query).collect()
 }
 
 /// The regions written into so many cells, by the page's rule: where there is no room for all, a

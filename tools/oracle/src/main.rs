@@ -37,7 +37,7 @@ fn respond(line: &[u8]) -> Result<String, String> {
     let mut words = Words::new(line);
     let name = words.word("a request")?;
     match name {
-        "block" => block::all(&mut words).map(|sums| sums.to_string()),
+        "block" | "part" => block::all(&mut words, name == "part").map(|sums| sums.to_string()),
         "drawn" => block::drawn(&mut words).map(|sums| sums.to_string()),
         "numbers" => {
             let name = words.word("a request")?;

@@ -44,23 +44,19 @@ impl<'a> Words<'a> {
         }
     }
 
-    /// A text in hexadecimal digits.
+    /// A text in hexadecimal digits, or a long one as BYTE*TIMES+TEXT. Zero bytes of it take no memory.
     pub fn text(&mut self) -> Result<Vec<u8>, String> {
         let word = self.word("a text")?;
-        if word == "-" {
-            return Ok(Vec::new());
-        }
-        let wrong = || format!("a text has two hexadecimal digits for each byte, not {word:?}");
-        let digits: Option<Vec<u8>> = word
-            .chars()
-            .map(|c| c.to_digit(16).map(|d| d as u8))
-            .collect();
-        match digits {
-            Some(digits) if digits.len() % 2 == 0 => Ok(digits
-                .chunks(2)
-                .map(|pair| pair[0] * 16 + pair[1])
-                .collect()),
-            _ => Err(wrong()),
+        match word.split_once('+') {
+            None => hexed(word),
+            Some((run, tail)) => {
+                let (byte, times) = run.split_once('*').ok_or("a long text is BYTE*TIMES+TEXT")?;
+                let (byte, times): (u8, usize) = (parse(byte, "a text")?, parse(times, "a text")?);
+                let tail = hexed(tail)?;
+                let mut text = vec![byte; times + tail.len()];
+                text[times..].copy_from_slice(&tail);
+                Ok(text)
+            }
         }
     }
 
@@ -128,6 +124,25 @@ impl<'a> Words<'a> {
             [start, end] => Ok(Span::new(parse(start, what)?, parse(end, what)?)),
             _ => Err(malformed(what, parts)),
         })
+    }
+}
+
+/// The bytes of hexadecimal digits; `-` has none.
+fn hexed(word: &str) -> Result<Vec<u8>, String> {
+    if word == "-" {
+        return Ok(Vec::new());
+    }
+    let wrong = || format!("a text has two hexadecimal digits for each byte, not {word:?}");
+    let digits: Option<Vec<u8>> = word
+        .chars()
+        .map(|c| c.to_digit(16).map(|d| d as u8))
+        .collect();
+    match digits {
+        Some(digits) if digits.len() % 2 == 0 => Ok(digits
+            .chunks(2)
+            .map(|pair| pair[0] * 16 + pair[1])
+            .collect()),
+        _ => Err(wrong()),
     }
 }
 

@@ -1,0 +1,331 @@
+/* rack: prints the work sheet of a note, by the house grammar, with the proved entries of the panel (include/rack.h).
+ *
+ * The note is mapped, not copied, so that its size is bounded by the panel alone: 4,294,967,295 bytes. */
+#define _DEFAULT_SOURCE
+#include "../include/rack.h"
+
+#include <errno.h>
+#include <fcntl.h>
+#include <inttypes.h>
+#include <stdbool.h>
+#include <stdio.h>
+#include <stdlib.h>
+#include <string.h>
+#include <sys/mman.h>
+#include <sys/stat.h>
+#include <unistd.h>
+
+/* The house grammar (document 01). */
+static const uint8_t EOL = '\n', ESCAPE = '\\', SEP = ' ', TAB = '\t';
+static const uint8_t FENCES[] = {'`', '~'}, MINIMUMS[] = {3, 3};
+static const uint8_t SYMMETRIC[] = {'`'}, TIMES[] = {1, 0, 0, 0};
+static const uint8_t OPENERS[] = {'<'}, CLOSERS[] = {'>'}, COUNTS[] = {1, 0, 0, 0};
+static const uint8_t MARKERS[] = {'-', '*', '+'}, DELIMITERS[] = {'.', ')'};
+
+/* Sizes in bytes: of a number, a region, an item of the sheet, an item scanner's state, an answer of up to four values. */
+enum { NUMBER = 4, REGION = 8, ITEM = 20, STATE = 36, ANSWER = 20 };
+enum { MARKER, NUMBERED };
+
+struct note {
+    const char *name;
+    const uint8_t *at;
+    size_t len;
+};
+
+/* A list that an entry or the sheet fills: numbers of four bytes. */
+struct list {
+    uint8_t *at;
+    size_t len;
+    uint32_t count;
+};
+
+struct options {
+    bool regions, raw;
+    const char *name;
+};
+
+_Noreturn static void fail(const char *name, const char *why)
+{
+    fflush(stdout);
+    fprintf(stderr, "rack: %s: %s\n", name, why);
+    exit(2);
+}
+
+_Noreturn static void refused(const char *name, uint32_t refusal)
+{
+    static const char *const whys[] = {"", "it has more than 4,294,967,295 bytes", "a place or a state doesn't fit it",
+                                       "too little room for its regions or items", "", "a list's count is over its room",
+                                       "a rule's columns differ in length"};
+    char why[100];
+    size_t known = sizeof whys / sizeof *whys;
+    snprintf(why, sizeof why, "refused (%" PRIu32 "): %s", refusal, refusal < known ? whys[refusal] : "");
+    fail(name, why);
+}
+
+static uint32_t number_at(const uint8_t *at)
+{
+    return (uint32_t)at[0] | (uint32_t)at[1] << 8 | (uint32_t)at[2] << 16 | (uint32_t)at[3] << 24;
+}
+
+static void put_number(uint8_t *at, uint32_t n)
+{
+    for (int i = 0; i < NUMBER; i++)
+        at[i] = (uint8_t)(n >> 8 * i);
+}
+
+/* ---- the note */
+
+static struct note mapped(const char *name)
+{
+    /* An empty run has some pointer, but not a null one. */
+    static const uint8_t nothing[1];
+    struct stat is;
+    int file = open(name, O_RDONLY);
+    if (file < 0 || fstat(file, &is))
+        fail(name, strerror(errno));
+    if (!S_ISREG(is.st_mode))
+        fail(name, S_ISDIR(is.st_mode) ? "it is a folder" : "it is no file that can be mapped");
+    if (!is.st_size)
+        return (struct note){name, nothing, 0};
+    const uint8_t *at = mmap(NULL, (size_t)is.st_size, PROT_READ, MAP_PRIVATE, file, 0);
+    if (at == MAP_FAILED)
+        fail(name, strerror(errno));
+    close(file);
+    return (struct note){name, at, (size_t)is.st_size};
+}
+
+/* Room that is surely enough. It is reserved and not used: memory is taken where something is written. */
+static struct list reserved(const struct note *note, size_t entries, size_t size)
+{
+    uint8_t *at = mmap(NULL, entries * size, PROT_READ | PROT_WRITE, MAP_PRIVATE | MAP_ANONYMOUS | MAP_NORESERVE, -1, 0);
+    if (at == MAP_FAILED)
+        fail(note->name, "no memory for its lists");
+    return (struct list){at, entries * size, 0};
+}
+
+/* ---- the regions in which nothing is read */
+
+static struct list build(const struct note *note)
+{
+    uint8_t answer[ANSWER];
+    /* Each region has two bytes of its own, but for one at the end. */
+    struct list list = reserved(note, note->len / 2 + 1, REGION);
+    uint32_t refusal = rack_build(note->at, note->len, EOL, ESCAPE, SEP, TAB, FENCES, sizeof FENCES, MINIMUMS, sizeof MINIMUMS,
+                                  SYMMETRIC, sizeof SYMMETRIC, TIMES, sizeof TIMES, OPENERS, sizeof OPENERS,
+                                  CLOSERS, sizeof CLOSERS, COUNTS, sizeof COUNTS, list.at, list.len, answer, sizeof answer);
+    if (refusal)
+        refused(note->name, refusal);
+    list.count = number_at(answer + NUMBER);
+    return list;
+}
+
+/* ---- the work sheet */
+
+/* One of the two item scanners, with the item that is next. */
+struct scan {
+    int kind;
+    uint8_t state[STATE], answer[ANSWER];
+    bool has_item;
+};
+
+static void step(const struct note *note, struct scan *scan)
+{
+    uint32_t refusal =
+        scan->kind == MARKER ? rack_marker_step(note->at, note->len, MARKERS, sizeof MARKERS, scan->state, STATE, scan->answer, ANSWER)
+                             : rack_numbered_step(note->at, note->len, DELIMITERS, sizeof DELIMITERS, scan->state, STATE,
+                                                  scan->answer, ANSWER);
+    if (refusal)
+        refused(note->name, refusal);
+    scan->has_item = number_at(scan->answer) > 0;
+}
+
+static struct scan begin(const struct note *note, int kind)
+{
+    struct scan scan = {.kind = kind};
+    uint32_t refusal = kind == MARKER ? rack_marker_new(EOL, SEP, TAB, MARKERS, sizeof MARKERS, scan.state, STATE)
+                                      : rack_numbered_new(EOL, SEP, TAB, DELIMITERS, sizeof DELIMITERS, scan.state, STATE);
+    if (refusal)
+        refused(note->name, refusal);
+    step(note, &scan);
+    return scan;
+}
+
+/* Value `k` of the item that is next: content start, content end, accepted byte, number. */
+static uint32_t value(const struct scan *scan, int k)
+{
+    return number_at(scan->answer + NUMBER * (k + 1));
+}
+
+/* Whether a region hides a place; the index moves on with rising places. */
+static bool is_hidden(const struct note *note, const struct list *regions, uint32_t *index, uint32_t place)
+{
+    uint8_t answer[ANSWER];
+    uint32_t refusal = rack_covering_end(regions->at, regions->len, regions->count, *index, place, answer, sizeof answer);
+    if (refusal)
+        refused(note->name, refusal);
+    *index = number_at(answer + NUMBER);
+    return number_at(answer) == 2;
+}
+
+static void put_item(struct list *sheet, const struct scan *scan)
+{
+    uint8_t *at = sheet->at + (size_t)sheet->count++ * ITEM;
+    put_number(at, value(scan, 0));
+    put_number(at + NUMBER, value(scan, 1));
+    put_number(at + 2 * NUMBER, (uint32_t)scan->kind);
+    put_number(at + 3 * NUMBER, value(scan, 2));
+    put_number(at + 4 * NUMBER, scan->kind == NUMBERED ? value(scan, 3) : 0);
+}
+
+/* The items that no region hides, by rising content start: five numbers each, which are start, end, kind, accepted byte, number. */
+static struct list make_sheet(const struct note *note, const struct list *regions)
+{
+    /* By the house grammar each item has a line of two bytes and more. */
+    struct list sheet = reserved(note, note->len / 2 + 1, ITEM);
+    struct scan markers = begin(note, MARKER), numbered = begin(note, NUMBERED);
+    uint32_t index = 0;
+    while (markers.has_item || numbered.has_item) {
+        bool is_marker = markers.has_item && (!numbered.has_item || value(&markers, 0) <= value(&numbered, 0));
+        struct scan *next = is_marker ? &markers : &numbered;
+        if (!is_hidden(note, regions, &index, value(next, 0)))
+            put_item(&sheet, next);
+        step(note, next);
+    }
+    return sheet;
+}
+
+/* ---- printing */
+
+/* A note that is printed, and the line that was counted to. */
+struct page {
+    const struct note *note;
+    uint64_t line;
+    size_t at;
+};
+
+/* The number of the line that a place stands in. Places rise, so that the note is counted once. */
+static uint64_t line_at(struct page *page, uint32_t place)
+{
+    const uint8_t *text = page->note->at, *end;
+    while (page->at < place && (end = memchr(text + page->at, EOL, place - page->at))) {
+        page->at = (size_t)(end - text) + 1;
+        page->line++;
+    }
+    return page->line;
+}
+
+/* A stretch of the note. Control bytes are spelt out: a note must not steer the terminal. */
+static void print_content(const struct note *note, uint32_t start, uint32_t end)
+{
+    for (size_t i = start; i < end; i++) {
+        uint8_t b = note->at[i];
+        if ((b < 32 && b != TAB) || b == 127)
+            printf("\\x%02x", b);
+        else
+            putchar(b);
+    }
+    putchar('\n');
+}
+
+static void print_item(struct page *page, const uint8_t *item)
+{
+    uint32_t start = number_at(item), end = number_at(item + NUMBER);
+    char lead[16] = {(char)item[3 * NUMBER]};
+    if (number_at(item + 2 * NUMBER) == NUMBERED)
+        snprintf(lead, sizeof lead, "%" PRIu32 "%c", number_at(item + 4 * NUMBER), item[3 * NUMBER]);
+    printf("%6" PRIu64 "  %-4s  ", line_at(page, start), lead);
+    print_content(page->note, start, end);
+}
+
+static void print_region(struct page *page, const uint8_t *region)
+{
+    uint32_t start = number_at(region), end = number_at(region + NUMBER);
+    uint64_t first = line_at(page, start);
+    printf("%6" PRIu64 "  to line %" PRIu64 " nothing is read: bytes %" PRIu32 " to %" PRIu32 "\n", first, line_at(page, end - 1),
+           start, end);
+}
+
+/* The numbers of a list alone, an entry on each line. */
+static void print_raw(const struct list *list, size_t size)
+{
+    for (size_t i = 0; i < list->count; i++)
+        for (size_t k = 0; k < size; k += NUMBER)
+            printf("%" PRIu32 "%c", number_at(list->at + i * size + k), k + NUMBER == size ? '\n' : '\t');
+}
+
+static void print_all(const struct note *note, const struct list *list, size_t size,
+                      void (*print)(struct page *page, const uint8_t *entry))
+{
+    struct page page = {note, 1, 0};
+    for (size_t i = 0; i < list->count; i++)
+        print(&page, list->at + i * size);
+}
+
+static void print_note(const struct options *options)
+{
+    struct note note = mapped(options->name);
+    struct list regions = build(&note), sheet = make_sheet(&note, &regions);
+    if (options->raw && options->regions)
+        print_raw(&regions, REGION);
+    else if (options->regions)
+        print_all(&note, &regions, REGION, print_region);
+    if (options->raw)
+        print_raw(&sheet, ITEM);
+    else
+        print_all(&note, &sheet, ITEM, print_item);
+}
+
+/* ---- the command */
+
+static const char USAGE[] =
+    "usage: rack [--regions] [--raw] NOTE\n"
+    "\n"
+    "Prints the work sheet of a note: the items that stand in no fence and in no inline pair. Each has a line: its line\n"
+    "number, its number or mark, its content.\n"
+    "\n"
+    "  --regions  first the regions in which nothing is read\n"
+    "  --raw      numbers alone, parted by tabs: start, end, kind (0 marker, 1 numbered), byte, number of an item; start and\n"
+    "             end of a region. Places count bytes from 0\n"
+    "  --help     this\n"
+    "\n"
+    "Exit status 2, with a line on standard error, where the note can't be read or is refused.\n";
+
+_Noreturn static void usage(void)
+{
+    fputs(USAGE, stderr);
+    exit(2);
+}
+
+static struct options parsed(int count, char **words)
+{
+    struct options options = {0};
+    bool is_name = false;
+    for (int i = 1; i < count; i++) {
+        if (!is_name && !strcmp(words[i], "--help")) {
+            fputs(USAGE, stdout);
+            exit(0);
+        } else if (!is_name && !strcmp(words[i], "--")) {
+            is_name = true;
+        } else if (!is_name && !strcmp(words[i], "--regions")) {
+            options.regions = true;
+        } else if (!is_name && !strcmp(words[i], "--raw")) {
+            options.raw = true;
+        } else if (options.name || (!is_name && words[i][0] == '-')) {
+            usage();
+        } else {
+            options.name = words[i];
+        }
+    }
+    if (!options.name)
+        usage();
+    return options;
+}
+
+int main(int count, char **words)
+{
+    struct options options = parsed(count, words);
+    print_note(&options);
+    if (fflush(stdout) || ferror(stdout))
+        fail("standard output", strerror(errno));
+    return 0;
+}

@@ -1,0 +1,112 @@
+#include "answer.h"
+
+#include <inttypes.h>
+#include <stdio.h>
+#include <stdlib.h>
+
+void clear(struct answer *a, enum head head)
+{
+    a->head = head;
+    a->refusal = 0;
+    a->len = a->words_len = 0;
+}
+
+void refuse(struct answer *a, uint32_t refusal)
+{
+    clear(a, REFUSED);
+    a->refusal = refusal;
+}
+
+void begin(struct answer *a, enum kind kind, size_t columns)
+{
+    a->words[a->words_len++] = (struct word){kind, a->len, 0, columns, {0}};
+}
+
+void put(struct answer *a, uint64_t n)
+{
+    if (a->len == a->room) {
+        a->room = a->room ? a->room * 2 : 256;
+        a->numbers = realloc(a->numbers, a->room * sizeof *a->numbers);
+        if (!a->numbers) {
+            perror("panel: no memory");
+            exit(2);
+        }
+    }
+    a->numbers[a->len++] = n;
+    a->words[a->words_len - 1].len++;
+}
+
+void put_alone(struct answer *a, uint64_t n)
+{
+    begin(a, TUPLE, 1);
+    put(a, n);
+}
+
+void put_asked(struct answer *a, enum kind kind, struct run bytes)
+{
+    begin(a, kind, 1);
+    a->words[a->words_len - 1].bytes = bytes;
+}
+
+/* How many numbers of an array count: up to its last entry that isn't 0 throughout. */
+static size_t used(const struct answer *a, const struct word *word)
+{
+    size_t len = word->len;
+    while (len && !a->numbers[word->from + len - 1])
+        len--;
+    return (len + word->columns - 1) / word->columns * word->columns;
+}
+
+void each_number(const struct answer *a, void (*take)(void *to, uint64_t n), void *to)
+{
+    take(to, a->head == REFUSED ? 0 : a->head == NONE ? 2 : 1);
+    if (a->head == REFUSED && a->refusal != 2)
+        take(to, a->refusal);
+    for (size_t i = 0; i < a->words_len; i++) {
+        const struct word *word = &a->words[i];
+        size_t len = word->kind == CELLS ? used(a, word) : word->len;
+        if (word->kind == LIST || word->kind == CELLS)
+            take(to, len / word->columns);
+        for (size_t k = 0; k < len; k++)
+            take(to, a->numbers[word->from + k]);
+    }
+}
+
+static void print_numbers(const struct answer *a, const struct word *word)
+{
+    if (!word->len)
+        putchar('-');
+    for (size_t k = 0; k < word->len; k++) {
+        if (k)
+            putchar(word->kind == TUPLE || k % word->columns ? ':' : ',');
+        printf("%" PRIu64, a->numbers[word->from + k]);
+    }
+}
+
+static void print_asked(const struct word *word)
+{
+    if (!word->bytes.len)
+        putchar('-');
+    for (size_t i = 0; i < word->bytes.len; i++) {
+        if (word->kind == TEXT)
+            printf("%02x", word->bytes.at[i]);
+        else
+            printf(i ? ",%u" : "%u", word->bytes.at[i]);
+    }
+}
+
+void print_answer(const struct answer *a)
+{
+    static const char *const heads[] = {"some", "none", "all", "state", "refused"};
+    fputs(heads[a->head], stdout);
+    if (a->head == REFUSED)
+        printf(" %" PRIu32, a->refusal);
+    for (size_t i = 0; i < a->words_len; i++) {
+        const struct word *word = &a->words[i];
+        putchar(' ');
+        if (word->kind == TEXT || word->kind == LENT)
+            print_asked(word);
+        else
+            print_numbers(a, word);
+    }
+}

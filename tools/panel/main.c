@@ -1,0 +1,118 @@
+/* Answers the oracle's questions with the panel's entries: one request on each line of standard input, one line of answer on standard
+ * output, in the oracle's words (tools/oracle/README.md). Answers that the oracle hasn't:
+ *
+ *   refused N        the entry refused by this number
+ *   changed WHY      a byte was written that wasn't to be
+ *   unlike WHY       two ways of asking give different answers, or an answer has another form than the entry's
+ *   fault WHY        the entry touched memory that wasn't lent
+ *   unknown NAME     the panel has no entry for this question
+ *   counts …         to `counts`: calls made, calls refused, questions asked, questions refused
+ *
+ * Behind `changed`, `unlike` and `fault` stand the text and the place that were asked about. */
+#define _DEFAULT_SOURCE
+#include "block.h"
+
+#include <inttypes.h>
+#include <setjmp.h>
+#include <signal.h>
+#include <stdio.h>
+#include <stdlib.h>
+#include <string.h>
+
+static sigjmp_buf next_request;
+
+/* The text and place that were asked about. */
+static void print_asking(void)
+{
+    struct run run = asking.text ? asking.text->run : (struct run){0};
+    if (!asking.text || asking.text->size == HUGE)
+        return;
+    printf(": %s", run.len ? "" : "-");
+    for (size_t i = 0; i < run.len; i++)
+        printf("%02x", run.at[i]);
+    printf(" %zu", asking.place);
+}
+
+_Noreturn void give_up(const char *head, const char *why)
+{
+    printf("%s %s", head, why);
+    print_asking();
+    putchar('\n');
+    siglongjmp(next_request, 1);
+}
+
+/* The fault is the entry's, which is amid nothing that printing needs. */
+static void on_fault(int signal)
+{
+    (void)signal;
+    give_up("fault", "memory that isn't lent");
+}
+
+static void print_number(void *to, uint64_t n)
+{
+    (void)to;
+    printf(" %" PRIu64, n);
+}
+
+/* The answer to one question, in full or as numbers. */
+static void answer_one(const char *name, struct words *words, bool as_numbers)
+{
+    static struct answer a;
+    struct question q = find_question(name, words);
+    struct text text = text_of((struct run){0});
+    size_t place = 0;
+    if (q.form->takes != NOTHING)
+        text = text_of_word(next_text(words));
+    if (q.form->takes == A_PLACE)
+        place = next_number(words, "a place is missing", SIZE_MAX);
+    end_words(words);
+    thorough = true;
+    ask(&q, &text, place, &a);
+    if (as_numbers) {
+        fputs("numbers", stdout);
+        each_number(&a, print_number, NULL);
+    } else {
+        print_answer(&a);
+    }
+    putchar('\n');
+    release(&text);
+}
+
+static void respond(struct words words)
+{
+    const char *name = next_word(&words, "a request is missing");
+    if (!strcmp(name, "block"))
+        answer_block(&words);
+    else if (!strcmp(name, "part"))
+        answer_part(&words);
+    else if (!strcmp(name, "drawn"))
+        answer_drawn(&words);
+    else if (!strcmp(name, "numbers"))
+        answer_one(next_word(&words, "a request is missing"), &words, true);
+    else if (!strcmp(name, "counts"))
+        printf("counts %" PRIu64 " %" PRIu64 " %" PRIu64 " %" PRIu64 "\n", tally.calls, tally.refused, questions.asked,
+               questions.refused);
+    else
+        answer_one(name, &words, false);
+}
+
+int main(void)
+{
+    static char *line;
+    static size_t room;
+    struct sigaction action = {.sa_handler = on_fault, .sa_flags = SA_NODEFER};
+    sigaction(SIGSEGV, &action, NULL);
+    sigaction(SIGBUS, &action, NULL);
+    for (;;) {
+        ssize_t len = getline(&line, &room, stdin);
+        if (len <= 0)
+            return 0;
+        line[len - (line[len - 1] == '\n')] = 0;
+        asking = (struct asking){0};
+        thorough = false;
+        if (!sigsetjmp(next_request, 1))
+            respond((struct words){line});
+        forget();
+        fflush(stdout);
+    }
+}

@@ -1,0 +1,50 @@
+#include "question.h"
+
+struct run column_of_numbers(struct numbers list, size_t first, size_t columns)
+{
+    size_t count = list.len / columns;
+    struct run run = {keep(count * NUMBER), count * NUMBER};
+    for (size_t i = 0; i < count; i++)
+        put_number(run.at + i * NUMBER, (uint32_t)list.at[first + i * columns]);
+    return run;
+}
+
+struct run column_of_bytes(struct numbers list, size_t first, size_t columns)
+{
+    size_t count = list.len / columns;
+    struct run run = {keep(count), count};
+    for (size_t i = 0; i < count; i++) {
+        if (list.at[first + i * columns] > UINT8_MAX)
+            give_up("error", "a rule's byte is over 255");
+        run.at[i] = (uint8_t)list.at[first + i * columns];
+    }
+    return run;
+}
+
+void read_fences(struct words *words, struct question *q)
+{
+    struct numbers list = next_list(words, "fence rules are BYTE:MIN", 2);
+    q->fences = column_of_bytes(list, 0, 2);
+    q->mins = column_of_bytes(list, 1, 2);
+    q->rules = column_of_bytes(list, 0, 1);
+}
+
+void read_symmetric(struct words *words, struct question *q)
+{
+    struct numbers list = next_list(words, "symmetric rules are BYTE:COUNT", 2);
+    q->symmetric = column_of_bytes(list, 0, 2);
+    q->times = column_of_numbers(list, 1, 2);
+}
+
+void read_asymmetric(struct words *words, struct question *q)
+{
+    struct numbers list = next_list(words, "asymmetric rules are OPEN:CLOSE:COUNT", 3);
+    q->openers = column_of_bytes(list, 0, 3);
+    q->closers = column_of_bytes(list, 1, 3);
+    q->counts = column_of_numbers(list, 2, 3);
+}
+
+struct call call_of(const struct question *q, const struct text *text)
+{
+    return (struct call){.of = q, .text = text, .read = {text->run}, .reads = 1, .has_answer = true};
+}
