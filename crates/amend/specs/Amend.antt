@@ -7,7 +7,7 @@ use Prim.Native.Nat.{ℕ, _+_, _-_, _≤_, _<_}
 use lib.Dec.{eqb, leb}
 use lib.ListN.{length, getD, take, drop}
 use Rattle.common.specs.Search.{is, holds}
-use Rattle.context.specs.Region.{Region, move, up, reaches, keepBefore, keepFrom, InOrder}
+use Rattle.region.specs.Region.{Region, move, up, reaches, keepBefore, keepFrom, InOrder}
 
 -- ---- edits
 -- "two cuts and the replacement": it takes the place of the bytes from the first cut up to the second

@@ -8,11 +8,12 @@ use lib.ListN.{length, take, drop}
 use Rattle.common.specs.Entry.{flatten, rows, startOf, stopOf, room, over}
 use Rattle.common.specs.Refusals.{Outcome, given, refuse, tooLong, past}
 use Rattle.common.specs.declared.grammar.Grammar.{Grammar}
-use Rattle.context.specs.Region.{Region, Plain, dropTag, pair, move, up, keepBefore, keepFrom}
-use Rattle.context.specs.Grammar.{Gram}
-use Rattle.context.specs.Regions.{regions}
-use Rattle.context.specs.Columns.{Columns, gramOf}
-use Rattle.context.specs.Build.{unequal, unless}
+use Rattle.region.specs.Region.{Region, Plain, dropTag, pair, move, up, keepBefore, keepFrom}
+use Rattle.rules.specs.Grammar.{Gram}
+use Rattle.region.specs.Regions.{regions}
+use Rattle.rules.specs.Columns.{Columns, gramOf}
+use Rattle.rules.specs.Columns.{unequal}
+use Rattle.context.specs.Build.{unless}
 use Rattle.context.specs.Shape.{misshapen}
 use Rattle.amend.specs.Amend.{Edit, joint}
 use Rattle.amend.specs.Local.{usesLineEnd}

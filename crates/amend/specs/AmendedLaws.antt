@@ -17,13 +17,13 @@ use Rattle.common.specs.declared.grammar.Grammar.{Grammar}
 use Rattle.common.specs.declared.refusal.Refusal.{Refusal}
 use Rattle.common.specs.declared.refusal.Answer.{Answer}
 use Rattle.common.specs.declared.refusal.Found.the-variants as found
-use Rattle.context.specs.Region.{reaches}
-use Rattle.context.specs.Grammar.{Gram}
-use Rattle.context.specs.Columns.{Columns, columns, gramOf}
-use Rattle.context.specs.Build.{unequal}
-use Rattle.context.specs.RuleTables.{ruleTables, gramOn}
-use Rattle.context.specs.RuleTableLaws.{rule-tables-gram}
-use Rattle.context.specs.declared.rule_tables.RuleTables.{RuleTables}
+use Rattle.region.specs.Region.{reaches}
+use Rattle.rules.specs.Grammar.{Gram}
+use Rattle.rules.specs.Columns.{Columns, columns, gramOf}
+use Rattle.rules.specs.Columns.{unequal}
+use Rattle.rules.specs.RuleTables.{ruleTables, gramOn}
+use Rattle.rules.specs.RuleTableLaws.{rule-tables-gram}
+use Rattle.rules.specs.declared.rule_tables.RuleTables.{RuleTables}
 use Rattle.amend.specs.Amend.{Edit, afterEmptyLine, joint}
 use Rattle.amend.specs.Local.{usesLineEnd}
 use Rattle.context.specs.Shape.{misshapen}

@@ -10,11 +10,11 @@ use Rattle.common.specs.Search.{is}
 use Rattle.common.specs.SearchLaws.{clash, is-yes}
 use Rattle.common.specs.Rules.{hasRule, leastOf, onByte}
 use Rattle.common.specs.declared.grammar.Grammar.{Grammar}
-use Rattle.context.specs.Region.{Region, Plain, up, dropTag}
-use Rattle.context.specs.Grammar.{plain, Gram}
-use Rattle.context.specs.Regions.{regions}
-use Rattle.context.specs.Columns.{Columns, symRule, openRule, ruleOf, gramOf}
-use Rattle.context.specs.Ahead.{regions-in-order}
+use Rattle.region.specs.Region.{Region, Plain, up, dropTag}
+use Rattle.rules.specs.Grammar.{plain, Gram}
+use Rattle.region.specs.Regions.{regions}
+use Rattle.rules.specs.Columns.{Columns, symRule, openRule, ruleOf, gramOf}
+use Rattle.region.specs.Ahead.{regions-in-order}
 use Rattle.amend.specs.Local.{Linewise, Apart, usesLineEnd}
 use Rattle.amend.specs.LocalLaws.{first-linewise}
 use Rattle.amend.specs.Amend.{Edit, finished, relist, Fits, Blank, Decided, Joins}

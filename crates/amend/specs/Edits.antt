@@ -11,7 +11,7 @@ use lib.Seq.{getD-take, getD-drop, drop-drop}
 use borrow.Author.Tests.{ltb-true, ltb-false, leb-true, eqb-true, not-true}
 use Rattle.common.specs.Search.{is, holds}
 use Rattle.common.specs.SearchLaws.{decide, clash, and-true, is-true, holds-true}
-use Rattle.context.specs.Region.{Region, move, up, reaches, keepBefore, keepFrom}
+use Rattle.region.specs.Region.{Region, move, up, reaches, keepBefore, keepFrom}
 use Rattle.amend.specs.Amend.{Edit, part, finished, relist, afterEmptyLine, joint, Joint, Sound, Fits, none, last, next, Blank, Joins}
 use Rattle.amend.specs.Lists.{up-append, up-up, up-zero, move-up, stay, reaches-append, reaches-up, reaches-zero, before-all, from-all, from-none, from-zero, before-up}
 

@@ -16,12 +16,12 @@ use Rattle.common.specs.Turn.{Turn, go, stop, found, thenCollect, collect, firs
 use Rattle.common.specs.TurnLaws.{by-turn, collect-go, collect-found, collect-alike, scan-same, scan-fuel, has-is}
 use Rattle.common.specs.declared.fence_tests.Hit.{Hit}
 use Rattle.common.specs.declared.fence_tests.Hit.the-variants.{At, End}
-use Rattle.context.specs.declared.region.Cause.{Cause}
-use Rattle.context.specs.declared.region.Cause.the-variants.{Symmetric, Asymmetric}
-use Rattle.context.specs.Region.{Region, Caused, up, reaches}
-use Rattle.context.specs.Grammar.{Rule, plain, sym, asym, Gram}
-use Rattle.context.specs.Regions.{pick, shutPlace, fencedTo, fenced, oddBefore, escaped, nextOf, symAfter, symTurn, asymAfter, asymTurn, pairOf, openPair, inline, regionAt, regionTurn, regions}
-use Rattle.context.specs.Ahead.{Lies, Meets, Met, both, next-met, symTurn-ahead, asymTurn-ahead, regionTurn-ahead}
+use Rattle.region.specs.declared.Cause.{Cause}
+use Rattle.region.specs.declared.Cause.the-variants.{Symmetric, Asymmetric}
+use Rattle.region.specs.Region.{Region, Caused, up, reaches}
+use Rattle.rules.specs.Grammar.{Rule, plain, sym, asym, Gram}
+use Rattle.region.specs.Regions.{pick, shutPlace, fencedTo, fenced, oddBefore, escaped, nextOf, symAfter, symTurn, asymAfter, asymTurn, pairOf, openPair, inline, regionAt, regionTurn, regions}
+use Rattle.region.specs.Ahead.{Lies, Meets, Met, both, next-met, symTurn-ahead, asymTurn-ahead, regionTurn-ahead}
 use Rattle.amend.specs.Local.{Linewise, Apart}
 use Rattle.amend.specs.LocalLaws.{find-either, line-in, line-same}
 use Rattle.amend.specs.Amend.{Blank, Decided}

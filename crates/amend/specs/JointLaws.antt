@@ -9,7 +9,7 @@ use borrow.Author.Tests.{eq-eqb, ne-eqb, lt-ltb, le-ltb, lt-leb, le-leb}
 use Rattle.common.specs.Promise.{Gives}
 use Rattle.common.specs.Search.{is, holds, Sought}
 use Rattle.common.specs.SearchLaws.{is-yes, is-no}
-use Rattle.context.specs.Region.{Region, reaches}
+use Rattle.region.specs.Region.{Region, reaches}
 use Rattle.amend.specs.Amend.{afterEmptyLine, joint}
 use Rattle.amend.specs.Amended.{offJoint}
 use Rattle.amend.specs.Parts.{marks, openEnd}

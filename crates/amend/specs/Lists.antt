@@ -6,7 +6,7 @@ use Prim.Native.Nat.{ℕ, _+_, _-_, _≤_, _<_}
 use native.Mathlib.Omega.{arith}
 use lib.Dec.{ltb, leb}
 use borrow.Author.Tests.{lt-ltb, le-ltb, le-leb, lt-leb}
-use Rattle.context.specs.Region.{Region, Plain, move, up, reaches, keepBefore, keepFrom, InOrder, dropTag}
+use Rattle.region.specs.Region.{Region, Plain, move, up, reaches, keepBefore, keepFrom, InOrder, dropTag}
 use Rattle.amend.specs.Places.{ltb-up, leb-up}
 
 pub reaches-none : (T : Type 0) (k : ℕ) → reaches {T = T} k [] ≡ false

@@ -8,8 +8,8 @@ use Rattle.common.specs.Search.{is}
 use Rattle.common.specs.SearchLaws.{Ends}
 use Rattle.common.specs.Rules.{hasRule}
 use Rattle.common.specs.declared.grammar.Grammar.{Grammar}
-use Rattle.context.specs.Grammar.{plain, Fences, Gram}
-use Rattle.context.specs.Columns.{Columns}
+use Rattle.rules.specs.Grammar.{plain, Fences, Gram}
+use Rattle.rules.specs.Columns.{Columns}
 
 -- ---- a fence reader that goes by lines
 -- a question that sees only the line of the place it is asked of: whole lines before that line do not change the answer, nor does what

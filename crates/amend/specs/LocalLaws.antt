@@ -13,7 +13,7 @@ use Rattle.common.specs.Search.{find, is, other, either, lineEnd}
 use Rattle.common.specs.SearchLaws.{decide, holds-true, holds-prefix, holds-shift, find-ge, find-le, find-hit, find-prefix, find-past, find-shift, Ends, start-prefix, start-shift, last-byte}
 use Rattle.common.specs.Fences.{runEnd, opensLine, closesTo, closing}
 use Rattle.common.specs.declared.grammar.Grammar.{Grammar}
-use Rattle.context.specs.Columns.{first}
+use Rattle.rules.specs.Columns.{first}
 use Rattle.amend.specs.Local.{Local, Linewise}
 use Rattle.amend.specs.Places.{ltb-up, leb-up, sub-up, min-up}
 

@@ -9,15 +9,15 @@ use lib.Dec.{ltb, leb}
 use lib.ListN.{length, length-map}
 use borrow.Author.Tests.{lt-ltb}
 use Rattle.common.specs.Promise.{Gives}
-use Rattle.context.specs.Region.{Region, Caused, regionOf, move, up, reaches}
-use Rattle.context.specs.Grammar.{Gram}
-use Rattle.context.specs.Regions.{nextRegion, regions}
-use Rattle.context.specs.Views.{viewNext, placed}
-use Rattle.context.specs.NextLaws.{regionsFrom, from-start, next-none, next-some, next-ahead}
+use Rattle.region.specs.Region.{Region, Caused, regionOf, move, up, reaches}
+use Rattle.rules.specs.Grammar.{Gram}
+use Rattle.region.specs.Regions.{nextRegion, regions}
+use Rattle.region.specs.Views.{viewNext, placed}
+use Rattle.region.specs.NextLaws.{regionsFrom, from-start, next-none, next-some, next-ahead}
 use Rattle.context.specs.Build.{Puts, Put}
-use Rattle.context.specs.declared.region.Region.{Region as Told}
-use Rattle.context.specs.declared.region.Next.{Next}
-use Rattle.context.specs.declared.region.Next.the-variants as step
+use Rattle.region.specs.declared.Region.{Region as Told}
+use Rattle.region.specs.declared.Next.{Next}
+use Rattle.region.specs.declared.Next.the-variants as step
 use Rattle.amend.specs.Parts.{Laid, Owns, surveyed}
 use Rattle.amend.specs.RowLaws.{Laying, laying-first, laying-put, laying-end}
 

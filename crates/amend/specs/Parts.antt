@@ -8,9 +8,9 @@ use Rattle.common.specs.Search.{is}
 use Rattle.common.specs.Rules.{hasRule}
 use Rattle.common.specs.Entry.{flatten, over, putAt}
 use Rattle.common.specs.Refusals.{Outcome, given, refused, refuse, tooLong, numberOf}
-use Rattle.context.specs.Region.{Region, Plain, pair, move, up, reaches, InOrder}
-use Rattle.context.specs.Grammar.{Gram}
-use Rattle.context.specs.Regions.{regions}
+use Rattle.region.specs.Region.{Region, Plain, pair, move, up, reaches, InOrder}
+use Rattle.rules.specs.Grammar.{Gram}
+use Rattle.region.specs.Regions.{regions}
 use Rattle.amend.specs.Amend.{Edit, afterEmptyLine}
 use Rattle.context.specs.Shape.{misshapen}
 use Rattle.amend.specs.Amended.{listed, plainRegions, edited, amendedRegions, miscut, offJoint, leftOpen, crowded, leaves}

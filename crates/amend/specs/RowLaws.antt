@@ -11,7 +11,7 @@ use lib.Seq.{getD-take, getD-drop, drop-drop}
 use Rattle.common.specs.Promise.{Gives}
 use Rattle.common.specs.Entry.{flatten, rows, startOf, stopOf, Shaped, putAt}
 use Rattle.common.specs.EntryLaws.{length-rows, rows-at, room-fits, length-put}
-use Rattle.context.specs.Region.{Region, Plain, pair, move, reaches, keepBefore, InOrder}
+use Rattle.region.specs.Region.{Region, Plain, pair, move, reaches, keepBefore, InOrder}
 use Rattle.context.specs.Build.{Puts, Put}
 use Rattle.context.specs.Shape.{misshapen}
 use Rattle.context.specs.ShapeLaws.{shape-fits, shape-order}

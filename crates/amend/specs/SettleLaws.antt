@@ -13,10 +13,10 @@ use Rattle.common.specs.Promise.{Gives}
 use Rattle.common.specs.Refusals.{given, refused}
 use Rattle.common.specs.Entry.{flatten, over, putAt, Written as Front}
 use Rattle.common.specs.EntryLaws.{length-flatten, length-put, written-none, written-put, written-all}
-use Rattle.context.specs.Region.{Region, Plain, dropTag, pair, move, up, reaches, keepBefore, keepFrom, InOrder}
-use Rattle.context.specs.Grammar.{Gram}
-use Rattle.context.specs.Regions.{regions}
-use Rattle.context.specs.Ahead.{regions-few}
+use Rattle.region.specs.Region.{Region, Plain, dropTag, pair, move, up, reaches, keepBefore, keepFrom, InOrder}
+use Rattle.rules.specs.Grammar.{Gram}
+use Rattle.region.specs.Regions.{regions}
+use Rattle.region.specs.Ahead.{regions-few}
 use Rattle.amend.specs.Amend.{afterEmptyLine, joint}
 use Rattle.amend.specs.Amended.{listed, plainRegions, edit, amendedRegions, leftOpen, crowded}
 use Rattle.amend.specs.Parts.{Orderly, between, Laid, Copies, Copied, Owns, surveyed, openEnd, Ready, settledAnswer, Settled, parts, Roomy, Merged}

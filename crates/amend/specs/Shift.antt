@@ -16,12 +16,12 @@ use Rattle.common.specs.Turn.{Turn, go, stop, found, allFound, moveT, Adv}
 use Rattle.common.specs.TurnLaws.{firstTurn-move, allFound-move}
 use Rattle.common.specs.declared.fence_tests.Hit.{Hit}
 use Rattle.common.specs.declared.fence_tests.Hit.the-variants.{At, End}
-use Rattle.context.specs.declared.region.Cause.{Cause}
-use Rattle.context.specs.declared.region.Cause.the-variants.{Symmetric, Asymmetric}
-use Rattle.context.specs.Region.{Caused, move, up}
-use Rattle.context.specs.Grammar.{Rule, plain, sym, asym, Gram}
-use Rattle.context.specs.Regions.{pick, shutPlace, fencedTo, fenced, oddBefore, escaped, nextOf, symAfter, symTurn, asymAfter, asymTurn, pairOf, openPair, inline, regionAt, regionFrom, regionTurn, regions}
-use Rattle.context.specs.Ahead.{Meets, symTurn-ahead, asymTurn-ahead, regionTurn-ahead}
+use Rattle.region.specs.declared.Cause.{Cause}
+use Rattle.region.specs.declared.Cause.the-variants.{Symmetric, Asymmetric}
+use Rattle.region.specs.Region.{Caused, move, up}
+use Rattle.rules.specs.Grammar.{Rule, plain, sym, asym, Gram}
+use Rattle.region.specs.Regions.{pick, shutPlace, fencedTo, fenced, oddBefore, escaped, nextOf, symAfter, symTurn, asymAfter, asymTurn, pairOf, openPair, inline, regionAt, regionFrom, regionTurn, regions}
+use Rattle.region.specs.Ahead.{Meets, symTurn-ahead, asymTurn-ahead, regionTurn-ahead}
 use Rattle.amend.specs.Local.{Linewise}
 use Rattle.amend.specs.Places.{ltb-up, leb-up, sub-up, min-up}
 

@@ -9,7 +9,7 @@ use lib.Dec.{ltb, leb}
 use lib.ListN.{length, getD, take, drop}
 use borrow.Author.Tests.{lt-ltb, le-ltb, ltb-true, ltb-false}
 use Rattle.common.specs.SearchLaws.{decide}
-use Rattle.context.specs.Region.{Region, move, reaches, keepBefore, keepFrom, InOrder}
+use Rattle.region.specs.Region.{Region, move, reaches, keepBefore, keepFrom, InOrder}
 use Rattle.amend.specs.Lists.{reaches-later, from-none}
 
 module _ {T : Type 0} where

@@ -16,11 +16,12 @@ use Rattle.common.specs.RefusalLaws.{answer-unique}
 use Rattle.common.specs.declared.grammar.Grammar.{Grammar}
 use Rattle.common.specs.declared.refusal.Answer.{Answer}
 use Rattle.common.specs.declared.refusal.Answer.the-variants.{Value}
-use Rattle.context.specs.Region.{Region, Caused, Plain, dropTag, pair, up, keepBefore, InOrder}
-use Rattle.context.specs.Regions.{regions}
-use Rattle.context.specs.Columns.{Columns, gramOf}
-use Rattle.context.specs.Ahead.{regions-in-order}
-use Rattle.context.specs.Build.{unequal, full, builtAnswer, builtList, Built}
+use Rattle.region.specs.Region.{Region, Caused, Plain, dropTag, pair, up, keepBefore, InOrder}
+use Rattle.region.specs.Regions.{regions}
+use Rattle.rules.specs.Columns.{Columns, gramOf}
+use Rattle.region.specs.Ahead.{regions-in-order}
+use Rattle.rules.specs.Columns.{unequal}
+use Rattle.context.specs.Build.{full, builtAnswer, builtList, Built}
 use Rattle.amend.specs.Amend.{Edit, joint, Fits, none, last, next}
 use Rattle.amend.specs.Local.{usesLineEnd}
 use Rattle.context.specs.Shape.{misshapen}

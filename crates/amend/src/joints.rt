@@ -6,7 +6,7 @@ use common::search::find_byte;
 use common::search::is_at;
 ghost use lib.ListN.{length};
 ghost use Rattle.common.specs.Promise.{Gives};
-ghost use Rattle.context.specs.Region.{reaches};
+ghost use Rattle.region.specs.Region.{reaches};
 ghost use Rattle.amend.specs.Amend.{afterEmptyLine, joint};
 ghost use Rattle.amend.specs.Amended.{listed, offJoint};
 ghost use Rattle.amend.specs.Parts.{Orderly, Fair, marks, openEnd};

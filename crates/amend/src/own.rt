@@ -1,16 +1,16 @@
 // The replacement's own regions: how many there are, and they written.
 use crate::rows::put_moved;
 use common::grammar::Grammar;
-use context::region::Next;
-use context::rule_tables::RuleTables;
-use context::step::next_region;
+use region::Next;
+use region::next_region;
+use rules::rule_tables::RuleTables;
 ghost use mathlib.Core.Bool.{_||_};
 ghost use lib.Dec.{leb};
 ghost use Rattle.common.specs.Promise.{Gives};
-ghost use Rattle.context.specs.Region.{up};
-ghost use Rattle.context.specs.Regions.{regions};
-ghost use Rattle.context.specs.Tables.{gramBy};
-ghost use Rattle.context.specs.RuleTables.{gramOn};
+ghost use Rattle.region.specs.Region.{up};
+ghost use Rattle.region.specs.Regions.{regions};
+ghost use Rattle.rules.specs.Tables.{gramBy};
+ghost use Rattle.rules.specs.RuleTables.{gramOn};
 ghost use Rattle.amend.specs.Parts.{surveyed, Owns, Laid};
 
 // How many regions a text has, and whether one reaches its end.

@@ -2,7 +2,7 @@
 ghost use Prim.Native.Nat.{_+_, _-_, _*_, _<_};
 ghost use lib.ListN.{length, getD};
 ghost use Rattle.common.specs.Promise.{Gives};
-ghost use Rattle.context.specs.Region.{keepBefore};
+ghost use Rattle.region.specs.Region.{keepBefore};
 ghost use Rattle.context.specs.Build.{Puts, Put};
 ghost use Rattle.amend.specs.Amended.{listed};
 ghost use Rattle.amend.specs.Parts.{Orderly, Moves, Copies, Copied};

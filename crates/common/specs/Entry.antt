@@ -5,7 +5,6 @@ use mathlib.Core.List.{List, [], _∷_, _++_}
 use Prim.Native.Nat.{ℕ, zero, suc, _+_, _-_, _*_, _/_, _≤_, _<_}
 use lib.Dec.{leb, ltb}
 use lib.ListN.{length, getD, take, drop, set}
-use Rattle.common.specs.Turn.{Turn, go, stop, found, allFound, Adv}
 
 -- the numbers of a list of entries, one entry behind the other
 abbrev pub flatten : {A : Type 0} → (A → List ℕ) → List A → List ℕ
@@ -48,12 +47,6 @@ abbrev pub putAt : {A : Type 0} → ℕ → List A → List A → List A
 putAt k [] out = out
 putAt k (x ∷ l) out = putAt (k + 1) l (set out k x)
 
--- the numbers of what a turn finds
-abbrev pub numbers : {A : Type 0} → (A → List ℕ) → Turn A → List ℕ
-numbers flat (go n) = []
-numbers flat (stop v) = []
-numbers flat (found a n) = flat a
-
 -- ---- what a loop over entries knows
 
 -- a loop that has tested the first k of n rows, the last of which ends at low
@@ -69,10 +62,3 @@ pub record Written (all rest out₀ out : List ℕ) (k : ℕ) : Type 0 where
   pub front : all ≡ take k out ++ rest
   pub back : drop k out ≡ drop k out₀
   pub within : k ≤ length out
-
--- a loop at q that writes what is found from `from` on, w numbers each, over the front of `out₀`, and stands at place k of `out`
-pub record Building {A : Type 0} (Lies : ℕ → ℕ → A → Type 0) (step : ℕ → Turn A) (flat : A → List ℕ) (w len from : ℕ) (out₀ out : List ℕ) (q k : ℕ) : Type 0 where
-  pub adv : Adv Lies step len
-  pub wide : (a : A) → length (flat a) ≡ w
-  pub inside : q ≤ len
-  pub wrote : Written (flatten flat (allFound step len from)) (flatten flat (allFound step len q)) out₀ out k

@@ -2,20 +2,15 @@
 use mathlib.Core.Path.{_≡_, refl, sym, ap, _∙_}
 use mathlib.Core.Bool.{Bool, true, false, _&&_}
 use mathlib.Core.List.{List, [], _∷_, _++_, map, append-assoc, append-nil}
-use Prim.Native.Nat.{ℕ, zero, suc, _+_, _-_, _*_, _^_, _≤_, _<_}
+use Prim.Native.Nat.{ℕ, zero, suc, _+_, _-_, _*_, _≤_, _<_}
 use native.Mathlib.Numerals.{add-one}
-use native.Mathlib.Nat.{add-assoc, zero-mul, sub-zero, suc-mul, le-div-iff-mul-le, div-mul-le-self, mul-le-mul-right, mul-comm, eq-of-mul-eq-mul-left}
+use native.Mathlib.Nat.{add-assoc, zero-mul, sub-zero, suc-mul, le-div-iff-mul-le, div-mul-le-self, mul-le-mul-right}
 use native.Mathlib.Omega.{arith}
-use lib.Dec.{T, leb, ltb, leb→le, ltb→lt}
+use lib.Dec.{T, leb, ltb, leb→le}
 use borrow.Author.Tests.{leb-true, ltb-true, le-leb, lt-ltb}
 use lib.ListN.{length, getD, take, drop, set, length-append, length-set, take-append-drop}
 use lib.Seq.{take-at, drop-at, getD-take, getD-drop, drop-drop, drop-set-lt, take-suc-set, length-take-le, append-snoc}
-use borrow.Author.Needs.{scaled-fits}
-use mir.Val.{Fits}
-use mir.Syntax.{w32, w64}
-use Rattle.common.specs.Turn.{Turn, go, found, thenCollect, collect, allFound, Adv, Has, Stops}
-use Rattle.common.specs.TurnLaws.{by-turn, turn-ahead, collect-go, collect-found, collect-stop, stops-is, has-is, finds-is}
-use Rattle.common.specs.Entry.{flatten, rows, startOf, stopOf, room, shaped, Shaped, over, putAt, Shaping, Written, numbers, Building}
+use Rattle.common.specs.Entry.{flatten, rows, startOf, stopOf, room, shaped, Shaped, over, putAt, Shaping, Written}
 
 -- ---- entries as rows
 module _ {A : Type 0} (flat : A → List ℕ) (w : ℕ) (wide : (a : A) → length (flat a) ≡ w) where
@@ -74,21 +69,6 @@ fails-shaped from len l n = by (shaped from len l) refl
     by : (t : Bool) → shaped from len l ≡ t → false ≡ t
     by true e = absurd (n (shaped-holds from len l e))
     by false e = refl
-
-pub shaped-later : (q n len : ℕ) (l : List (List ℕ)) → q ≤ n → Shaped n len l → Shaped q len l
-shaped-later q n len [] h s = tt
-shaped-later q n len (r ∷ l) h s = (omega arith, s .1, s .2, s .3)
-
--- the rows of all that is found, where each lies between two places
-module _ {A : Type 0} {Lies : ℕ → ℕ → A → Type 0} {step : ℕ → Turn A} {len : ℕ} (adv : Adv Lies step len) (flat : A → List ℕ)
-    (apart : (q n : ℕ) (a : A) → Lies q n a → (q ≤ startOf (flat a)) × (startOf (flat a) < stopOf (flat a)) × (stopOf (flat a) ≤ n)) where
-  pub collect-shaped : (f q : ℕ) → q ≤ len → Shaped q len (map flat (collect step f q))
-  unfolding collect
-  collect-shaped zero q h = tt
-  collect-shaped (suc f) q h =
-      by-turn adv (λ t. Shaped q len (map flat (thenCollect (collect step f) t))) q h
-      (λ n m i. shaped-later q n len (map flat (collect step f n)) (omega arith) (collect-shaped f n i)) (λ v m i. tt)
-      (λ a n m i w. let l = apart q n a w in (l .0, l .1, omega arith, shaped-later (stopOf (flat a)) n len (map flat (collect step f n)) (l .2) (collect-shaped f n i)))
 
 -- ---- a loop over n rows of width w that tests their places
 module _ {w n len from : ℕ} {l : List ℕ} where
@@ -179,10 +159,7 @@ written-all {all} {out₀} {out} {k} i =
     let n : length all ≡ k = ap length e ∙ length-take-le k out (i .within) in
     rw (n, ← (i .back), e) (sym (take-append-drop k out))
 
--- what stores at k, k + 1, k + 2 and so on leave
-pub put-three : (k a b c : ℕ) (out : List ℕ) → set (set (set out k a) (k + 1) b) (k + 2) c ≡ putAt k (a ∷ b ∷ c ∷ []) out
-put-three k a b c out = simp add-assoc
-
+-- what stores at k, k + 1 and so on leave
 pub put-four : (k a b c d : ℕ) (out : List ℕ) → set (set (set (set out k a) (k + 1) b) (k + 2) c) (k + 3) d ≡ putAt k (a ∷ b ∷ c ∷ d ∷ []) out
 put-four k a b c d out = simp add-assoc
 
@@ -200,78 +177,3 @@ module _ {A : Type 0} where
       let z : k + suc (length l) ≡ k + 1 + length l = omega arith in
       let i : k < length out = omega arith in
       rw z (put-front (k + 1) l (set out k x) (omega (arith, length-set out k x)) ∙ rw (add-one, take-suc-set out k x i) (append-snoc (take k out) x l))
-
--- ---- a loop of turns that writes what is found: d, e and `view` as in TurnLaws
-module _ {A : Type 0} {Lies : ℕ → ℕ → A → Type 0} {step : ℕ → Turn A} {flat : A → List ℕ} {w len from : ℕ} {out : List ℕ} where
-  pub building-first : length (flatten flat (allFound step len from)) ≤ length out → ((a : A) → length (flat a) ≡ w) → from ≤ len → Adv Lies step len
-      → Building Lies step flat w len from out out from 0
-  building-first h wide i adv = record { adv = adv; wide = wide; inside = i; wrote = written-none h }
-
-  pub building-roomy : length (allFound step len from) ≤ room w out → ((a : A) → length (flat a) ≡ w) → from ≤ len → Adv Lies step len
-      → Building Lies step flat w len from out out from 0
-  building-roomy h wide i adv = building-first (omega (arith, room-fits w (length (allFound step len from)) out h, length-flatten flat w wide (allFound step len from))) wide i adv
-
-module _ {A D : Type 0} (view : D → Turn A) {Lies : ℕ → ℕ → A → Type 0} {step : ℕ → Turn A} {flat : A → List ℕ} {w len from q k : ℕ} {out₀ out : List ℕ} {d e : D}
-    (i : Building Lies step flat w len from out₀ out q k) (p : view d ≡ step q) (r : d ≡ e) where
-  pub building-go : {m : ℕ} → view e ≡ go m → Building Lies step flat w len from out₀ out m k
-  building-go c =
-      let s = sym p ∙ ap view r ∙ c in
-      record { adv = i .adv; wide = i .wide; inside = turn-ahead (i .adv) (i .inside) s .1; wrote = rw (← (collect-go (i .adv) (i .inside) s)) (i .wrote) }
-
-  pub building-go-less : {m : ℕ} → view e ≡ go m → len - m < len - q
-  building-go-less c = omega (arith, turn-ahead (i .adv) (i .inside) (sym p ∙ ap view r ∙ c))
-
-  more : {a : A} {m : ℕ} → view e ≡ found a m → Written (flatten flat (allFound step len from)) (flat a ++ flatten flat (allFound step len m)) out₀ out k
-  more c = rw (collect-found (i .adv) (i .inside) (sym p ∙ ap view r ∙ c)) at (i .wrote)
-
-  pub building-found : {m k′ : ℕ} {out′ : List ℕ} → Has (λ a n. n ≡ m) (view e) → out′ ≡ putAt k (numbers flat (view e)) out → k′ ≡ k + w → Building Lies step flat w len from out₀ out′ m k′
-  building-found {m} {k′} {out′} f o s =
-      let x = finds-is m (view e) f in
-      let l : out′ ≡ putAt k (flat (x .0)) out = o ∙ ap (λ (t : Turn A). putAt k (numbers flat t) out) (x .1) in
-      let n : k′ ≡ k + length (flat (x .0)) = omega (arith, i .wide (x .0)) in
-      record { adv = i .adv; wide = i .wide; inside = turn-ahead (i .adv) (i .inside) (sym p ∙ ap view r ∙ x .1) .1; wrote = rw (l, n) (written-put (flat (x .0)) (more (x .1))) }
-
-  pub building-found-less : (m : ℕ) → Has (λ a n. n ≡ m) (view e) → len - m < len - q
-  building-found-less m f = omega (arith, turn-ahead (i .adv) (i .inside) (sym p ∙ ap view r ∙ finds-is m (view e) f .1))
-
-  pub building-stop : Stops (view e) → out ≡ over (flatten flat (allFound step len from)) out₀
-  building-stop c = written-all (rw (collect-stop (i .adv) (i .inside) (sym p ∙ ap view r ∙ stops-is (view e) c .1)) at (i .wrote))
-
-  pub building-size : Stops (view e) → k ≡ length (allFound step len from) * w
-  building-size c =
-      let s = collect-stop (i .adv) (i .inside) (sym p ∙ ap view r ∙ stops-is (view e) c .1) in
-      omega (arith, written-size (i .wrote), ap (λ (l : List A). length (flatten flat l)) s, length-flatten flat w (i .wide) (allFound step len from))
-
-  pub building-count : (n : ℕ) → Stops (view e) → k ≡ n * w → T (ltb 0 w) → n ≡ length (allFound step len from)
-  building-count n c s h = eq-of-mul-eq-mul-left w (ltb→lt 0 w h) n (length (allFound step len from)) (mul-comm w n ∙ sym s ∙ building-size c ∙ mul-comm (length (allFound step len from)) w)
-
-  -- there is room for what is found
-  pub building-room : Has (λ a n. Unit {0}) (view e) → k + w ≤ length out
-  building-room c =
-      let x = has-is (λ a n. Unit {0}) (view e) c in
-      omega (arith, written-room (more (x .2)), length-append (flat (x .0)) (flatten flat (allFound step len (x .1))), i .wide (x .0))
-
-  pub building-here : Has (λ a n. Unit {0}) (view e) → T (ltb 0 w) → k < length out
-  building-here c h = omega (arith, building-room c, ltb→lt 0 w h)
-
-  pub building-at : (j : ℕ) → Has (λ a n. Unit {0}) (view e) → T (ltb j w) → k + j < length out
-  building-at j c h = omega (arith, building-room c, ltb→lt j w h)
-
-  -- its places in bytes, at s bytes to a number, fit 64 bits
-  pub building-here-scaled : (s : ℕ) → Has (λ a n. Unit {0}) (view e) → T (ltb 0 w) → length out₀ * s < 2 ^ 63 → Fits w64 (k * s)
-  building-here-scaled s c h b = scaled-fits k (length out₀) s (omega (arith, building-here c h, i .wrote .long)) b
-
-  pub building-scaled : (j s : ℕ) → Has (λ a n. Unit {0}) (view e) → T (ltb j w) → length out₀ * s < 2 ^ 63 → Fits w64 ((k + j) * s)
-  building-scaled j s c h b = scaled-fits (k + j) (length out₀) s (omega (arith, building-at j c h, i .wrote .long)) b
-
--- a value of what is found that lies within the text fits 32 bits
-pub building-fits : {A D : Type 0} (view : D → Turn A) (value : A → ℕ) {Lies : ℕ → ℕ → A → Type 0} {step : ℕ → Turn A} {flat : A → List ℕ} {w len from q k x : ℕ} {out₀ out : List ℕ} {d e : D}
-    → Building Lies step flat w len from out₀ out q k → view d ≡ step q → d ≡ e → Has (λ a n. value a ≡ x) (view e) → ((q n : ℕ) (a : A) → Lies q n a → value a ≤ n) → len ≤ 4294967295 → Fits w32 x
-building-fits view value {q = q} {x = x} {e = e} i p r c g h =
-    let y = has-is (λ a n. value a ≡ x) (view e) c in
-    let l = turn-ahead (i .adv) (i .inside) (sym p ∙ ap view r ∙ y .2) in
-    record { fits = omega (arith, g q (y .1) (y .0) (l .2), l .1, y .3) }
-
-module _ {A : Type 0} {Lies : ℕ → ℕ → A → Type 0} {step : ℕ → Turn A} {flat : A → List ℕ} {w len from q k : ℕ} {out₀ out : List ℕ} (i : Building Lies step flat w len from out₀ out q k) where
-  pub building-same : length out ≡ length out₀
-  building-same = i .wrote .long

@@ -13,7 +13,6 @@ use Rattle.common.specs.Search.{is, either, holds, firstPlace, find, Sou
 use Rattle.common.specs.SearchLaws.{decide, is-yes, is-no, either-true, either-false, holds-in, holds-past, first-none, first-end, first-over, first-is, first-ge, find-ge, find-end, find-before, find-at, find-is, find-over}
 use Rattle.common.specs.Paragraph.{endsAt, paragraphEnd, nextIn}
 use Rattle.common.specs.Steps.{NextTurned}
-use Rattle.common.specs.declared.fence_tests.Hit.{Hit}
 use Rattle.common.specs.declared.fence_tests.Hit.the-variants as hit
 use Rattle.common.specs.declared.fence_tests.NextTurn.{NextTurn}
 use Rattle.common.specs.declared.fence_tests.NextTurn.the-variants.{Go, At, End}

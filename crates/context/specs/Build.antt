@@ -1,16 +1,16 @@
 -- What building answers and writes. Assumes nothing.
 use mathlib.Core.Path.{_≡_}
-use mathlib.Core.Bool.{Bool, true, false, _||_}
+use mathlib.Core.Bool.{Bool, true, false}
 use mathlib.Core.List.{List, [], _∷_}
 use Prim.Native.Nat.{ℕ, _+_, _*_, _≤_}
 use lib.Dec.{ltb}
 use lib.ListN.{length}
 use Rattle.common.specs.Entry.{flatten, room as roomOf, over, putAt}
-use Rattle.common.specs.Refusals.{Outcome, given, refuse, tooLong, differ}
+use Rattle.common.specs.Refusals.{Outcome, given, refuse, tooLong}
 use Rattle.common.specs.declared.grammar.Grammar.{Grammar}
-use Rattle.context.specs.Region.{Caused, pair}
-use Rattle.context.specs.Regions.{regions}
-use Rattle.context.specs.Columns.{Columns, gramOf}
+use Rattle.region.specs.Region.{Caused, pair}
+use Rattle.region.specs.Regions.{regions}
+use Rattle.rules.specs.Columns.{Columns, unequal, gramOf}
 
 -- a run with room for region n, whose two places fit 32 bits
 pub record Puts (n start end : ℕ) (out : List ℕ) : Type 0 where
@@ -26,10 +26,6 @@ pub record Put (n start end : ℕ) (out out′ : List ℕ) (r : ℕ) : Type 0 wh
 pub record Wrote (l : List Caused) (out out′ : List ℕ) (n : ℕ) : Type 0 where
   pub count : n ≡ length l
   pub list : out′ ≡ over (flatten pair l) out
-
--- "a rule's columns differ in length"
-abbrev pub unequal : Columns → Bool
-unequal c = differ (c .fenceBytes) (c .fenceMins) || (differ (c .symBytes) (c .symCounts) || (differ (c .openers) (c .closers) || differ (c .openers) (c .openCounts)))
 
 -- "the answer has more regions … than there is room for"
 abbrev pub full : List Caused → List ℕ → Bool

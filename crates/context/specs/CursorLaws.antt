@@ -17,11 +17,12 @@ use Rattle.common.specs.Entry.{flatten, rows, room, over, startOf, stopOf, Shap
 use Rattle.common.specs.EntryLaws.{rows-at, rows-flatten, length-rows, length-flatten, fits-room}
 use Rattle.common.specs.declared.grammar.Grammar.{Grammar}
 use Rattle.common.specs.declared.refusal.Found.{Found}
-use Rattle.context.specs.Region.{Region, Caused, InOrder, pair}
-use Rattle.context.specs.Regions.{regions}
-use Rattle.context.specs.Ahead.{regions-in-order}
-use Rattle.context.specs.Columns.{Columns, gramOf}
-use Rattle.context.specs.Build.{Filled, Built, full, unequal, builtAnswer, builtList}
+use Rattle.region.specs.Region.{Region, Caused, InOrder, pair}
+use Rattle.region.specs.Regions.{regions}
+use Rattle.region.specs.Ahead.{regions-in-order}
+use Rattle.rules.specs.Columns.{Columns, gramOf}
+use Rattle.context.specs.Build.{Filled, Built, full, builtAnswer, builtList}
+use Rattle.rules.specs.Columns.{unequal}
 use Rattle.context.specs.BuildLaws.{pair-two}
 use Rattle.context.specs.Cursor.{startAt, stopAt, after, passed, endAt, coverAnswer, coverNext, covers, coverage, coverRun, Rising, Ended}
 use Rattle.context.specs.declared.cursor.Cover.{Cover}

@@ -19,14 +19,15 @@ use Rattle.common.specs.Rules.{tabulate, row, hasRule, leastOf, entry, onByte}
 use Rattle.common.specs.TableLaws.{table-entry, table-is, table-same, table-of, table-set, table-start, length-tabulate}
 use Rattle.common.specs.Refusals.{Outcome, refused}
 use Rattle.common.specs.declared.grammar.Grammar.{Grammar}
-use Rattle.context.specs.Columns.{columns, gained, gainedAll, noBytes, withByte, gathered, asBytes, searchBytes, openRule, symRule, fenceRow, gramOf}
-use Rattle.context.specs.ColumnLaws.{gathered-list}
-use Rattle.context.specs.Tables.{gramIn, tablesFor}
-use Rattle.context.specs.Regions.{regions}
+use Rattle.rules.specs.Columns.{columns, unequalInline, unequal, gained, gainedAll, noBytes, withByte, gathered, asBytes, searchBytes, openRule, symRule, fenceRow, gramOf}
+use Rattle.rules.specs.ColumnLaws.{gathered-list}
+use Rattle.rules.specs.RuleTableLaws.{differ-inline}
+use Rattle.rules.specs.Tables.{gramIn, tablesFor}
+use Rattle.region.specs.Regions.{regions}
 use Rattle.context.specs.Build.{Filled, Built}
-use Rattle.context.specs.BuildLaws.{built-long, built-sym, built-closers, built-counts, built-all, with-tables}
+use Rattle.context.specs.BuildLaws.{built-long, built-differ, built-all, with-tables}
 use Rattle.context.specs.Records.{noRule, noRules, withRule, ruleBytes, ruleMins, gatheredOf, BuiltFor}
-use Rattle.context.specs.declared.search_bytes.SearchBytes.{SearchBytes}
+use Rattle.rules.specs.declared.search_bytes.SearchBytes.{SearchBytes}
 use Rattle.context.specs.declared.records.FenceRule.{FenceRule}
 use Rattle.context.specs.declared.records.Gathered.{Gathered}
 
@@ -258,31 +259,27 @@ module _ (f : Gathered) (rules : List FenceRule) (i : ℕ) (so-far : f ≡ gathe
 -- ---- the ways out of building by gathered rules
 module _ (g : Grammar) (f : Gathered) (y t o k n s out : List ℕ) where
   pub records-long : 4294967295 < length s → BuiltFor g f y t o k n s out out (refused 1)
-  records-long h = record { built = λ bytes mins same e. built-long g bytes mins y t o k n s out h }
+  records-long h = record { built = λ bytes mins same e. built-long g (columns bytes mins y t o k n) s out h }
 
-  module _ (short : length s ≤ 4294967295) where
-    pub records-sym : (length y ≡ length t → ⊥) → BuiltFor g f y t o k n s out out (refused 6)
-    records-sym d = record { built = λ bytes mins same e. built-sym g bytes mins y t o k n s out short same d }
+  module _ (b : Bool) (short : length s ≤ 4294967295) where
+    -- b says whether columns of any rules differ, where those of the fences don't
+    any : (bytes mins : List ℕ) → length bytes ≡ length mins → Gives (unequalInline y t o k n) b → Gives (unequal (columns bytes mins y t o k n)) b
+    any bytes mins same d = record { answer = differ-inline bytes mins y t o k n b same d }
 
-    module _ (ey : length y ≡ length t) where
-      pub records-closers : (length o ≡ length k → ⊥) → BuiltFor g f y t o k n s out out (refused 6)
-      records-closers d = record { built = λ bytes mins same e. built-closers g bytes mins y t o k n s out short same ey d }
+    pub records-differ : b ≡ true → Gives (unequalInline y t o k n) b → BuiltFor g f y t o k n s out out (refused 6)
+    records-differ e d = record { built = λ bytes mins same e′. built-differ g (columns bytes mins y t o k n) s out b short e (any bytes mins same d) }
 
-      module _ (ek : length o ≡ length k) where
-        pub records-counts : (length o ≡ length n → ⊥) → BuiltFor g f y t o k n s out out (refused 6)
-        records-counts d = record { built = λ bytes mins same e. built-counts g bytes mins y t o k n s out short same ey ek d }
-
-        pub records-all : (en : length o ≡ length n) (out′ : List ℕ) (a : Outcome) (v w : SearchBytes) → Gives (gathered (f .searched) y) v → Gives (gathered v o) w
-            → Filled (regions (gramIn g (w .bytes) (w .count) (f .has) (f .least) (f .rows) (tablesFor (symRule y t (openRule o k n)))) s) out out′ a → BuiltFor g f y t o k n s out out′ a
-        records-all en out′ a v w hv hw p = record { built = λ bytes mins same e. built-all g bytes mins y t o k n s out short same ey ek out′ a en (tables bytes mins e) }
-          where
-            tables : (bytes mins : List ℕ) → f ≡ gatheredOf bytes mins → Filled (regions (gramOf g (columns bytes mins y t o k n)) s) out out′ a
-            tables bytes mins e =
-                let x = gathered-list [] bytes (omega arith) in
-                let z = gathered-list (gainedAll [] bytes) y (x .1) in
-                let ev : v ≡ asBytes (gainedAll (gainedAll [] bytes) y) = hv .answer ∙ ap (λ (q : Gathered). gathered (q .searched) y) e ∙ z .0 in
-                let ew : w ≡ searchBytes bytes y o = hw .answer ∙ ap (λ (q : SearchBytes). gathered q o) ev ∙ gathered-list (gainedAll (gainedAll [] bytes) y) o (z .1) .0 in
-                with-tables g bytes mins y t o k n s out out′ (record { has = f .has; least = f .least }) (f .rows) w a (record { answer = ap (λ (q : Gathered). record { has = q .has; least = q .least }) e }) (record { answer = ap (λ (q : Gathered). q .rows) e }) (record { answer = ew }) p
+    pub records-all : (out′ : List ℕ) (a : Outcome) (v w : SearchBytes) → b ≡ false → Gives (unequalInline y t o k n) b → Gives (gathered (f .searched) y) v → Gives (gathered v o) w
+        → Filled (regions (gramIn g (w .bytes) (w .count) (f .has) (f .least) (f .rows) (tablesFor (symRule y t (openRule o k n)))) s) out out′ a → BuiltFor g f y t o k n s out out′ a
+    records-all out′ a v w e d hv hw p = record { built = λ bytes mins same e′. built-all g (columns bytes mins y t o k n) s out b short out′ a e (any bytes mins same d) (tables bytes mins e′) }
+      where
+        tables : (bytes mins : List ℕ) → f ≡ gatheredOf bytes mins → Filled (regions (gramOf g (columns bytes mins y t o k n)) s) out out′ a
+        tables bytes mins e =
+            let x = gathered-list [] bytes (omega arith) in
+            let z = gathered-list (gainedAll [] bytes) y (x .1) in
+            let ev : v ≡ asBytes (gainedAll (gainedAll [] bytes) y) = hv .answer ∙ ap (λ (q : Gathered). gathered (q .searched) y) e ∙ z .0 in
+            let ew : w ≡ searchBytes bytes y o = hw .answer ∙ ap (λ (q : SearchBytes). gathered q o) ev ∙ gathered-list (gainedAll (gainedAll [] bytes) y) o (z .1) .0 in
+            with-tables g bytes mins y t o k n s out out′ (record { has = f .has; least = f .least }) (f .rows) w a (record { answer = ap (λ (q : Gathered). record { has = q .has; least = q .least }) e }) (record { answer = ap (λ (q : Gathered). q .rows) e }) (record { answer = ew }) p
 
 -- building by the rules that were gathered from records
 pub records-built : (rules : List FenceRule) {g : Grammar} {f : Gathered} {y t o k n s out out′ : List ℕ} {a : Outcome} → Gives (gatheredOf (ruleBytes rules) (ruleMins rules)) f → BuiltFor g f y t o k n s out out′ a

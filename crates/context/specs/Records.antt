@@ -7,7 +7,7 @@ use lib.ListN.{length, set, replicate}
 use Rattle.common.specs.Rules.{tabulate, entry, hasRule, leastOf}
 use Rattle.common.specs.Refusals.{Outcome}
 use Rattle.common.specs.declared.grammar.Grammar.{Grammar}
-use Rattle.context.specs.Columns.{columns, gainedAll, noBytes, withByte, asBytes, fenceRow}
+use Rattle.rules.specs.Columns.{columns, gainedAll, noBytes, withByte, asBytes, fenceRow}
 use Rattle.context.specs.Build.{Built}
 use Rattle.context.specs.declared.records.FenceRule.{FenceRule}
 use Rattle.context.specs.declared.records.Gathered.{Gathered}

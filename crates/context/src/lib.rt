@@ -1,81 +1,28 @@
-// Opaque regions, after context.rs: fences and inline pairs whose inside is not read, found in one streaming pass, and a cursor that
-// tells what is covered.
+// Lists of opaque regions, after context.rs: building one from a text, and a cursor that tells what one covers.
 pub mod cursor; // what a list of regions covers
-mod pairs; // where an inline pair closes
 pub mod records; // fence rules as records
-pub mod region; // regions, and what made them
-pub mod rule_tables; // all rules by byte, folded once
-pub mod search_bytes; // the bytes searched for
 pub mod shape; // what is asked of a list that is given
-pub mod step; // the next region from a place
-pub mod tables; // rules by byte
 
 use common::fence_tests::fence_tables;
 use common::grammar::Grammar;
 use common::refusal::Answer;
 use common::refusal::Refusal;
 use common::span::MAX_INPUT_LEN;
-use search_bytes::search_bytes;
-use step::Turn;
-use step::region_turn;
-use tables::fence_rows;
-use tables::inline_tables;
+use region::Next;
+use region::count_regions;
+use region::next_region;
+use rules::rule_tables::columns_differ;
+use rules::search_bytes::search_bytes;
+use rules::tables::fence_rows;
+use rules::tables::inline_tables;
 ghost use Prim.Native.Nat.{_≤_};
 ghost use lib.ListN.{length};
-ghost use Rattle.common.specs.Promise.{Gives};
 ghost use Rattle.common.specs.Refusals.{told};
 ghost use Rattle.common.specs.Entry.{room};
-ghost use Rattle.context.specs.Regions.{regions};
-ghost use Rattle.context.specs.Columns.{columns, openRule, symRule, gramOf};
-ghost use Rattle.context.specs.Tables.{tablesFor, gramBy, gramIn};
+ghost use Rattle.rules.specs.Columns.{columns, openRule, symRule, gramOf};
+ghost use Rattle.rules.specs.Tables.{tablesFor, gramBy, gramIn};
+ghost use Rattle.region.specs.Regions.{regions};
 ghost use Rattle.context.specs.Build.{Puts, Put, Wrote, Filled, Built};
-
-// How many regions a text has.
-fn count_regions(
-    src: &[u8],
-    g: Grammar,
-    needles: &[u8; Grammar::MAX_NEEDLES],
-    n: usize,
-    has: &[bool; 256],
-    least: &[u8; 256],
-    rows: &[usize; 256],
-    kind: &[u8; 256],
-    closer: &[u8; 256],
-    count: &[u32; 256],
-    index: &[usize; 256],
-) -> usize
-    ensures { λ r. ⌜ Gives (length (regions (gramBy g (now (needles .entry)) n (now (has .entry)) (now (least .entry)) (now (rows .entry)) (now (kind .entry)) (now (closer .entry)) (now (count .entry)) (now (index .entry))) (now (src .entry)))) r ⌝ }
-{
-    let mut found: usize = 0;
-    let mut q = 0;
-    loop {
-        match region_turn(
-            src,
-            q,
-            g,
-            needles,
-            n,
-            has,
-            least,
-            rows,
-            kind,
-            closer,
-            count,
-            index,
-        ) {
-            Turn::Go(next) => {
-                q = next;
-            }
-            Turn::Stop(_) => {
-                return found;
-            }
-            Turn::Made(_, next) => {
-                found += 1;
-                q = next;
-            }
-        }
-    }
-}
 
 // Writes region `n`, from `start` up to `end`, to its two places, and answers the next region's number.
 fn put_region(out: &mut [u32], n: usize, start: usize, end: usize) -> usize
@@ -108,9 +55,9 @@ fn write_regions(
     ensures { λ r. ⌜ Wrote (regions (gramBy g (now (needles .entry)) n (now (has .entry)) (now (least .entry)) (now (rows .entry)) (now (kind .entry)) (now (closer .entry)) (now (count .entry)) (now (index .entry))) (now (src .entry))) (now (out .entry)) (now (out .exit)) r ⌝ }
 {
     let mut found: usize = 0;
-    let mut q = 0;
+    let mut q: usize = 0;
     loop {
-        match region_turn(
+        match next_region(
             src,
             q,
             g,
@@ -124,15 +71,12 @@ fn write_regions(
             count,
             index,
         ) {
-            Turn::Go(next) => {
-                q = next;
-            }
-            Turn::Stop(_) => {
-                return found;
-            }
-            Turn::Made(r, next) => {
+            Next::Region(r, next) => {
                 found = put_region(out, found, r.start, r.end);
                 q = next;
+            }
+            Next::Nothing => {
+                return found;
             }
         }
     }
@@ -305,16 +249,7 @@ pub fn build(
     if src.len() > MAX_INPUT_LEN {
         return Answer::Refused(Refusal::TextTooLong);
     }
-    if fences.len() != mins.len() {
-        return Answer::Refused(Refusal::ColumnsDiffer);
-    }
-    if symmetric.len() != times.len() {
-        return Answer::Refused(Refusal::ColumnsDiffer);
-    }
-    if openers.len() != closers.len() {
-        return Answer::Refused(Refusal::ColumnsDiffer);
-    }
-    if openers.len() != counts.len() {
+    if columns_differ(fences, mins, symmetric, times, openers, closers, counts) {
         return Answer::Refused(Refusal::ColumnsDiffer);
     }
     with_tables(

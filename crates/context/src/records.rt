@@ -1,5 +1,4 @@
 // Fence rules as a lent run of records: gathered by byte, and building by them.
-use crate::search_bytes::SearchBytes;
 use crate::with_inline;
 use common::grammar::Grammar;
 use common::refusal::Answer;
@@ -8,11 +7,13 @@ use common::search::lesser;
 use common::sets::accepts;
 use common::sets::index;
 use common::span::MAX_INPUT_LEN;
+use rules::rule_tables::inline_columns_differ;
+use rules::search_bytes::SearchBytes;
 ghost use Prim.Native.Nat.{_<_};
 ghost use lib.ListN.{length, getD, take};
 ghost use Rattle.common.specs.Promise.{Gives};
 ghost use Rattle.common.specs.Refusals.{told};
-ghost use Rattle.context.specs.Columns.{columns};
+ghost use Rattle.rules.specs.Columns.{columns};
 ghost use Rattle.context.specs.Build.{Built};
 ghost use Rattle.context.specs.Records.{noRule, noRules, withRule, ruleBytes, ruleMins, gatheredOf, BuiltFor};
 
@@ -103,13 +104,7 @@ fn build_gathered(
     if src.len() > MAX_INPUT_LEN {
         return Answer::Refused(Refusal::TextTooLong);
     }
-    if symmetric.len() != times.len() {
-        return Answer::Refused(Refusal::ColumnsDiffer);
-    }
-    if openers.len() != closers.len() {
-        return Answer::Refused(Refusal::ColumnsDiffer);
-    }
-    if openers.len() != counts.len() {
+    if inline_columns_differ(symmetric, times, openers, closers, counts) {
         return Answer::Refused(Refusal::ColumnsDiffer);
     }
     let has = fences.has;

@@ -16,11 +16,11 @@ use Rattle.common.specs.declared.grammar.Grammar.{Grammar}
 use Rattle.common.specs.declared.refusal.Answer.{Answer}
 use Rattle.common.specs.declared.refusal.Answer.the-variants.{Value, Refused}
 use Rattle.common.specs.declared.refusal.Refusal.{Refusal}
-use Rattle.context.specs.Region.{Caused, pair, InOrder}
-use Rattle.context.specs.Regions as context
-use Rattle.context.specs.Columns.{gramOf}
+use Rattle.region.specs.Region.{Caused, pair, InOrder}
+use Rattle.region.specs.Regions as context
+use Rattle.rules.specs.Columns.{gramOf}
 use Rattle.context.specs.Build.{builtAnswer, builtList, Built}
-use Rattle.context.specs.Ahead.{regions-few, regions-in-order}
+use Rattle.region.specs.Ahead.{regions-few, regions-in-order}
 use Rattle.context.specs.Shape.{misshapen}
 use Rattle.sheet.specs.Sheet.{five, markItems, numberedItems, merge, sheetOf, sheetAnswer, sheetList, Sheeted}
 use Rattle.sheet.specs.SheetLaws.{five-numbers}

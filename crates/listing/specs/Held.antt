@@ -6,7 +6,7 @@ use Prim.Native.Nat.{ℕ, _+_, _-_, _*_, _≤_}
 use lib.Dec.{eqb}
 use lib.ListN.{length, getD, drop}
 use Rattle.common.specs.Entry.{rows, putAt}
-use Rattle.context.specs.Region.{pair}
+use Rattle.region.specs.Region.{pair}
 use Rattle.sheet.specs.Sheet.{five}
 use Rattle.listing.specs.Lines.{lines}
 use Rattle.listing.specs.Listing.{regions, shown}

@@ -10,7 +10,7 @@ use lib.Seq.{drop-cons, drop-drop}
 use borrow.Author.Tests.{eq-eqb, ne-eqb}
 use Rattle.common.specs.Entry.{rows, putAt}
 use Rattle.common.specs.EntryLaws.{length-put}
-use Rattle.context.specs.Region.{pair}
+use Rattle.region.specs.Region.{pair}
 use Rattle.sheet.specs.Sheet.{five}
 use Rattle.listing.specs.Lines.{line, lines}
 use Rattle.listing.specs.Put.{Laid, Put, Room}

@@ -15,10 +15,10 @@ use Rattle.cont.specs.Frames.{frames}
 use Rattle.cont.specs.Cont as cont
 use Rattle.block_marker.specs.Marker as marker
 use Rattle.block_numbered.specs.Numbered as numbered
-use Rattle.context.specs.Region.{Caused, pair}
+use Rattle.region.specs.Region.{Caused, pair}
 use Rattle.context.specs.Build.{unless}
-use Rattle.context.specs.Columns.{Columns, columns, gramOf}
-use Rattle.context.specs.Regions as context
+use Rattle.rules.specs.Columns.{Columns, columns, gramOf}
+use Rattle.region.specs.Regions as context
 use Rattle.sheet.specs.Sheet.{sheetOf}
 use Rattle.sheet.specs.declared.item.SheetItem.{SheetItem}
 use Rattle.listing.specs.Lines.{line, lines}

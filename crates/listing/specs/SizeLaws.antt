@@ -13,9 +13,9 @@ use Rattle.common.specs.Search.{find}
 use Rattle.common.specs.Turn.{Turn, go, stop, found, thenCollect, collect, Adv, Each, OnFound}
 use Rattle.common.specs.TurnLaws.{by-turn, collect-each}
 use Rattle.common.specs.ItemLaws.{both}
-use Rattle.context.specs.Region.{Caused, pair, InOrder}
-use Rattle.context.specs.Columns.{gramOf}
-use Rattle.context.specs.Ahead.{regions-in-order}
+use Rattle.region.specs.Region.{Caused, pair, InOrder}
+use Rattle.rules.specs.Columns.{gramOf}
+use Rattle.region.specs.Ahead.{regions-in-order}
 use Rattle.fence.specs.Fence as fence
 use Rattle.fence.specs.Laws as fenceLaws
 use Rattle.fence.specs.Run as fenceRun

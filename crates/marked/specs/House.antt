@@ -4,8 +4,8 @@ use Prim.Native.Nat.{ℕ}
 use Rattle.common.specs.Grammars.{house}
 use Rattle.common.specs.Search.{oneOf}
 use Rattle.common.specs.Items.{ItemGrammar, grammar}
-use Rattle.context.specs.Grammar.{Gram}
-use Rattle.context.specs.Columns.{gramOf}
+use Rattle.rules.specs.Grammar.{Gram}
+use Rattle.rules.specs.Columns.{gramOf}
 use Rattle.listing.specs.Listing.{houseRules}
 use Rattle.fence.specs.Fence.{fresh}
 use Rattle.fence.specs.declared.FenceIter.{FenceIter}

@@ -4,13 +4,13 @@ use Rattle.common.specs.Search.{is, either, oneOf, other, holds, firstOf, first
 use Rattle.common.specs.Fences.{opensLine, closesTo, closing}
 use Rattle.common.specs.Paragraph.{endsAt, paragraphEnd, nextIn}
 use Rattle.common.specs.Turn.{scan, collect, gather}
-use Rattle.context.specs.Regions.{shutPlace, oddBefore, symTurn, asymTurn, inline, regionTurn, regions}
-use Rattle.context.specs.Columns.{searched, openRule, symRule}
+use Rattle.region.specs.Regions.{shutPlace, oddBefore, symTurn, asymTurn, inline, regionTurn, regions}
+use Rattle.rules.specs.Columns.{searched, openRule, symRule}
 use Rattle.fence.specs.Fence.{begins, opens, closes, closeEnd, nextFence, fences}
 use Rattle.common.specs.Items.{leading, beyond, itemAt, itemsOf}
 use Rattle.block_numbered.specs.Numbered.{digit, decimalFrom, numberLine}
 use Rattle.cont.specs.Frames.{markAt, afterMark, marksFrom, marks, begun, ending, frames}
-use Rattle.context.specs.Region.{reaches, keepBefore, keepFrom}
+use Rattle.region.specs.Region.{reaches, keepBefore, keepFrom}
 use Rattle.context.specs.Shape.{misshapen}
 use Rattle.amend.specs.Amend.{joint}
 use Rattle.amend.specs.Amended.{listed, amendedRegions, offJoint, leftOpen, amendedAnswer}

@@ -6,8 +6,8 @@ use lib.ListN.{length}
 use Rattle.common.specs.Entry.{flatten, over}
 use Rattle.common.specs.Grammars.{house}
 use Rattle.common.specs.Refusals.{given, refused}
-use Rattle.context.specs.Region.{pair}
-use Rattle.context.specs.Regions.{regions}
+use Rattle.region.specs.Region.{pair}
+use Rattle.region.specs.Regions.{regions}
 use Rattle.fence.specs.Fence.{fences}
 use Rattle.block_numbered.specs.Numbered.{numbers, values}
 use Rattle.cont.specs.Frames.{frames}

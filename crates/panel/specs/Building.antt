@@ -9,9 +9,9 @@ use Rattle.common.specs.Entry.{flatten, rows, over}
 use Rattle.common.specs.Refusals.{Outcome, given, refuse, tooLong, differ}
 use Rattle.common.specs.Rules.{tabulate, entry}
 use Rattle.common.specs.declared.grammar.Grammar.{Grammar}
-use Rattle.context.specs.Region.{Caused, pair}
-use Rattle.context.specs.Regions.{regions}
-use Rattle.context.specs.Columns.{columns, gramOf}
+use Rattle.region.specs.Region.{Caused, pair}
+use Rattle.region.specs.Regions.{regions}
+use Rattle.rules.specs.Columns.{columns, gramOf}
 use Rattle.context.specs.Records.{ruleBytes, ruleMins}
 use Rattle.context.specs.declared.records.FenceRule.{FenceRule}
 use Rattle.panel.specs.Bytes.{four, cells}

@@ -6,8 +6,8 @@ use Rattle.common.specs.Promise.{Gives}
 use Rattle.common.specs.Refusals.{given}
 use Rattle.common.specs.Sets.{setOf, probe}
 use Rattle.common.specs.declared.sets.Probe.{Probe}
-use Rattle.context.specs.Columns.{searchBytes}
-use Rattle.context.specs.declared.search_bytes.SearchBytes.{SearchBytes}
+use Rattle.rules.specs.Columns.{searchBytes}
+use Rattle.rules.specs.declared.search_bytes.SearchBytes.{SearchBytes}
 use mathlib.Core.Bool.{Bool}
 use Rattle.panel.specs.Bytes.{asFlag}
 use Rattle.panel.specs.Reply.{Replied}

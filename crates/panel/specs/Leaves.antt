@@ -4,8 +4,8 @@ use Prim.Native.Nat.{ℕ}
 use Rattle.common.specs.Refusals.{Outcome, given}
 use Rattle.common.specs.Sets.{setOf, probe}
 use Rattle.common.specs.declared.sets.Probe.{Probe}
-use Rattle.context.specs.Columns.{searchBytes}
-use Rattle.context.specs.declared.search_bytes.SearchBytes.{SearchBytes}
+use Rattle.rules.specs.Columns.{searchBytes}
+use Rattle.rules.specs.declared.search_bytes.SearchBytes.{SearchBytes}
 use Rattle.panel.specs.Bytes.{asFlag}
 
 -- a probe's values: the flag, the count, and the needles

@@ -1,35 +1,33 @@
 -- Laws of regions written into a list in bytes, and the ways out of building. Assumes nothing.
 use mathlib.Core.Path.{_≡_, refl, sym, ap, subst, _∙_}
 use mathlib.Core.Bool.{Bool, true, false, not, _||_}
-use mathlib.Core.List.{List, [], _∷_, _++_}
+use mathlib.Core.List.{List, [], _∷_}
 use Prim.Native.Nat.{ℕ, _+_, _-_, _*_, _/_, _%_, _≤_, _<_}
 use native.Mathlib.Omega.{arith}
 use lib.Dec.{eqb, ltb}
 use lib.ListN.{length}
 use borrow.Author.Tests.{lt-ltb, le-ltb, eq-eqb, ne-eqb}
 use Rattle.common.specs.Promise.{Gives}
-use Rattle.common.specs.Entry.{flatten, Written}
-use Rattle.common.specs.EntryLaws.{length-flatten, written-none, written-put, written-all, written-room}
+use Rattle.common.specs.Entry.{flatten}
 use Rattle.common.specs.Refusals.{Outcome, given, refused, differ}
 use Rattle.common.specs.Rules.{tabulate, tablesOf}
 use Rattle.common.specs.declared.grammar.Grammar.{Grammar}
 use Rattle.common.specs.declared.fence_tests.FenceTables.{FenceTables}
-use Rattle.context.specs.Region.{Caused}
-use Rattle.context.specs.Grammar.{Gram}
-use Rattle.context.specs.Regions.{nextRegion, regions}
-use Rattle.context.specs.Columns.{columns, gainedAll, gathered, asBytes, searchBytes, openRule, symRule, fenceRow, gramOf}
-use Rattle.context.specs.ColumnLaws.{gathered-list}
-use Rattle.context.specs.Tables.{tablesFor, gramIn}
+use Rattle.region.specs.Region.{Caused}
+use Rattle.rules.specs.Grammar.{Gram}
+use Rattle.region.specs.Regions.{nextRegion, regions}
+use Rattle.rules.specs.Columns.{columns, gainedAll, gathered, asBytes, searchBytes, openRule, symRule, fenceRow, gramOf}
+use Rattle.rules.specs.ColumnLaws.{gathered-list}
+use Rattle.rules.specs.Tables.{tablesFor, gramIn}
 use Rattle.context.specs.Records.{ruleBytes, ruleMins, gatheredOf}
-use Rattle.context.specs.Ahead.{regions-few}
-use Rattle.context.specs.NextLaws.{regionsFrom, from-start, next-none, next-some, next-ahead}
-use Rattle.context.specs.BuildLaws.{gram-same}
-use Rattle.context.specs.Views.{viewNext, placed}
-use Rattle.context.specs.declared.region.Region.{Region as Told}
-use Rattle.context.specs.declared.region.Next.{Next}
-use Rattle.context.specs.declared.region.Next.the-variants as next
-use Rattle.context.specs.declared.search_bytes.SearchBytes.{SearchBytes}
-use Rattle.context.specs.declared.tables.InlineTables.{InlineTables}
+use Rattle.region.specs.LoopLaws.{Pouring, pouring-next, pouring-end}
+use Rattle.rules.specs.RuleTableLaws.{gram-same}
+use Rattle.region.specs.Views.{viewNext, placed}
+use Rattle.region.specs.declared.Region.{Region as Told}
+use Rattle.region.specs.declared.Next.{Next}
+use Rattle.region.specs.declared.Next.the-variants as next
+use Rattle.rules.specs.declared.search_bytes.SearchBytes.{SearchBytes}
+use Rattle.rules.specs.declared.tables.InlineTables.{InlineTables}
 use Rattle.context.specs.declared.records.Gathered.{Gathered}
 use Rattle.panel.specs.Bytes.{four, cells}
 use Rattle.panel.specs.Reply.{Laid, fitted, Replied}
@@ -45,60 +43,16 @@ poured-unique a b =
 pub laid-region : (n start end : ℕ) (out out′ out″ : List ℕ) → Laid (n * 8) (four start) out out′ → Laid (n * 8 + 4) (four end) out′ out″ → Put n start end out out″ (n + 1)
 laid-region n start end out out′ out″ x y = record { next = refl; laid = laid-behind (n * 8) (n * 8 + 4) (four start) (four end) out out′ out″ x y refl }
 
--- ---- a loop that counts regions, at q
-pub record CountsOn (g : Gram) (s : List ℕ) (n q : ℕ) : Type 0 where
-  pub here : q ≤ length s
-  pub few : n ≤ length s / 2 + 1
-  pub sum : n + length (regionsFrom g s q) ≡ length (regions g s)
+-- ---- the loop that writes: eight bytes a region
+pub bytes-eight : (r : Caused) → length (regionBytes r) ≡ 8
+bytes-eight r = refl
 
-pub counts-first : (g : Gram) (s : List ℕ) → CountsOn g s 0 0
-counts-first g s = record { here = omega arith; few = omega arith; sum = omega (arith, ap length (from-start g s)) }
-
-module _ (g : Gram) (s : List ℕ) (n q : ℕ) (d : Next) (i : CountsOn g s n q) (told : Gives (placed (nextRegion g s q)) (viewNext d)) where
-  pub counts-next : (r : Told) (m : ℕ) → d ≡ next.Region r m → CountsOn g s (n + 1) m
-  counts-next r m e =
-      let a = next-ahead g s q (i .here) d told r m e in
-      let x = ap length (next-some g s q (i .here) d told r m e) in
-      record { here = a .1; few = omega (arith, i .sum, regions-few g s); sum = omega (arith, i .sum) }
-
-  pub counts-less : (r : Told) (m : ℕ) → d ≡ next.Region r m → length s - m < length s - q
-  counts-less r m e = omega (arith, next-ahead g s q (i .here) d told r m e)
-
-  pub counts-end : d ≡ next.Nothing → n ≡ length (regions g s)
-  counts-end e = omega (arith, i .sum, ap length (next-none g s q (i .here) d told e))
-
--- ---- a loop that writes regions, at q
-pub record Pours (g : Gram) (s out₀ out : List ℕ) (n q : ℕ) : Type 0 where
-  pub here : q ≤ length s
-  pub wrote : Written (flatten regionBytes (regions g s)) (flatten regionBytes (regionsFrom g s q)) out₀ out (n * 8)
-
-length-regions : (l : List Caused) → length (flatten regionBytes l) ≡ length l * 8
-length-regions l = length-flatten regionBytes 8 (λ r. refl) l
-
-pub pours-first : (g : Gram) (s out : List ℕ) → length (regions g s) ≤ length out / 8 → Pours g s out out 0 0
-pours-first g s out h = record { here = omega arith; wrote = rw (← (from-start g s)) (written-none (omega (arith, length-regions (regions g s)))) }
-
-module _ (g : Gram) (s out₀ out : List ℕ) (n q : ℕ) (d : Next) (i : Pours g s out₀ out n q) (told : Gives (placed (nextRegion g s q)) (viewNext d)) where
-  module _ (r : Told) (m : ℕ) (e : d ≡ next.Region r m) where
-    ahead : Written (flatten regionBytes (regions g s)) (flatten four (r .start ∷ r .end ∷ []) ++ flatten regionBytes (regionsFrom g s m)) out₀ out (n * 8)
-    ahead = rw (next-some g s q (i .here) d told r m e) at (i .wrote)
-
-    pub pours-room : n * 8 + 8 ≤ length out
-    pours-room = omega (arith, written-room ahead)
-
-    pub pours-next : (out′ : List ℕ) (n′ : ℕ) → Put n (r .start) (r .end) out out′ n′ → Pours g s out₀ out′ n′ m
-    pours-next out′ n′ p =
-        let k : n′ * 8 ≡ n * 8 + 8 = omega (arith, p .next) in
-        record { here = next-ahead g s q (i .here) d told r m e .1; wrote = rw (k, p .laid .list) (written-put (flatten four (r .start ∷ r .end ∷ [])) ahead) }
-
-    pub pours-less : length s - m < length s - q
-    pours-less = omega (arith, next-ahead g s q (i .here) d told r m e)
+module _ (g : Gram) (s out₀ out : List ℕ) (n q : ℕ) (d : Next) (i : Pouring regionBytes 8 g s out₀ out n q) (told : Gives (placed (nextRegion g s q)) (viewNext d)) where
+  pub pours-next : (r : Told) (m : ℕ) (out′ : List ℕ) (n′ : ℕ) → d ≡ next.Region r m → Put n (r .start) (r .end) out out′ n′ → Pouring regionBytes 8 g s out₀ out′ n′ m
+  pours-next r m out′ n′ e p = pouring-next regionBytes 8 g s out₀ out n q d i told r m e out′ n′ (p .next) (p .laid .list)
 
   pub pours-end : d ≡ next.Nothing → Wrote (flatten regionBytes (regions g s)) out₀ out
-  pours-end e = record { list = written-all (rw (next-none g s q (i .here) d told e) at (i .wrote)) }
-
-pub pours-same : {g : Gram} {s out₀ out : List ℕ} {n q : ℕ} → Pours g s out₀ out n q → length out ≡ length out₀
-pours-same i = i .wrote .long
+  pours-end e = record { list = pouring-end regionBytes 8 g s out₀ out n q d i told e }
 
 -- ---- the ways out of pouring: m is the list's room
 pub poured-off : (n : ℕ) (l out run : List ℕ) → eqb n 0 ≡ false → Poured (refused n) l out out run run n

@@ -14,13 +14,13 @@ use Rattle.common.specs.Entry.{rows}
 use Rattle.common.specs.EntryLaws.{rows-at, length-rows}
 use Rattle.common.specs.Rules.{tabulate, entry, hasRule}
 use Rattle.common.specs.TableLaws.{table-is, table-same, table-of}
-use Rattle.context.specs.Grammar.{Rule}
-use Rattle.context.specs.Columns.{openRule, symRule}
-use Rattle.context.specs.Tables.{kindOf, closerOf, countOf, indexOf, tablesFor}
+use Rattle.rules.specs.Grammar.{Rule}
+use Rattle.rules.specs.Columns.{openRule, symRule}
+use Rattle.rules.specs.Tables.{kindOf, closerOf, countOf, indexOf, tablesFor}
 use Rattle.context.specs.Records.{noRule, withRule, ruleBytes, ruleMins, gatheredOf}
 use Rattle.context.specs.RecordLaws.{gather-again, gather-all}
 use Rattle.context.specs.declared.records.Gathered.{Gathered}
-use Rattle.context.specs.declared.tables.InlineTables.{InlineTables}
+use Rattle.rules.specs.declared.tables.InlineTables.{InlineTables}
 use Rattle.panel.specs.Building.{uneven, countAt, countTable, ruleOf, rulesOf}
 use Rattle.panel.specs.ContStateLaws.{Fills, fills-again, fills-all}
 

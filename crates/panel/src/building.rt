@@ -1,18 +1,18 @@
 // Building into a list in bytes: region k has its start at byte 8k and its exclusive end at byte 8k + 4. The answer is how many there
 // are.
+use crate::columns::gather_rules;
+use crate::columns::inline_rules;
+use crate::columns::is_uneven;
 use crate::pouring::pour;
-use crate::rules::gather_rules;
-use crate::rules::inline_rules;
-use crate::rules::is_uneven;
 use common::fence_tests::fence_tables;
 use common::grammar::Grammar;
 use common::span::MAX_INPUT_LEN;
-use context::search_bytes::search_bytes;
-use context::tables::fence_rows;
+use rules::search_bytes::search_bytes;
+use rules::tables::fence_rows;
 ghost use Rattle.common.specs.Entry.{flatten};
-ghost use Rattle.context.specs.Regions.{regions};
-ghost use Rattle.context.specs.Columns.{openRule, symRule};
-ghost use Rattle.context.specs.Tables.{tablesFor, gramIn};
+ghost use Rattle.region.specs.Regions.{regions};
+ghost use Rattle.rules.specs.Columns.{openRule, symRule};
+ghost use Rattle.rules.specs.Tables.{tablesFor, gramIn};
 ghost use Rattle.context.specs.Records.{ruleBytes, ruleMins};
 ghost use Rattle.panel.specs.Bytes.{cells};
 ghost use Rattle.panel.specs.Building.{grammar, regionBytes, Poured, PouredBy, pourAnswer, rulesOf, BuiltBytes, BuiltRules};

@@ -2,7 +2,7 @@
 use crate::reply;
 use common::sets::byte_set;
 use common::sets::probe_matcher;
-use context::search_bytes::search_bytes;
+use rules::search_bytes::search_bytes;
 ghost use Rattle.common.specs.Leaf.{findLineEnd, countEscape, nextInParagraph};
 ghost use Rattle.common.specs.Sets.{probe};
 ghost use Rattle.panel.specs.Reply.{Replied};

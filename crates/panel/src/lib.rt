@@ -7,6 +7,6 @@ mod covered; // the cursor
 mod leaves; // the leaves of common.rs, and the bytes searched for
 mod pouring; // regions into a list in bytes
 mod reply; // what an entry answers
-mod rules; // rules by byte, from byte runs
+mod columns; // rules by byte, from byte runs
 mod scanners; // the scanners
 mod states; // states as byte runs

@@ -2,14 +2,15 @@
 use crate::reply;
 use crate::reply::put_number;
 use common::grammar::Grammar;
-use context::region::Next;
-use context::step::next_region;
+use region::Next;
+use region::count_regions;
+use region::next_region;
 ghost use Prim.Native.Nat.{_+_, _*_, _/_, _≤_};
 ghost use lib.ListN.{length};
 ghost use Rattle.common.specs.Promise.{Gives};
 ghost use Rattle.common.specs.Entry.{flatten};
-ghost use Rattle.context.specs.Regions.{regions};
-ghost use Rattle.context.specs.Tables.{gramBy};
+ghost use Rattle.region.specs.Regions.{regions};
+ghost use Rattle.rules.specs.Tables.{gramBy};
 ghost use Rattle.panel.specs.Building.{regionBytes, Put, Wrote, Poured, pourAnswer};
 
 // How many regions a list of `len` bytes has room for.
@@ -27,50 +28,6 @@ fn put_region(out: &mut [u8], n: usize, start: usize, end: usize) -> usize
     put_number(out, n * 8, start);
     put_number(out, n * 8 + 4, end);
     n + 1
-}
-
-// How many regions a text has.
-fn count_regions(
-    text: &[u8],
-    g: Grammar,
-    needles: &[u8; Grammar::MAX_NEEDLES],
-    n: usize,
-    has: &[bool; 256],
-    least: &[u8; 256],
-    rows: &[usize; 256],
-    kind: &[u8; 256],
-    closer: &[u8; 256],
-    count: &[u32; 256],
-    index: &[usize; 256],
-) -> usize
-    ensures { λ r. ⌜ Gives (length (regions (gramBy g (now (needles .entry)) n (now (has .entry)) (now (least .entry)) (now (rows .entry)) (now (kind .entry)) (now (closer .entry)) (now (count .entry)) (now (index .entry))) (now (text .entry)))) r ⌝ }
-{
-    let mut found: usize = 0;
-    let mut q: usize = 0;
-    loop {
-        match next_region(
-            text,
-            q,
-            g,
-            needles,
-            n,
-            has,
-            least,
-            rows,
-            kind,
-            closer,
-            count,
-            index,
-        ) {
-            Next::Region(_, next) => {
-                found += 1;
-                q = next;
-            }
-            Next::Nothing => {
-                return found;
-            }
-        }
-    }
 }
 
 // Writes the regions of a text over the front of a list that has room for them.

@@ -14,13 +14,13 @@ use common::fence_tests::fence_tables;
 use common::grammar::Grammar;
 use common::refusal::Answer;
 use context::records::FenceRule;
-use context::region::Cause;
-use context::region::Next;
-use context::region::Region;
-use context::search_bytes::search_bytes;
-use context::step::next_region;
-use context::tables::fence_rows;
-use context::tables::inline_tables;
+use region::Cause;
+use region::Next;
+use region::Region;
+use region::next_region;
+use rules::search_bytes::search_bytes;
+use rules::tables::fence_rows;
+use rules::tables::inline_tables;
 
 pub(crate) fn form_of(letter: u8) -> Form {
     // The counts of inline rules may be any numbers.

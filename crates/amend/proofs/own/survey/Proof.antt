@@ -2,7 +2,7 @@
 use borrow.Author.Needs.{needs}
 use Prim.Native.Nat.{_-_}
 use lib.ListN.{length}
-use Rattle.context.specs.Tables.{gramBy}
+use Rattle.rules.specs.Tables.{gramBy}
 use Rattle.amend.specs.OwnLaws.{Surveying, surveying-first, surveying-end, surveying-less, surveying-again}
 use Rattle.amend.proofs.own.survey.Statement.{statement}
 use Rattle.amend.proofs.own.survey.Tie as tie

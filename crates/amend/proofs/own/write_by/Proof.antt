@@ -2,7 +2,7 @@
 use borrow.Author.Needs.{needs}
 use Prim.Native.Nat.{_-_}
 use lib.ListN.{length}
-use Rattle.context.specs.Tables.{gramBy}
+use Rattle.rules.specs.Tables.{gramBy}
 use Rattle.amend.specs.OwnLaws.{Moving, moving-first, moving-same, moving-end, moving-less, moving-puts, moving-again}
 use Rattle.amend.proofs.own.write_by.Statement.{statement}
 use Rattle.amend.proofs.own.write_by.Tie as tie

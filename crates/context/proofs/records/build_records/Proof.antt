@@ -46,7 +46,7 @@ use Rattle.common.proofs.grammar.Grammar as G
 use Rattle.common.proofs.grammar.Grammar.Laws as G′
 use Rattle.common.proofs.refusal.Answer as S
 use Rattle.common.proofs.refusal.Answer.Laws as S′
-use Rattle.context.specs.Columns.{columns}
+use Rattle.rules.specs.Columns.{columns}
 use Rattle.context.specs.Build.{Built}
 use Rattle.context.specs.Records.{ruleBytes, ruleMins, gatheredOf, BuiltFor}
 use Rattle.context.specs.RecordLaws.{records-built}

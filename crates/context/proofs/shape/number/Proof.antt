@@ -1,6 +1,6 @@
 -- `number` meets its contract. Assumes nothing.
 use native.Mathlib.Omega.{arith}
-use Rattle.context.specs.ColumnLaws.{past-end}
+use Rattle.rules.specs.ColumnLaws.{past-end}
 use borrow.Author.Needs.{needs}
 use Rattle.context.proofs.shape.number.Statement.{statement}
 use Rattle.context.proofs.shape.number.Tie as tie

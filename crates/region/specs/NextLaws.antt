@@ -1,0 +1,71 @@
+-- Stepping: the next region from a place on is the first of the regions from there on, and the others lie from where it says. Assumes nothing.
+use mathlib.Core.Path.{_≡_, refl, sym, ap, subst, _∙_}
+use mathlib.Core.List.{List, [], _∷_}
+use Prim.Native.Nat.{ℕ, suc, _≤_, _<_}
+use native.Mathlib.Omega.{arith}
+use lib.ListN.{length}
+use Rattle.common.specs.Promise.{Gives}
+use Rattle.common.specs.Turn.{Turn, go, stop, found, allFound, thenCollect, Last}
+use Rattle.common.specs.TurnLaws.{collect-scan, scan-last}
+use Rattle.region.specs.Region.{Caused, regionOf}
+use Rattle.rules.specs.Grammar.{Gram}
+use Rattle.region.specs.Regions.{regionTurn, nextRegion, regions}
+use Rattle.region.specs.Ahead.{Lies, regionTurn-ahead}
+use Rattle.region.specs.Views.{Placed, viewNext, placed}
+use Rattle.region.specs.declared.Region.{Region as Told}
+use Rattle.region.specs.declared.Next.{Next}
+use Rattle.region.specs.declared.Next.the-variants as next
+
+-- the turn that an answer of one region tells
+turnOf : List Placed → Turn Caused
+turnOf [] = stop 0
+turnOf (p ∷ l) = found (p .region) (p .next)
+
+-- the regions of a text from a place on
+unfoldable pub regionsFrom : Gram → List ℕ → ℕ → List Caused
+regionsFrom g s q = allFound (regionTurn g s) (length s) q
+
+pub from-start : (g : Gram) (s : List ℕ) → regions g s ≡ regionsFrom g s 0
+unfolding regions regionsFrom
+from-start g s = refl
+
+module _ (g : Gram) (s : List ℕ) (q : ℕ) (h : q ≤ length s) where
+  -- the regions from q on, by the first turn that does not only go on
+  by-first : regionsFrom g s q ≡ thenCollect (regionsFrom g s) (nextRegion g s q)
+  unfolding regionsFrom
+  by-first = collect-scan (regionTurn-ahead g s) (suc (length s)) q h (omega arith)
+
+  last : Last Lies q (length s) (nextRegion g s q)
+  last = scan-last (regionTurn-ahead g s) (λ q n m r i w. (omega arith, w .1, w .2)) (suc (length s)) q h
+
+  -- that turn, where one region comes
+  one : (r : Caused) (n : ℕ) → record { region = r; next = n } ∷ [] ≡ placed (nextRegion g s q) → nextRegion g s q ≡ found r n
+  unfolding turnOf
+  one r n e = by (nextRegion g s q) e
+    where
+      by : (t : Turn Caused) → record { region = r; next = n } ∷ [] ≡ placed t → t ≡ found r n
+      by (go m) e = let z : _≡_ {A = ℕ} 0 1 = cc in absurd (omega arith)
+      by (stop v) e = let z : _≡_ {A = ℕ} 0 1 = cc in absurd (omega arith)
+      by (found a m) e = sym (ap turnOf e)
+
+  none : [] ≡ placed (nextRegion g s q) → thenCollect (regionsFrom g s) (nextRegion g s q) ≡ []
+  none e = by (nextRegion g s q) last e
+    where
+      by : (t : Turn Caused) → Last Lies q (length s) t → [] ≡ placed t → thenCollect (regionsFrom g s) t ≡ []
+      by (go m) l e = absurd l
+      by (stop v) l e = refl
+      by (found a m) l e = let z : _≡_ {A = ℕ} 0 1 = cc in absurd (omega arith)
+
+  module _ (d : Next) (told : Gives (placed (nextRegion g s q)) (viewNext d)) where
+    pub next-none : d ≡ next.Nothing → regionsFrom g s q ≡ []
+    next-none e = by-first ∙ none (sym (ap viewNext e) ∙ told .answer)
+
+    module _ (r : Told) (n : ℕ) (e : d ≡ next.Region r n) where
+      here : nextRegion g s q ≡ found (regionOf r) n
+      here = one (regionOf r) n (sym (ap viewNext e) ∙ told .answer)
+
+      pub next-some : regionsFrom g s q ≡ regionOf r ∷ regionsFrom g s n
+      next-some = by-first ∙ ap (thenCollect (regionsFrom g s)) here
+
+      pub next-ahead : (q < n) × (n ≤ length s) × Lies q n (regionOf r)
+      next-ahead = subst (Last Lies q (length s)) here last

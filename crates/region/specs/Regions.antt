@@ -1,0 +1,97 @@
+-- The regions of a text, over an abstract grammar. Assumes nothing.
+use mathlib.Core.Bool.{Bool, true, false}
+use mathlib.Core.List.{List}
+use Prim.Native.Nat.{ℕ, _+_, _-_, _%_}
+use lib.Dec.{eqb, ltb}
+use lib.ListN.{length, getD}
+use Rattle.common.specs.Search.{find, is, other, back, firstPlace, lineEnd, nextLine}
+use Rattle.common.specs.Paragraph.{nextIn}
+use Rattle.common.specs.Turn.{Turn, go, stop, found, firstTurn, allFound}
+use Rattle.common.specs.declared.fence_tests.Hit.{Hit}
+use Rattle.common.specs.declared.fence_tests.Hit.the-variants.{At, End}
+use Rattle.region.specs.Region.{Caused, caused}
+use Rattle.rules.specs.Grammar.{Rule, plain, sym, asym, Gram}
+use Rattle.region.specs.declared.Cause.{Cause}
+use Rattle.region.specs.declared.Cause.the-variants.{Fence, Symmetric, Asymmetric}
+
+abbrev pub pick : {A : Type 0} → Bool → Turn A → Turn A → Turn A
+pick true a b = a
+pick false a b = b
+
+-- ---- fences
+-- the place of the first later line that closes the fence opened at p, else the text's end
+unfoldable pub shutPlace : Gram → List ℕ → ℕ → ℕ
+shutPlace g s p = firstPlace (g .fences .shuts (getD s p 0) (g .fences .size s p) s) (nextLine (length s) (lineEnd (g .eol) s p)) (length s)
+
+-- "its region ends before the closing line's line end"; where no line closes it, at the text's end
+abbrev pub fencedTo : Gram → List ℕ → ℕ → Bool → ℕ → Turn Caused
+fencedTo g s p true q = found (caused Fence (g .fenceIndex (getD s p 0)) true p (lineEnd (g .eol) s q)) (nextLine (length s) (lineEnd (g .eol) s q))
+fencedTo g s p false q = found (caused Fence (g .fenceIndex (getD s p 0)) false p (length s)) (length s)
+
+abbrev pub fenced : Gram → List ℕ → ℕ → Turn Caused
+fenced g s p = fencedTo g s p (ltb (shutPlace g s p) (length s)) (shutPlace g s p)
+
+-- ---- pairs
+-- whether the escapes just before p are odd in number
+unfoldable pub oddBefore : ℕ → List ℕ → ℕ → Bool
+oddBefore escape s p = eqb (back (is escape) s p % 2) 1
+
+abbrev pub escaped : Gram → List ℕ → ℕ → Bool
+escaped g s p = oddBefore (g .escape) s p
+
+-- the next x in the paragraph of j
+abbrev pub nextOf : Gram → List ℕ → ℕ → ℕ → Hit
+nextOf g s x j = nextIn (g .eol) (g .fences .enters s) s x j
+
+-- "a symmetric close an unescaped run of exactly the count": a run from q up to t
+abbrev pub symRun : ℕ → ℕ → ℕ → Turn ℕ
+symRun count q t = pick (eqb (t - q) count) (found t t) (go t)
+
+abbrev pub symAfter : Gram → List ℕ → ℕ → ℕ → Hit → Turn ℕ
+symAfter g s b count (At q) = pick (escaped g s q) (go (q + 1)) (symRun count q (find (other (is b)) s q))
+symAfter g s b count (End u) = stop u
+
+unfoldable pub symTurn : Gram → List ℕ → ℕ → ℕ → ℕ → Turn ℕ
+symTurn g s b count j = symAfter g s b count (nextOf g s b j)
+
+-- "an asymmetric close is one unescaped close byte"
+abbrev pub asymAfter : Gram → List ℕ → Hit → Turn ℕ
+asymAfter g s (At q) = pick (escaped g s q) (go (q + 1)) (found (q + 1) (q + 1))
+asymAfter g s (End u) = stop u
+
+unfoldable pub asymTurn : Gram → List ℕ → ℕ → ℕ → Turn ℕ
+asymTurn g s c j = asymAfter g s (nextOf g s c j)
+
+-- "A found pair's region includes both delimiters; after a failed one the scan resumes past the opening run", which ends at r
+abbrev pub pairOf : Cause → ℕ → ℕ → ℕ → Turn ℕ → Turn Caused
+pairOf k i p r (go n) = go r
+pairOf k i p r (stop u) = go r
+pairOf k i p r (found e n) = found (caused k i true p e) e
+
+-- "An escaped trigger (odd escape run) is passed. The opening run must be exactly the count."
+abbrev pub openPair : Gram → List ℕ → ℕ → ℕ → Cause → ℕ → (ℕ → Turn ℕ) → ℕ → Turn Caused
+openPair g s p count k i close r = pick (escaped g s p) (go (p + 1)) (pick (eqb (r - p) count) (pairOf k i p r (firstTurn close (length s) r)) (go r))
+
+-- a byte b at p that opens no fence, by its inline rule
+unfoldable pub inline : Gram → List ℕ → ℕ → ℕ → Rule → Turn Caused
+inline g s p b plain = go (p + 1)
+inline g s p b (sym i count) = openPair g s p count Symmetric i (symTurn g s b count) (find (other (is b)) s p)
+inline g s p b (asym i c count) = openPair g s p count Asymmetric i (asymTurn g s c) (find (other (is b)) s p)
+
+-- ---- a turn: the next byte searched for, "a fence at a line start goes first … a failed fence falls to the inline rule"
+abbrev pub regionAt : Gram → List ℕ → ℕ → Turn Caused
+regionAt g s p = pick (g .fences .opens s p) (fenced g s p) (inline g s p (getD s p 0) (g .rule (getD s p 0)))
+
+abbrev pub regionFrom : Gram → List ℕ → ℕ → ℕ → Turn Caused
+regionFrom g s q p = pick (ltb p (length s)) (regionAt g s p) (stop q)
+
+unfoldable pub regionTurn : Gram → List ℕ → ℕ → Turn Caused
+regionTurn g s q = regionFrom g s q (find (g .trigger) s q)
+
+-- the next region from a place on
+abbrev pub nextRegion : Gram → List ℕ → ℕ → Turn Caused
+nextRegion g s q = firstTurn (regionTurn g s) (length s) q
+
+-- all regions of a text, each with the rule that made it
+unfoldable pub regions : Gram → List ℕ → List Caused
+regions g s = allFound (regionTurn g s) (length s) 0

@@ -1,0 +1,43 @@
+-- What the code's turns and answers say. Assumes nothing.
+use mathlib.Core.List.{List, [], _∷_}
+use Prim.Native.Nat.{ℕ}
+use Rattle.common.specs.Turn.{Turn, go, stop, found}
+use Rattle.common.specs.declared.fence_tests.Hit.{Hit}
+use Rattle.common.specs.declared.fence_tests.Hit.the-variants as hit
+use Rattle.region.specs.Region.{Caused, regionOf}
+use Rattle.region.specs.declared.pairs.PairTurn.{PairTurn}
+use Rattle.region.specs.declared.pairs.PairTurn.the-variants as pairTurn
+use Rattle.region.specs.declared.Turn.{Turn as Told}
+use Rattle.region.specs.declared.Turn.the-variants as told
+use Rattle.region.specs.declared.Next.{Next}
+use Rattle.region.specs.declared.Next.the-variants as next
+
+abbrev pub viewPair : PairTurn → Turn ℕ
+viewPair (pairTurn.Go n) = go n
+viewPair (pairTurn.Close t) = found t t
+viewPair (pairTurn.End u) = stop u
+
+-- a close search's answer: the end of the close, or where the paragraph ended
+abbrev pub viewHit : Hit → Turn ℕ
+viewHit (hit.At t) = found t t
+viewHit (hit.End u) = stop u
+
+abbrev pub viewTurn : Told → Turn Caused
+viewTurn (told.Go n) = go n
+viewTurn (told.Stop v) = stop v
+viewTurn (told.Made r n) = found (regionOf r) n
+
+-- a region and where the scan goes on after it
+pub record Placed : Type 0 where
+  pub region : Caused
+  pub next : ℕ
+
+-- the next region, if there is one
+abbrev pub viewNext : Next → List Placed
+viewNext (next.Region r n) = record { region = regionOf r; next = n } ∷ []
+viewNext next.Nothing = []
+
+abbrev pub placed : Turn Caused → List Placed
+placed (go n) = []
+placed (stop v) = []
+placed (found r n) = record { region = r; next = n } ∷ []

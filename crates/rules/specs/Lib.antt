@@ -1,0 +1,6 @@
+pub mod Grammar
+pub mod Columns
+pub mod Tables
+pub mod ColumnLaws
+pub mod RuleTables
+pub mod RuleTableLaws
