@@ -10,7 +10,7 @@ use lib.ListN.{length, getD}
 use borrow.Author.Tests.{lt-ltb, le-ltb, ltb-true, ltb-false, le-leb, lt-leb, leb-false}
 use Rattle.common.specs.Promise.{Gives, Steps, steps-unique}
 use Rattle.common.specs.Search.{is, either, other, holds, firstPlace, find, Sought, lineStart, lineEnd, nextLine}
-use Rattle.common.specs.SearchLaws.{decide, clash, and-true, other-no, holds-in, holds-past, holds-true, first-ge, first-none, first-end, first-over, first-here, find-ge, sought, find-before, find-at, find-from, find-next, line-one}
+use Rattle.common.specs.SearchLaws.{decide, clash, and-true, is-yes, either-true, either-false, other-no, holds-in, holds-past, holds-true, first-ge, first-none, first-end, first-over, first-here, find-ge, sought, find-before, find-at, find-over, find-hit, find-from, find-next, line-one}
 use Rattle.common.specs.Fences.{runCount, opensRun, closesRun}
 use Rattle.common.specs.Refusals.{Outcome, refused}
 use Rattle.common.specs.RefusalLaws.{span-unique}
@@ -252,18 +252,36 @@ module _ (g : FenceIter) (count : ℕ) (s : List ℕ) (from q : ℕ) (d : CloseT
 
 pub ruleset close-rules = (closes-first, closes-less, closes-again, closes-end)
 
+-- ---- a further fence byte on the line: one search for it or the line end, which ends at e, tells whether it comes first
+module _ (b eol : ℕ) (s : List ℕ) (j e m : ℕ) (he : Sought (is eol) s j e) (hm : Sought (either b eol) s j m) where
+  near : m < e → find (is b) s j < e
+  near l =
+      let h : m < length s = omega (arith, he .high, hm .low) in
+      ⊎-elim (λ (x : getD s m 0 ≡ b). omega (arith, find-hit (is b) s j m (hm .low) h (is-yes b (getD s m 0) x)))
+      (λ x. absurd (clash (is-yes eol (getD s m 0) x) (find-before (is eol) s j m (hm .low) (omega (arith, he .here)))))
+      (either-true b eol (getD s m 0) (rw (← (hm .here)) at (find-at (either b eol) s j (omega (arith, hm .here)))))
+
+  far : e ≤ m → e ≤ find (is b) s j
+  far l =
+      ⊎-elim
+      (λ (u : ltb j (length s) ≡ true).
+        let h = ltb-true j (length s) u in
+        omega
+        (arith, find-ge (is b) s e, find-over (is b) s j e (he .low) (omega (arith, he .high)) (λ k a c. either-false b eol (getD s k 0) (find-before (either b eol) s j k a (omega (arith, hm .here))) .0)))
+      (λ u. omega (arith, ltb-false j (length s) u, find-ge (is b) s j, he .high)) (decide (ltb j (length s)))
+
 -- ---- where a fence opens: a run of the fence byte begins at p, ends at j and is c long, its line ends at e, and n is the place after that
 module _ (g : FenceIter) (s : List ℕ) (p : ℕ) (j : ℕ) (hj : Sought (other (is (g .byte))) s p j) (e : ℕ) (he : Sought (is (g .eol)) s j e) (n : ℕ) (hn : Gives (nextLine (length s) e) n) (c : ℕ) (hc : Gives (runCount p j) c) where
   pub open-short : c < g .min → go n ≡ openLine g s p
   open-short l = simp (← (hj .here), ← (hc .answer), lt-leb (g .min) c l, and-false, ← (he .here), ← (hn .answer))
 
-  pub open-more : (m : ℕ) → Sought (is (g .byte)) s j m → m < e → go n ≡ openLine g s p
-  open-more m hm l = simp (← (hj .here), ← (he .here), ← (hm .here), lt-leb e m l, and-false, ← (hn .answer))
+  pub open-more : (m : ℕ) → Sought (either (g .byte) (g .eol)) s j m → m < e → go n ≡ openLine g s p
+  open-more m hm l = simp (← (hj .here), ← (he .here), lt-leb e (find (is (g .byte)) s j) (near (g .byte) (g .eol) s j e m he hm l), and-false, ← (hn .answer))
 
-  pub open-found : (m r : ℕ) → holds (is (g .byte)) s p ≡ true → g .min ≤ c → Sought (is (g .byte)) s j m → e ≤ m → Gives (closeEnd g c s n) r → found (record { start = p; end = r }) r ≡ openLine g s p
+  pub open-found : (m r : ℕ) → holds (is (g .byte)) s p ≡ true → g .min ≤ c → Sought (either (g .byte) (g .eol)) s j m → e ≤ m → Gives (closeEnd g c s n) r → found (record { start = p; end = r }) r ≡ openLine g s p
   open-found m r here l hm k hr =
       let w : p < j = omega (arith, run-some g s p here, hj .here) in
-      simp (← (hj .here), lt-ltb p j w, ← (hc .answer), le-leb (g .min) c l, ← (he .here), ← (hm .here), le-leb e m k, ← (hn .answer), ← (hr .answer))
+      simp (← (hj .here), lt-ltb p j w, ← (hc .answer), le-leb (g .min) c l, ← (he .here), le-leb e (find (is (g .byte)) s j) (far (g .byte) (g .eol) s j e m he hm k), ← (hn .answer), ← (hr .answer))
 
 pub ruleset open-line-rules = (open-short, open-more, open-found)
 

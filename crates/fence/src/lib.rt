@@ -10,6 +10,7 @@ use common::fence_tests::run_count;
 use common::refusal::Refusal;
 use common::search::blank_end;
 use common::search::find_byte;
+use common::search::find_either;
 use common::search::line_start;
 use common::search::next_line;
 use common::search::run_end;
@@ -135,7 +136,8 @@ impl FenceIter {
         if count < self.min {
             return Turn::Go(n);
         }
-        if find_byte(src, j, self.byte) < e {
+        // One search for either, so that it never goes beyond the line.
+        if find_either(src, j, self.byte, self.eol) < e {
             return Turn::Go(n);
         }
         Turn::Found(p, self.close(src, count, n))

@@ -19,8 +19,8 @@ run-count-requires c κs = search needs
 returns : tie.Need-returns
 returns c = search open-line-rules
 
-find-byte-requires-2 : tie.Need-find-byte-requires-2
-find-byte-requires-2 c κs = search needs
+find-either-requires : tie.Need-find-either-requires
+find-either-requires c κs = search needs
 
 returns-2 : tie.Need-returns-2
 returns-2 c = search open-line-rules
@@ -40,7 +40,7 @@ open-at-spec =
     next-line-requires
     run-count-requires
     returns
-    find-byte-requires-2
+    find-either-requires
     returns-2
     close-requires
     returns-3)
