@@ -265,9 +265,9 @@ module _ (b eol : ℕ) (s : List ℕ) (j e m : ℕ) (he : Sought (is eol) s j e)
   far l =
       ⊎-elim
       (λ (u : ltb j (length s) ≡ true).
-        let h = ltb-true j (length s) u in
-        omega
-        (arith, find-ge (is b) s e, find-over (is b) s j e (he .low) (omega (arith, he .high)) (λ k a c. either-false b eol (getD s k 0) (find-before (either b eol) s j k a (omega (arith, hm .here))) .0)))
+      let h = ltb-true j (length s) u in
+      omega
+      (arith, find-ge (is b) s e, find-over (is b) s j e (he .low) (omega (arith, he .high)) (λ k a c. either-false b eol (getD s k 0) (find-before (either b eol) s j k a (omega (arith, hm .here))) .0)))
       (λ u. omega (arith, ltb-false j (length s) u, find-ge (is b) s j, he .high)) (decide (ltb j (length s)))
 
 -- ---- where a fence opens: a run of the fence byte begins at p, ends at j and is c long, its line ends at e, and n is the place after that
