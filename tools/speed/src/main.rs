@@ -1,0 +1,117 @@
+//! The benchmark's program: runs every row over one text with the panel's entries and with the Rust.
+//!
+//! usage: bench TEXT ROUNDS TIMES
+//!
+//! First both sides' results are compared, number by number; a difference ends the program with status 1. Then each side runs
+//! ROUNDS times, in turns, and each of these is TIMES runs. A row is a line: its name, how many numbers were compared, and the
+//! nanoseconds of one run of ours and of the Rust, the smallest of the rounds.
+
+mod house;
+mod panel;
+mod rows;
+
+use rows::{Build, Cursor, Fences, Frames, Markers, Numbered, Row, Sink};
+use std::hint::black_box;
+use std::time::{Duration, Instant};
+
+extern "C" {
+    fn getppid() -> i32;
+}
+
+/// Where a part begins or ends: the time, and the call at which tools/speed/count.c writes its count.
+fn mark() -> Instant {
+    unsafe { getppid() };
+    Instant::now()
+}
+
+/// Keeps what is found alive, and does nothing else.
+struct Measured;
+
+impl Sink for Measured {
+    #[inline(always)]
+    fn item(&mut self, numbers: &[u32]) {
+        black_box(numbers);
+    }
+
+    #[inline(always)]
+    fn list<T, const N: usize>(&mut self, list: &[T], _: impl Fn(&T) -> [u32; N]) {
+        black_box(list);
+    }
+}
+
+struct Gathered(Vec<u32>);
+
+impl Sink for Gathered {
+    fn item(&mut self, numbers: &[u32]) {
+        self.0.extend(numbers);
+    }
+
+    fn list<T, const N: usize>(&mut self, list: &[T], numbers: impl Fn(&T) -> [u32; N]) {
+        self.0.extend(list.iter().flat_map(numbers));
+    }
+}
+
+struct Bench {
+    text: Vec<u8>,
+    rounds: u32,
+    times: u32,
+}
+
+impl Bench {
+    fn row(&self, name: &str, mut row: impl Row) {
+        let compared = self.compared(name, &mut row);
+        let (mut ours, mut theirs) = (Duration::MAX, Duration::MAX);
+        for _ in 0..self.rounds {
+            let began = mark();
+            for _ in 0..self.times {
+                row.ours(black_box(&self.text), &mut Measured);
+            }
+            let between = mark();
+            for _ in 0..self.times {
+                row.theirs(black_box(&self.text), &mut Measured);
+            }
+            let ended = mark();
+            ours = ours.min(between - began);
+            theirs = theirs.min(ended - between);
+        }
+        let of_one = |all: Duration| all.as_nanos() as f64 / f64::from(self.times);
+        println!("{name}\t{compared}\t{:.0}\t{:.0}", of_one(ours), of_one(theirs));
+    }
+
+    /// How many numbers both sides gave; they must be the same.
+    fn compared(&self, name: &str, row: &mut impl Row) -> usize {
+        let (mut ours, mut theirs) = (Gathered(Vec::new()), Gathered(Vec::new()));
+        row.ours(&self.text, &mut ours);
+        row.theirs(&self.text, &mut theirs);
+        if ours.0 != theirs.0 {
+            let same = ours.0.iter().zip(&theirs.0).take_while(|(a, b)| a == b).count();
+            let of = |numbers: &[u32]| format!("{} numbers, there {:?}", numbers.len(), numbers.get(same));
+            eprintln!("{name}: the results differ from number {same} on; ours: {}; the Rust's: {}", of(&ours.0), of(&theirs.0));
+            std::process::exit(1);
+        }
+        ours.0.len()
+    }
+}
+
+fn main() {
+    let words: Vec<String> = std::env::args().collect();
+    let [_, path, rounds, times] = words.as_slice() else {
+        panic!("usage: bench TEXT ROUNDS TIMES");
+    };
+    let text = std::fs::read(path).expect("the text can be read");
+    let bench = Bench { text, rounds: rounds.parse().expect("a number"), times: times.parse().expect("a number") };
+    let text = &bench.text;
+    // What two marks count by themselves.
+    mark();
+    mark();
+    bench.row("fences", Fences);
+    bench.row("markers", Markers);
+    bench.row("numbered", Numbered);
+    bench.row("frames", Frames);
+    bench.row("build, room enough", Build::with_room_enough(text));
+    bench.row("build, counted", Build::counted(text));
+    bench.row("cursor, every place", Cursor::new(text, 1));
+    bench.row("cursor, every 64th", Cursor::new(text, 64));
+    #[cfg(sheet)]
+    bench.row("sheet", rows::Sheet::new(text));
+}
