@@ -1,0 +1,147 @@
+"""What the benchmark runs, and how it is made: the panel's archive, the same module for Arm, and the program over both sides."""
+import hashlib
+import os
+import pathlib
+import platform
+import re
+import shutil
+import subprocess
+import sys
+
+TOP = pathlib.Path(__file__).resolve().parents[2]
+SPEED = TOP / 'tools/speed'
+WORK = TOP / 'target/bench'
+
+IS_X86 = platform.machine() == 'x86_64'
+X86 = 'x86_64-unknown-linux-gnu'
+
+
+def fail(why):
+    print(f'tools/bench: {why}', file=sys.stderr)
+    sys.exit(2)
+
+
+def run(command, why, **more):
+    """A command's output; where it fails, why this run can't go on."""
+    try:
+        return subprocess.run(list(map(str, command)), check=True, stdout=subprocess.PIPE, text=True, **more).stdout
+    except (OSError, subprocess.CalledProcessError):
+        fail(why)
+
+
+def kit():
+    """The folder of the Rattle kit's compiler and emulator."""
+    return pathlib.Path(run([TOP / 'tools/kit'], 'the Rattle kit is missing').strip())
+
+
+def kit_that_keeps(module):
+    """A kit like the installed one, whose compiler keeps the module that it is given."""
+    real, made = kit().parents[2], WORK / 'kit'
+    inner = pathlib.Path('on') / platform.machine() / 'toolchain/bin'
+    own = inner, *inner.parents, inner / 'clang'
+    shutil.rmtree(made, ignore_errors=True)
+    for folder in (*reversed(inner.parents), inner):
+        (made / folder).mkdir(parents=True, exist_ok=True)
+        for entry in (real / folder).iterdir():
+            if folder / entry.name not in own:
+                (made / folder / entry.name).symlink_to(entry)
+    clang = made / inner / 'clang'
+    clang.write_text('#!/bin/sh\n'
+                     f'for word do case $word in *.bc) cp "$word" "{module}" ;; esac; done\n'
+                     f'exec "{real / inner / "clang"}" "$@"\n')
+    clang.chmod(0o755)
+    return made
+
+
+def archive_and_module():
+    """The panel's archive and the module that it was compiled from, made anew where they are older than their sources; on x86-64 no
+    module is needed."""
+    archive, module = TOP / 'target/staticlib/libpanel.a', WORK / 'panel.bc'
+    newest = max(f.stat().st_mtime for f in (TOP / 'crates').rglob('*') if f.is_file())
+    if any(not f.exists() or f.stat().st_mtime < newest for f in ([archive] if IS_X86 else [archive, module])):
+        print('Proving the panel, which takes some minutes the first time.', file=sys.stderr)
+        module.unlink(missing_ok=True)
+        more = {} if IS_X86 else {'RATTLE_HOME': str(kit_that_keeps(module))}
+        run(['rt', 'staticlib', 'panel'], 'the archive could not be made: `rt staticlib panel` says why', cwd=TOP,
+            env={**os.environ, **more})
+        archive.touch()
+    return archive, module
+
+
+def arm_object(module):
+    """The module compiled for Arm, without the lines and words in it that name x86-64."""
+    made = WORK / 'arm/panel.o'
+    made.parent.mkdir(parents=True, exist_ok=True)
+    clang, why = kit() / 'bin/clang', 'the module could not be compiled for Arm'
+    text = run([clang, f'--target={X86}', '-Xclang', '-disable-llvm-passes', '-S', '-emit-llvm', '-o', '-', '-xir', module], why)
+    text = re.sub(r'^target (datalayout|triple) = .*\n', '', text, flags=re.M)
+    text = re.sub(r' "(target-cpu|target-features|tune-cpu|probe-stack)"="[^"]*"', '', text)
+    run([clang, '--target=aarch64-unknown-linux-gnu', '-O3', '-ffunction-sections', '-Wno-override-module', '-c', '-o', made,
+         '-xir', '-'], why, input=text)
+    return made
+
+
+def counter():
+    """The emulator's plugin."""
+    made = WORK / 'count.so'
+    run(['cc', '-std=c11', '-O2', '-Wall', '-Wextra', '-Werror', '-shared', '-fPIC', '-o', made, SPEED / 'count.c'],
+        'the counting plugin could not be compiled')
+    return made
+
+
+class Rust:
+    """The Rust of meon, its memchr, and the compiler."""
+
+    def __init__(self, rustc, source, memchr):
+        self.rustc, self.source, self.memchr = rustc, source, memchr
+        if not (source / 'span.rs').is_file():
+            fail(f'no Rust source: {source} is absent (give --source DIR)')
+        if not (memchr / 'src/lib.rs').is_file():
+            fail(f'no memchr: {memchr} is absent (give --memchr DIR)')
+        self.compiler = run([rustc, '--version'], f'there is no {rustc} (Debian: rustc-web)').strip()
+
+    def memchr_version(self):
+        found = re.search(r'^version *= *"(\d+)\.(\d+)', (self.memchr / 'Cargo.toml').read_text(), re.M)
+        return tuple(map(int, found.groups()))
+
+    def program(self, folder, ours, has_sheet, is_x86):
+        """The program over both sides, with ours linked in; made where anything that it is made of has changed."""
+        folder = WORK / folder
+        made, stamp = folder / 'bench', folder / 'made_from'
+        files = sorted(f for d in (self.source, self.memchr / 'src', SPEED / 'src') for f in d.rglob('*.rs'))
+        sums = [hashlib.sha256(f.read_bytes()).hexdigest() for f in (*files, ours, pathlib.Path(__file__))]
+        key = repr((sums, self.compiler, has_sheet))
+        if not made.exists() or not stamp.exists() or stamp.read_text() != key:
+            folder.mkdir(parents=True, exist_ok=True)
+            self.build(folder, ours, has_sheet, is_x86)
+            stamp.write_text(key)
+        return made
+
+    def build(self, folder, ours, has_sheet, is_x86):
+        flags = ['-Copt-level=3', '-Ccodegen-units=1', '--edition=2021', '-L', f'dependency={folder}']
+        if is_x86 and not IS_X86:
+            flags += ['--target', X86, '-Clinker=x86_64-linux-gnu-gcc']
+
+        def compiled(crate, root, *words):
+            run([self.rustc, *flags, '--crate-name', crate, *words, root], f'{crate} could not be compiled by {self.rustc}')
+
+        library = '--crate-type=rlib', '--cap-lints=allow', '-o'
+        memchr, meon = folder / 'libmemchr.rlib', folder / 'libmeon.rlib'
+        features = ['--cfg=feature="alloc"', '--cfg=feature="std"']
+        if is_x86 and self.memchr_version() < (2, 6):  # whose build script, which isn't run here, turns on the vector code
+            features += [f'--cfg=memchr_runtime_{word}' for word in ('simd', 'sse2', 'sse42', 'avx')]
+        compiled('memchr', self.memchr / 'src/lib.rs', *features, *library, memchr)
+        compiled('meon', self.copied(folder / 'copy'), '--extern', f'memchr={memchr}', *library, meon)
+        compiled('bench', SPEED / 'src/main.rs', '--extern', f'meon={meon}', '--check-cfg=cfg(sheet)',
+                 *(['--cfg=sheet'] if has_sheet else []), f'-Clink-arg={ours}', '-o', folder / 'bench')
+
+    def copied(self, copy):
+        """The root over copies of meon's files, which stand where they stand in meon, as tools/oracle/build has it."""
+        shutil.rmtree(copy, ignore_errors=True)
+        standalone = 'engine/text_parser/standalone'
+        (copy / standalone).mkdir(parents=True)
+        names = 'fence', 'block_marker', 'block_numbered', 'cont', 'context', 'common'
+        for name in ('span', 'swar', *(f'{standalone}/{n}' for n in names)):
+            (copy / f'{name}.rs').write_bytes((self.source / f'{name}.rs').read_bytes())
+        (copy / 'lib.rs').write_bytes((TOP / 'tools/oracle/src/meon.rs').read_bytes())
+        return copy / 'lib.rs'

@@ -1,0 +1,67 @@
+"""A look at the object code: do the searches under each entry still compare many bytes at once?"""
+import platform
+import re
+import shutil
+import subprocess
+import sys
+
+# The entries that search a text.
+ENTRIES = ('rack_fence_step', 'rack_marker_step', 'rack_numbered_step', 'rack_cont_step', 'rack_build', 'rack_build_rules',
+           'rack_next_in_paragraph', 'rack_find_line_end', 'rack_sheet')
+# What a compiler makes of a block search: sixteen bytes compared at once, the least index of those that are equal.
+COMPARE, LEAST = 'pcmpeqb', 'pminub'
+
+
+def tool(name):
+    """A binary utility that reads x86-64."""
+    cross = f'x86_64-linux-gnu-{name}'
+    found = name if platform.machine() == 'x86_64' else cross
+    if not shutil.which(found):
+        sys.exit(f'tools/bench: there is no {found} (Debian: binutils{"" if found == name else "-x86-64-linux-gnu"})')
+    return found
+
+
+def symbols(archive):
+    """What an archive defines."""
+    said = subprocess.run([tool('nm'), '--defined-only', archive], stdout=subprocess.PIPE, text=True, check=True).stdout
+    return {line.split(maxsplit=2)[2] for line in said.splitlines() if len(line.split()) >= 3}
+
+
+def functions(archive):
+    """Each function's instructions, and the functions that it calls."""
+    said = subprocess.run([tool('objdump'), '-dr', '--no-show-raw-insn', archive], stdout=subprocess.PIPE, text=True, check=True)
+    code, calls, name = {}, {}, None
+    for line in said.stdout.splitlines():
+        if begun := re.match(r'[0-9a-f]+ <(.+)>:$', line):
+            name = begun.group(1)
+            code[name], calls[name] = [], set()
+        elif call := re.search(r'R_X86_64_(?:PLT32|PC32)\s+(.+?)(?:[-+]0x[0-9a-f]+)?$', line):
+            calls[name].add(re.sub(r'^\.text\.', '', call.group(1)))
+        elif said_here := re.match(r'\s*[0-9a-f]+:\s+(\S+)', line):
+            code[name].append(said_here.group(1))
+    return code, calls
+
+
+def under(name, calls):
+    """The functions that one reaches, itself among them."""
+    reached, todo = set(), [name]
+    while todo:
+        at = todo.pop()
+        if at in calls and at not in reached:
+            reached.add(at)
+            todo += calls[at]
+    return reached
+
+
+def looked_at(archive, told):
+    """Tells for each entry what its searches have; whether all have something."""
+    code, calls = functions(archive)
+    lost = []
+    for entry in (e for e in ENTRIES if e in code):
+        found = [word for f in under(entry, calls) for word in code[f]]
+        told(f'{entry}: vector compares: found {found.count(COMPARE)} ({COMPARE}), {found.count(LEAST)} ({LEAST})')
+        if COMPARE not in found:
+            lost.append(entry)
+    if lost:
+        told(f'NO VECTOR COMPARES under {", ".join(lost)}: these searches go byte by byte.')
+    return not lost
