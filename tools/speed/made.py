@@ -76,8 +76,8 @@ def arm_object(module):
     text = run([clang, f'--target={X86}', '-Xclang', '-disable-llvm-passes', '-S', '-emit-llvm', '-o', '-', '-xir', module], why)
     text = re.sub(r'^target (datalayout|triple) = .*\n', '', text, flags=re.M)
     text = re.sub(r' "(target-cpu|target-features|tune-cpu|probe-stack)"="[^"]*"', '', text)
-    run([clang, '--target=aarch64-unknown-linux-gnu', '-O3', '-ffunction-sections', '-Wno-override-module', '-c', '-o', made,
-         '-xir', '-'], why, input=text)
+    run([clang, '--target=aarch64-unknown-linux-gnu', '-O3', '-fPIC', '-ffunction-sections', '-Wno-override-module', '-c',
+         '-o', made, '-xir', '-'], why, input=text)
     return made
 
 
