@@ -58,8 +58,7 @@ impl Row for Markers {
         values(unsafe { rack_marker_new(EOL, SEP, TAB, set.0, set.1, state.0, state.1) }, &[0]);
         loop {
             let lent = bytes(answer);
-            let refusal =
-                unsafe { rack_marker_step(text.as_ptr(), text.len(), set.0, set.1, state.0, state.1, lent.0, lent.1) };
+            let refusal = unsafe { rack_marker_step(text.as_ptr(), text.len(), set.0, set.1, state.0, state.1, lent.0, lent.1) };
             match values(refusal, answer) {
                 [] => return,
                 item => sink.item(item),
