@@ -6,7 +6,7 @@ use mathlib.Core.Logic.{_⊎_}
 use Prim.Native.Nat.{ℕ, _+_, _-_, _≤_, _<_}
 use lib.Dec.{eqb, leb}
 use lib.ListN.{length, getD, take, drop}
-use Rattle.common.specs.Search.{is, holds}
+use Rattle.search.specs.Search.{is, holds}
 use Rattle.region.specs.Region.{Region, move, up, reaches, keepBefore, keepFrom, InOrder}
 
 -- ---- edits

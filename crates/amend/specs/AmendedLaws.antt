@@ -8,9 +8,9 @@ use native.Mathlib.Omega.{arith}
 use lib.Dec.{ltb, leb}
 use lib.ListN.{length, getD, length-append, length-take, length-drop}
 use borrow.Author.Tests.{ltb-false, leb-true}
-use Rattle.common.specs.Promise.{Gives}
-use Rattle.common.specs.Search.{holds}
-use Rattle.common.specs.SearchLaws.{decide}
+use Rattle.search.specs.Promise.{Gives}
+use Rattle.search.specs.Search.{holds}
+use Rattle.search.specs.SearchLaws.{decide}
 use Rattle.common.specs.Refusals.{Outcome, given, refused, refuse, tooLong, past, numberOf, told}
 use Rattle.common.specs.RefusalLaws.{answer-unique, found-unique}
 use Rattle.common.specs.declared.grammar.Grammar.{Grammar}

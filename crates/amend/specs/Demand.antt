@@ -6,8 +6,8 @@ use mathlib.Core.Logic.{inl, inr, ⊎-elim}
 use Prim.Native.Nat.{ℕ}
 use lib.Dec.{ltb}
 use lib.ListN.{length}
-use Rattle.common.specs.Search.{is}
-use Rattle.common.specs.SearchLaws.{clash, is-yes}
+use Rattle.search.specs.Search.{is}
+use Rattle.search.specs.SearchLaws.{clash, is-yes}
 use Rattle.common.specs.Rules.{hasRule, leastOf, onByte}
 use Rattle.common.specs.declared.grammar.Grammar.{Grammar}
 use Rattle.region.specs.Region.{Region, Plain, up, dropTag}

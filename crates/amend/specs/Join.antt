@@ -9,8 +9,8 @@ use native.Mathlib.Omega.{arith}
 use lib.Dec.{eqb, ltb}
 use lib.ListN.{length, getD, length-append, List·getD-append}
 use borrow.Author.Tests.{ltb-true, ltb-false, lt-ltb, le-ltb, lt-leb}
-use Rattle.common.specs.Search.{find, is, other, holds, firstPlace, lineEnd, nextLine}
-use Rattle.common.specs.SearchLaws.{decide, is-yes, is-no, other-yes, holds-in, holds-prefix, first-ge, first-before, first-at, first-is, first-hit, first-prefix, first-past, find-ge, find-hit, find-prefix, find-past, back-prefix, Ends, start-zero, start-pos, back-after}
+use Rattle.search.specs.Search.{find, is, other, holds, firstPlace, lineEnd, nextLine}
+use Rattle.search.specs.SearchLaws.{decide, is-yes, is-no, other-yes, holds-in, holds-prefix, first-ge, first-before, first-at, first-is, first-hit, first-prefix, first-past, find-ge, find-hit, find-prefix, find-past, back-prefix, Ends, start-zero, start-pos, back-after}
 use Rattle.common.specs.Paragraph.{endsAt, paragraphEnd, nextIn}
 use Rattle.common.specs.Turn.{Turn, go, stop, found, thenCollect, collect, firstTurn, allFound, Adv, Leads, Has}
 use Rattle.common.specs.TurnLaws.{by-turn, collect-go, collect-found, collect-alike, scan-same, scan-fuel, has-is}

@@ -6,9 +6,9 @@ use Prim.Native.Nat.{ℕ, _-_, _≤_, _<_}
 use lib.Dec.{ltb}
 use lib.ListN.{length}
 use borrow.Author.Tests.{eq-eqb, ne-eqb, lt-ltb, le-ltb, lt-leb, le-leb}
-use Rattle.common.specs.Promise.{Gives}
-use Rattle.common.specs.Search.{is, holds, Sought}
-use Rattle.common.specs.SearchLaws.{is-yes, is-no}
+use Rattle.search.specs.Promise.{Gives}
+use Rattle.search.specs.Search.{is, holds, Sought}
+use Rattle.search.specs.SearchLaws.{is-yes, is-no}
 use Rattle.region.specs.Region.{Region, reaches}
 use Rattle.amend.specs.Amend.{afterEmptyLine, joint}
 use Rattle.amend.specs.Amended.{offJoint}

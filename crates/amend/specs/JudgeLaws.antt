@@ -6,7 +6,7 @@ use Prim.Native.Nat.{ℕ, _+_, _-_, _≤_, _<_}
 use native.Mathlib.Omega.{arith}
 use lib.ListN.{length, take, drop, length-append, length-take, length-drop}
 use borrow.Author.Tests.{lt-ltb, le-ltb}
-use Rattle.common.specs.Promise.{Gives}
+use Rattle.search.specs.Promise.{Gives}
 use Rattle.common.specs.Refusals.{Outcome, refused, tooLong}
 use Rattle.context.specs.Shape.{misshapen}
 use Rattle.amend.specs.Amended.{listed, edit, edited, miscut, offJoint}

@@ -4,8 +4,8 @@ use mathlib.Core.Bool.{Bool, _||_}
 use mathlib.Core.List.{List, _++_}
 use Prim.Native.Nat.{ℕ, _+_, _<_}
 use lib.ListN.{length}
-use Rattle.common.specs.Search.{is}
-use Rattle.common.specs.SearchLaws.{Ends}
+use Rattle.search.specs.Search.{is}
+use Rattle.search.specs.SearchLaws.{Ends}
 use Rattle.common.specs.Rules.{hasRule}
 use Rattle.common.specs.declared.grammar.Grammar.{Grammar}
 use Rattle.rules.specs.Grammar.{plain, Fences, Gram}

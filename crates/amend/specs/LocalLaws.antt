@@ -9,8 +9,8 @@ use lib.Dec.{ltb, leb}
 use lib.ListN.{length, getD, List·getD-append}
 use lib.Seq.{getD-append-add}
 use borrow.Author.Tests.{ltb-true, ltb-false, le-leb}
-use Rattle.common.specs.Search.{find, is, other, either, lineEnd}
-use Rattle.common.specs.SearchLaws.{decide, holds-true, holds-prefix, holds-shift, find-ge, find-le, find-hit, find-prefix, find-past, find-shift, Ends, start-prefix, start-shift, last-byte}
+use Rattle.search.specs.Search.{find, is, other, either, lineEnd}
+use Rattle.search.specs.SearchLaws.{decide, holds-true, holds-prefix, holds-shift, find-ge, find-le, find-hit, find-prefix, find-past, find-shift, Ends, start-prefix, start-shift, last-byte}
 use Rattle.common.specs.Fences.{runEnd, opensLine, closesTo, closing}
 use Rattle.common.specs.declared.grammar.Grammar.{Grammar}
 use Rattle.rules.specs.Columns.{first}

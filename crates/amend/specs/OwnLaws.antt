@@ -8,7 +8,7 @@ use native.Mathlib.Omega.{arith}
 use lib.Dec.{ltb, leb}
 use lib.ListN.{length, length-map}
 use borrow.Author.Tests.{lt-ltb}
-use Rattle.common.specs.Promise.{Gives}
+use Rattle.search.specs.Promise.{Gives}
 use Rattle.region.specs.Region.{Region, Caused, regionOf, move, up, reaches}
 use Rattle.rules.specs.Grammar.{Gram}
 use Rattle.region.specs.Regions.{nextRegion, regions}

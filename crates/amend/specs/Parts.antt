@@ -4,7 +4,7 @@ use mathlib.Core.Bool.{Bool, false, not, _||_, _&&_}
 use mathlib.Core.List.{List, [], _∷_, _++_, map}
 use Prim.Native.Nat.{ℕ, _+_, _-_, _*_, _≤_}
 use lib.ListN.{length, drop}
-use Rattle.common.specs.Search.{is}
+use Rattle.search.specs.Search.{is}
 use Rattle.common.specs.Rules.{hasRule}
 use Rattle.common.specs.Entry.{flatten, over, putAt}
 use Rattle.common.specs.Refusals.{Outcome, given, refused, refuse, tooLong, numberOf}

@@ -8,7 +8,7 @@ use native.Mathlib.Omega.{arith}
 use lib.Dec.{leb}
 use lib.ListN.{length, getD, take, drop, length-map, List·getD-map}
 use lib.Seq.{getD-take, getD-drop, drop-drop}
-use Rattle.common.specs.Promise.{Gives}
+use Rattle.search.specs.Promise.{Gives}
 use Rattle.common.specs.Entry.{flatten, rows, startOf, stopOf, Shaped, putAt}
 use Rattle.common.specs.EntryLaws.{length-rows, rows-at, room-fits, length-put}
 use Rattle.region.specs.Region.{Region, Plain, pair, move, reaches, keepBefore, InOrder}

@@ -9,7 +9,7 @@ use mir.Syntax.{w64}
 use lib.Dec.{ltb}
 use lib.ListN.{length, take, drop, length-append, length-map}
 use borrow.Author.Tests.{lt-ltb, le-ltb}
-use Rattle.common.specs.Promise.{Gives}
+use Rattle.search.specs.Promise.{Gives}
 use Rattle.common.specs.Refusals.{given, refused}
 use Rattle.common.specs.Entry.{flatten, over, putAt, Written as Front}
 use Rattle.common.specs.EntryLaws.{length-flatten, length-put, written-none, written-put, written-all}

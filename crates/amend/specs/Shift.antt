@@ -9,8 +9,8 @@ use lib.Dec.{ltb}
 use lib.ListN.{length, getD, length-append}
 use lib.Seq.{getD-append-add}
 use borrow.Author.Tests.{ltb-true}
-use Rattle.common.specs.Search.{find, is, other, back, firstPlace, lineEnd, nextLine}
-use Rattle.common.specs.SearchLaws.{holds-shift, first-move, find-le, find-shift, back-shift, Ends}
+use Rattle.search.specs.Search.{find, is, other, back, firstPlace, lineEnd, nextLine}
+use Rattle.search.specs.SearchLaws.{holds-shift, first-move, find-le, find-shift, back-shift, Ends}
 use Rattle.common.specs.Paragraph.{endsAt, paragraphEnd, hitAt, nextIn}
 use Rattle.common.specs.Turn.{Turn, go, stop, found, allFound, moveT, Adv}
 use Rattle.common.specs.TurnLaws.{firstTurn-move, allFound-move}

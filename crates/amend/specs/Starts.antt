@@ -8,7 +8,7 @@ use native.Mathlib.Omega.{arith}
 use lib.Dec.{ltb, leb}
 use lib.ListN.{length, getD, take, drop}
 use borrow.Author.Tests.{lt-ltb, le-ltb, ltb-true, ltb-false}
-use Rattle.common.specs.SearchLaws.{decide}
+use Rattle.search.specs.SearchLaws.{decide}
 use Rattle.region.specs.Region.{Region, move, reaches, keepBefore, keepFrom, InOrder}
 use Rattle.amend.specs.Lists.{reaches-later, from-none}
 

@@ -8,7 +8,7 @@ use native.Mathlib.Omega.{arith}
 use lib.Dec.{ltb}
 use lib.ListN.{length, getD, take, drop, length-map, List·getD-append}
 use borrow.Author.Tests.{le-ltb, ltb-false, not-false}
-use Rattle.common.specs.SearchLaws.{decide}
+use Rattle.search.specs.SearchLaws.{decide}
 use Rattle.common.specs.Entry.{flatten, room, over}
 use Rattle.common.specs.EntryLaws.{length-flatten, rows-flatten}
 use Rattle.common.specs.Refusals.{Outcome, given, refuse, tooLong, past, told}

@@ -2,10 +2,10 @@
 use crate::rows::END;
 use crate::rows::number;
 use crate::rows::starts_before;
-use common::search::find_byte;
-use common::search::is_at;
+use search::find_byte;
+use search::is_at;
 ghost use lib.ListN.{length};
-ghost use Rattle.common.specs.Promise.{Gives};
+ghost use Rattle.search.specs.Promise.{Gives};
 ghost use Rattle.region.specs.Region.{reaches};
 ghost use Rattle.amend.specs.Amend.{afterEmptyLine, joint};
 ghost use Rattle.amend.specs.Amended.{listed, offJoint};

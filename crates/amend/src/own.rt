@@ -6,7 +6,7 @@ use region::next_region;
 use rules::rule_tables::RuleTables;
 ghost use mathlib.Core.Bool.{_||_};
 ghost use lib.Dec.{leb};
-ghost use Rattle.common.specs.Promise.{Gives};
+ghost use Rattle.search.specs.Promise.{Gives};
 ghost use Rattle.region.specs.Region.{up};
 ghost use Rattle.region.specs.Regions.{regions};
 ghost use Rattle.rules.specs.Tables.{gramBy};

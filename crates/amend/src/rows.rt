@@ -1,7 +1,7 @@
 // A list as rows of two numbers: a region's start and its end.
 ghost use Prim.Native.Nat.{_+_, _-_, _*_, _<_};
 ghost use lib.ListN.{length, getD};
-ghost use Rattle.common.specs.Promise.{Gives};
+ghost use Rattle.search.specs.Promise.{Gives};
 ghost use Rattle.region.specs.Region.{keepBefore};
 ghost use Rattle.context.specs.Build.{Puts, Put};
 ghost use Rattle.amend.specs.Amended.{listed};

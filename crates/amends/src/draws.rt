@@ -3,7 +3,6 @@ use crate::tally::Tally;
 use crate::texts::ROOM;
 use crate::texts::Short;
 use crate::trial;
-use common::search;
 
 const TIMES: u32 = 20000;
 

@@ -1,5 +1,4 @@
 // Short texts: all of a length by their number, and the text that an edit makes.
-use common::search;
 
 // The room for a text: an old one and a replacement, drawn ones too.
 pub(crate) const ROOM: usize = 32;

@@ -4,8 +4,8 @@ use mathlib.Core.List.{List, [], _∷_}
 use Prim.Native.Nat.{ℕ, _+_}
 use lib.Dec.{ltb}
 use lib.ListN.{length, getD, take}
-use Rattle.common.specs.Promise.{Steps}
-use Rattle.common.specs.Search.{find, oneOf, holds, lineEnd, nextLine}
+use Rattle.search.specs.Promise.{Steps}
+use Rattle.search.specs.Search.{find, oneOf, holds, lineEnd, nextLine}
 use Rattle.common.specs.Sets.{probe}
 use Rattle.common.specs.Refusals.{Outcome, given, refused, numberOf}
 use Rattle.common.specs.Turn.{Turn, go, stop, found, firstTurn, allFound, Step, yields, ends}

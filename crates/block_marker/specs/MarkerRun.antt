@@ -10,7 +10,7 @@ use lib.Dec.{leb}
 use lib.ListN.{length, getD, take}
 use lib.Seq.{take-all}
 use borrow.Author.Tests.{leb-true}
-use Rattle.common.specs.Promise.{Gives, Steps}
+use Rattle.search.specs.Promise.{Gives, Steps}
 use Rattle.common.specs.Sets.{probe, accepted}
 use Rattle.common.specs.Refusals.{Outcome, refused}
 use Rattle.common.specs.Turn.{Turn, go, stop, found, thenCollect, firstTurn, allFound, Adv, Leads, yields, stepOf, thenDrain, drain}

@@ -13,9 +13,9 @@ use lib.Dec.{ltb, leb}
 use lib.ListN.{length, getD, take, drop, length-take, drop-of-length-le, List·getD-eq-default}
 use lib.Seq.{getD-take, slice, slice-empty, length-slice, take-suc, take-nil, drop-nil, take-take, length-take-le, drop-append-le}
 use borrow.Author.Tests.{leb-true, leb-false, le-leb, lt-leb, ltb-true, ltb-false, lt-ltb, le-ltb}
-use Rattle.common.specs.Promise.{Gives}
-use Rattle.common.specs.Search.{other, holds, find, back}
-use Rattle.common.specs.SearchLaws.{decide, clash, and-true, other-yes, other-no, holds-in, holds-past, find-le, find-end, find-here, Seeks, seeks-first, seeks-again, Backs, backs-first, backs-told-again, backs-told-found, backs-end, back-le, back-past, back-run, back-stop}
+use Rattle.search.specs.Promise.{Gives}
+use Rattle.search.specs.Search.{other, holds, find, back}
+use Rattle.search.specs.SearchLaws.{decide, clash, and-true, other-yes, other-no, holds-in, holds-past, find-le, find-end, find-here, Seeks, seeks-first, seeks-again, Backs, backs-first, backs-told-again, backs-told-found, backs-end, back-le, back-past, back-run, back-stop}
 use Rattle.common.specs.Items.{leading, beyond}
 use Rattle.common.specs.ItemLaws.{leading-yes, leading-no, beyond-yes, beyond-no, leading-is}
 use Rattle.block_numbered.specs.Numbered.{digit, decimalFrom, decimal, oneToNine, few, readDigits, digitsAt}

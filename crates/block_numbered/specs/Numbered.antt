@@ -6,8 +6,8 @@ use Prim.Native.Nat.{ℕ, _+_, _-_, _*_}
 use lib.Dec.{ltb, leb}
 use lib.ListN.{length, getD, take, drop}
 use lib.Seq.{slice}
-use Rattle.common.specs.Promise.{Steps}
-use Rattle.common.specs.Search.{find, oneOf, holds, back, lineEnd, nextLine}
+use Rattle.search.specs.Promise.{Steps}
+use Rattle.search.specs.Search.{find, oneOf, holds, back, lineEnd, nextLine}
 use Rattle.common.specs.Sets.{probe}
 use Rattle.common.specs.Refusals.{Outcome, given, refused, numberOf}
 use Rattle.common.specs.Turn.{Turn, go, stop, found, firstTurn, allFound, Step, yields, ends}

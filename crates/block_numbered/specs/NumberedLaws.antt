@@ -9,9 +9,9 @@ use lib.Dec.{ltb, leb}
 use lib.ListN.{length, getD, take, drop, length-take, length-drop}
 use lib.Seq.{getD-take, slice, length-slice, length-take-le, take-all, take-take, drop-drop}
 use borrow.Author.Tests.{lt-ltb, le-ltb, ltb-true, ltb-false, leb-true, leb-false}
-use Rattle.common.specs.Promise.{Gives}
-use Rattle.common.specs.Search.{is, either, other, holds, find, Sought, back, lineStart, lineEnd, nextLine}
-use Rattle.common.specs.SearchLaws.{decide, clash, and-true, is-no, either-true, other-yes, other-no, other-false, holds-in, holds-true, find-ge, find-le, find-before, find-at, find-is, find-end, find-over, back-le, line-next}
+use Rattle.search.specs.Promise.{Gives}
+use Rattle.search.specs.Search.{is, either, other, holds, find, Sought, back, lineStart, lineEnd, nextLine}
+use Rattle.search.specs.SearchLaws.{decide, clash, and-true, is-no, either-true, other-yes, other-no, other-false, holds-in, holds-true, find-ge, find-le, find-before, find-at, find-is, find-end, find-over, back-le, line-next}
 use Rattle.common.specs.Turn.{go, stop, found, allFound, between, Ahead, Adv, Covers}
 use Rattle.common.specs.TurnLaws.{collect-covers}
 use Rattle.common.specs.Items.{ItemGrammar, grammar, blank, leading, beyond, leads, itemFrom, lineFound, itemAt, itemsOf, readTurn}

@@ -10,11 +10,11 @@ use lib.Dec.{leb}
 use lib.ListN.{length, getD, take}
 use lib.Seq.{take-all}
 use borrow.Author.Tests.{leb-true}
-use Rattle.common.specs.Promise.{Gives, Steps}
+use Rattle.search.specs.Promise.{Gives, Steps}
 use Rattle.common.specs.Sets.{probe, accepted}
 use Rattle.common.specs.Refusals.{Outcome, refused}
-use Rattle.common.specs.Turn.{Turn, go, stop, found, thenCollect, firstTurn, allFound, Adv, Leads, Each, OnFound, yields, stepOf, thenDrain, drain}
-use Rattle.common.specs.TurnLaws.{by-turn, by-last, last-fits, collect-each, collect-scan, scan-each, scan-ends, drain-answers, answers-take}
+use Rattle.common.specs.Turn.{Turn, go, stop, found, thenCollect, firstTurn, allFound, Adv, Leads, Each, yields, stepOf, thenDrain, drain}
+use Rattle.common.specs.TurnLaws.{by-turn, by-last, last-fits, collect-each, collect-scan, scan-ends, drain-answers, answers-take}
 use Rattle.common.specs.Items.{grammar, has, said, placeOf}
 use Rattle.common.specs.ItemLaws.{both, needle-set, step-long, step-past, step-served, step-seen, number-same, number-some}
 use Rattle.common.specs.declared.sets.Probe.{Probe}
@@ -93,13 +93,9 @@ next-unique g set s r r′ w w′ =
     let y : r .next ≡ r′ .next = w .next ∙ sym (w′ .next) in
     ap (λ (f : NumberedFound). record { found = f; next = r .next }) x ∙ ap (λ (n : BlockNumberedIter). record { found = r′ .found; next = n }) y
 
--- ---- an item's number is below 10^9: of all that a state has before it, and of what a step finds
+-- ---- an item's number is below 10^9: of all that a state has before it
 pub items-small : (g : BlockNumberedIter) (set : List Bool) (s : List ℕ) → g .pos ≤ length s → Each (λ i. i .number < 1000000000) (items g set s)
 items-small g set s h = collect-each (turn-adv g set s) (λ i. i .number < 1000000000) (λ q n i l w. w .2) (suc (length s)) (g .pos) h
-
-pub first-small : (g : BlockNumberedIter) (set : List Bool) (s : List ℕ) → g .pos ≤ length s → OnFound (λ i. i .number < 1000000000) (first g set s)
-unfolding first
-first-small g set s h = scan-each (turn-adv g set s) (λ i. i .number < 1000000000) (λ q n i l w. w .2) (suc (length s)) (g .pos) h
 
 -- ---- the run, of every function that keeps the promise of a step
 -- what a scan's answer is told as

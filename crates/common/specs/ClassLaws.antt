@@ -8,7 +8,7 @@ use native.Mathlib.Omega.{arith}
 use lib.Dec.{eqb}
 use lib.ListN.{length, getD}
 use borrow.Author.Tests.{eqb-true}
-use Rattle.common.specs.SearchLaws.{and-true}
+use Rattle.search.specs.SearchLaws.{and-true}
 use Rattle.common.specs.Sets.{classOf}
 
 -- whether each number of a list is the class of its place, counted from i

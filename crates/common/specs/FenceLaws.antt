@@ -8,9 +8,9 @@ use native.Mathlib.Omega.{arith}
 use lib.Dec.{ltb, leb}
 use lib.ListN.{length, getD}
 use borrow.Author.Tests.{lt-ltb, le-ltb, ltb-true, ltb-false, le-leb, lt-leb}
-use Rattle.common.specs.Promise.{Gives}
-use Rattle.common.specs.Search.{is, either, other, holds, firstPlace, find, Sought, lineStart, lineEnd, nextLine}
-use Rattle.common.specs.SearchLaws.{decide, is-yes, is-no, is-true, is-false, either-true, either-false, other-yes, other-false, holds-in, holds-past, holds-true, first-none, first-end, first-over, first-here, find-ge, find-end, find-before, find-at, find-is, find-over, find-hit, line-one}
+use Rattle.search.specs.Promise.{Gives}
+use Rattle.search.specs.Search.{is, either, other, holds, firstPlace, find, Sought, lineStart, lineEnd, nextLine}
+use Rattle.search.specs.SearchLaws.{decide, is-yes, is-no, is-true, is-false, either-true, either-false, other-yes, other-false, holds-in, holds-past, holds-true, first-none, first-end, first-over, first-here, find-ge, find-end, find-before, find-at, find-is, find-over, find-hit, line-one}
 use Rattle.common.specs.Fences.{runCount, opensTo, openingOf, opensLine, opening, pickOpening, closesTo, closing, closeScan}
 use Rattle.common.specs.Steps.{CloseTurned}
 use Rattle.common.specs.declared.grammar.Grammar.{Grammar}

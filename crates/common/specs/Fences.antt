@@ -5,7 +5,7 @@ use mathlib.Core.List.{List}
 use Prim.Native.Nat.{ℕ, _-_, min}
 use lib.Dec.{ltb, leb}
 use lib.ListN.{length, getD}
-use Rattle.common.specs.Search.{find, is, either, other, holds, lineStart, lineEnd, firstPlace}
+use Rattle.search.specs.Search.{find, is, either, other, holds, lineStart, lineEnd, firstPlace}
 use Rattle.common.specs.declared.grammar.Grammar.{Grammar}
 use Rattle.common.specs.declared.fence_tests.Opening.{Opening}
 use Rattle.common.specs.declared.fence_tests.Opening.the-variants.{Opens, Not}

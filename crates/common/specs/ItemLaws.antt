@@ -10,9 +10,9 @@ use lib.Dec.{eqb, ltb}
 use lib.ListN.{length, getD, take, drop, length-drop, length-take, drop-of-length-le, List·getD-eq-default}
 use lib.Seq.{drop-cons, getD-take, slice, slice-empty, slice-cons, length-slice}
 use borrow.Author.Tests.{eqb-true, eq-eqb, lt-ltb, le-ltb, ltb-true, ltb-false}
-use Rattle.common.specs.Promise.{Gives, Steps}
-use Rattle.common.specs.Search.{is, either, oneOf, other, holds, find, Sought, back, lineStart, lineEnd, nextLine}
-use Rattle.common.specs.SearchLaws.{decide, clash, and-true, is-true, either-true, other-yes, other-no, holds-in, holds-true, find-ge, find-le, find-end, find-here, find-next, back-le, back-run, back-stop, start-zero, line-one, line-next}
+use Rattle.search.specs.Promise.{Gives, Steps}
+use Rattle.search.specs.Search.{is, either, oneOf, other, holds, find, Sought, back, lineStart, lineEnd, nextLine}
+use Rattle.search.specs.SearchLaws.{decide, clash, and-true, is-true, either-true, other-yes, other-no, holds-in, holds-true, find-ge, find-le, find-end, find-here, find-next, back-le, back-run, back-stop, start-zero, line-one, line-next}
 use Rattle.common.specs.Sets.{acceptedFrom, accepted, probeOf, probe}
 use Rattle.common.specs.Refusals.{Outcome, given, refused, numberOf}
 use Rattle.common.specs.RefusalLaws.{answer-unique, found-unique}

@@ -6,7 +6,7 @@ use Prim.Native.Nat.{ℕ, _+_, _-_}
 use lib.Dec.{ltb}
 use lib.ListN.{length}
 use lib.Seq.{slice}
-use Rattle.common.specs.Search.{either, back, lineStart, lineEnd, nextLine}
+use Rattle.search.specs.Search.{either, back, lineStart, lineEnd, nextLine}
 use Rattle.common.specs.Rules.{entry}
 use Rattle.common.specs.Refusals.{Outcome, given, refuse, tooLong, past}
 use Rattle.common.specs.Turn.{Turn, go, stop, found, between}

@@ -3,7 +3,7 @@
 use mathlib.Core.Bool.{Bool, false}
 use mathlib.Core.List.{List, [], _∷_}
 use Prim.Native.Nat.{ℕ}
-use Rattle.common.specs.Search.{is, back, lineEnd}
+use Rattle.search.specs.Search.{is, back, lineEnd}
 use Rattle.common.specs.Refusals.{Outcome, given, refuse, tooLong, past, differ}
 use Rattle.common.specs.Rules.{onByte, hasRule, leastOf}
 use Rattle.common.specs.Fences.{opensLine}

@@ -8,8 +8,8 @@ use native.Mathlib.Omega.{arith}
 use lib.Dec.{leb}
 use lib.ListN.{length, take, drop}
 use borrow.Author.Tests.{le-leb, lt-leb, leb-true}
-use Rattle.common.specs.Promise.{Gives}
-use Rattle.common.specs.SearchLaws.{decide}
+use Rattle.search.specs.Promise.{Gives}
+use Rattle.search.specs.SearchLaws.{decide}
 use Rattle.common.specs.Refusals.{given}
 use Rattle.common.specs.Rules.{tabulate, entry, onByte, hasRule, leastOf, tablesOf}
 use Rattle.common.specs.TableLaws.{table-entry}

@@ -1,5 +1,3 @@
-pub mod Promise
-pub mod Search
 pub mod Refusals
 pub mod Grammars
 pub mod Content
@@ -9,7 +7,6 @@ pub mod Fences
 pub mod Paragraph
 pub mod Leaf
 pub mod Steps
-pub mod SearchLaws
 pub mod RefusalLaws
 pub mod FenceLaws
 pub mod ParagraphLaws

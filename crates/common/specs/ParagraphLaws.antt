@@ -8,9 +8,9 @@ use native.Mathlib.Omega.{arith}
 use lib.Dec.{eqb, ltb}
 use lib.ListN.{length, getD}
 use borrow.Author.Tests.{eq-eqb, ne-eqb, lt-ltb, le-ltb, ltb-true, ltb-false, le-leb, lt-leb}
-use Rattle.common.specs.Promise.{Gives}
-use Rattle.common.specs.Search.{is, either, holds, firstPlace, find, Sought}
-use Rattle.common.specs.SearchLaws.{decide, is-yes, is-no, either-true, either-false, holds-in, holds-past, first-none, first-end, first-over, first-is, first-ge, find-ge, find-end, find-before, find-at, find-is, find-over}
+use Rattle.search.specs.Promise.{Gives}
+use Rattle.search.specs.Search.{is, either, holds, firstPlace, find, Sought}
+use Rattle.search.specs.SearchLaws.{decide, is-yes, is-no, either-true, either-false, holds-in, holds-past, first-none, first-end, first-over, first-is, first-ge, find-ge, find-end, find-before, find-at, find-is, find-over}
 use Rattle.common.specs.Paragraph.{endsAt, paragraphEnd, nextIn}
 use Rattle.common.specs.Steps.{NextTurned}
 use Rattle.common.specs.declared.fence_tests.Hit.the-variants as hit

@@ -6,7 +6,7 @@ use Prim.Native.Nat.{ℕ}
 use lib.Dec.{eqb}
 use lib.ListN.{getD}
 use borrow.Author.Tests.{lt-ltb, le-ltb, eq-eqb, ne-eqb}
-use Rattle.common.specs.Promise.{Gives, gives-unique}
+use Rattle.search.specs.Promise.{Gives, gives-unique}
 use Rattle.common.specs.Refusals.{Outcome, given, refused, refuse, numberOf, told, toldFound, toldSpan}
 use Rattle.common.specs.declared.refusal.Refusal.{Refusal}
 use Rattle.common.specs.declared.refusal.Refusal.the-variants.{TextTooLong, PlaceOutside, NoRoom, CutsOutOfOrder, ListMisshapen, ColumnsDiffer, NotAtJoint, ReplacementOpen, LineEndMark}
@@ -105,6 +105,3 @@ found-unique {o} {r} {r′} g g′ = sym (found-back r) ∙ ap (read foundAt fou
 
 pub span-unique : {o : Outcome} {r r′ : SpanFound} → Gives o (toldSpan r) → Gives o (toldSpan r′) → r ≡ r′
 span-unique {o} {r} {r′} g g′ = sym (span-back r) ∙ ap (read spanAt spanned.Refused) (gives-unique g g′) ∙ span-back r′
-
-pub given-two : (a b c d : ℕ) → a ≡ c → b ≡ d → given (a ∷ b ∷ []) ≡ given (c ∷ d ∷ [])
-given-two a b c d e f = rw (e, f)

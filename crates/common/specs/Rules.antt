@@ -4,7 +4,7 @@ use mathlib.Core.List.{List, [], _∷_}
 use Prim.Native.Nat.{ℕ, zero, suc}
 use lib.Dec.{ltb}
 use lib.ListN.{length, getD}
-use Rattle.common.specs.Search.{find, is}
+use Rattle.search.specs.Search.{find, is}
 use Rattle.common.specs.declared.fence_tests.FenceTables.{FenceTables}
 
 -- the values of a function at n numbers from a on

@@ -5,7 +5,7 @@ use mathlib.Core.List.{List, [], _∷_}
 use Prim.Native.Nat.{ℕ, zero, suc, _<_}
 use lib.Dec.{eqb, leb}
 use lib.ListN.{length, getD}
-use Rattle.common.specs.Search.{oneOf}
+use Rattle.search.specs.Search.{oneOf}
 use Rattle.common.specs.Rules.{tabulate}
 use Rattle.common.specs.declared.sets.Probe.{Probe}
 

@@ -4,7 +4,7 @@ use mathlib.Core.Bool.{Bool}
 use mathlib.Core.List.{List}
 use Prim.Native.Nat.{ℕ, _≤_, _<_}
 use lib.ListN.{length}
-use Rattle.common.specs.Search.{firstPlace, lineEnd}
+use Rattle.search.specs.Search.{firstPlace, lineEnd}
 use Rattle.common.specs.Paragraph.{nextIn}
 use Rattle.common.specs.declared.fence_tests.CloseTurn.{CloseTurn}
 use Rattle.common.specs.declared.fence_tests.CloseTurn.the-variants as closed

@@ -11,9 +11,9 @@ use lib.Dec.{eqb, ltb}
 use lib.ListN.{length, getD, set, take, replicate, length-set, length-replicate, getD-replicate, length-append}
 use lib.Seq.{ext-getD, getD-set-same, getD-set-other, take-suc, take-all}
 use borrow.Author.Tests.{eq-eqb, ne-eqb, eqb-true, eqb-false, lt-ltb, le-ltb, ltb-true, ltb-false, le-leb, lt-leb}
-use Rattle.common.specs.Promise.{Gives}
-use Rattle.common.specs.Search.{is, oneOf, find}
-use Rattle.common.specs.SearchLaws.{decide, is-yes, is-no, find-here, find-next, find-end}
+use Rattle.search.specs.Promise.{Gives}
+use Rattle.search.specs.Search.{is, oneOf, find}
+use Rattle.search.specs.SearchLaws.{decide, is-yes, is-no, find-here, find-next, find-end}
 use Rattle.common.specs.Rules.{tabulate, hasRule, leastOf, entry, onByte, tablesOf}
 use Rattle.common.specs.Sets.{Index, setOf, classOf, classSet, acceptedFrom, accepted, padded, probe}
 

@@ -124,24 +124,6 @@ module _ {A : Type 0} where
   OnFound P (stop v) = Unit {0}
   OnFound P (found a n) = P a
 
-  -- the place where a turn's answer ends
-  abbrev pub turnEnd : (A → ℕ) → Turn A → ℕ
-  turnEnd endOf (go n) = n
-  turnEnd endOf (stop v) = v
-  turnEnd endOf (found a n) = endOf a
-
-  -- a turn at q that `step′` takes too, if its answer ends before len
-  abbrev pub Keeps : (A → ℕ) → (ℕ → Turn A) → ℕ → ℕ → Turn A → Type 0
-  Keeps endOf step′ len q (go n) = step′ q ≡ go n
-  Keeps endOf step′ len q (stop v) = v < len → step′ q ≡ stop v
-  Keeps endOf step′ len q (found a n) = endOf a < len → step′ q ≡ found a n
-
-  -- a turn at q that `step′` takes too, if what it finds ends before len; at an end, `step′` finds from q on what it finds from len on
-  abbrev pub Joins : (A → ℕ) → (ℕ → Turn A) → ℕ → ℕ → ℕ → Turn A → Type 0
-  Joins endOf step′ len′ len q (go n) = step′ q ≡ go n
-  Joins endOf step′ len′ len q (stop v) = allFound step′ len′ q ≡ allFound step′ len′ len
-  Joins endOf step′ len′ len q (found a n) = endOf a < len → step′ q ≡ found a n
-
   -- a turn at q that answers for the places from q up to the one that it goes on from, where Inv holds again
   abbrev pub Covers : (ℕ → List A) → (ℕ → Type 0) → ℕ → ℕ → Turn A → Type 0
   Covers at Inv len q (go n) = (q < n) × (n ≤ len) × Inv n × None at q n
@@ -162,12 +144,6 @@ module _ {A : Type 0} where
   Has P (stop v) = ⊥
   Has P (found a n) = P a n
 
-  -- a turn that stops
-  abbrev pub Stops : Turn A → Type 0
-  Stops (go n) = ⊥
-  Stops (stop v) = Unit {0}
-  Stops (found a n) = ⊥
-
   -- a turn that does not only go on
   abbrev pub Rests : Turn A → Type 0
   Rests t = Leads (λ n. ⊥) (λ t. Unit {0}) t
@@ -178,10 +154,3 @@ module _ {A : Type 0} (Lies : ℕ → ℕ → A → Type 0) (step : ℕ → Turn
     pub adv : Adv Lies step len
     pub inside : q ≤ len
     pub same : firstTurn step len from ≡ firstTurn step len q
-
-  -- a loop at q that has counted n of the things found from `from` on
-  pub record Counting (q n : ℕ) : Type 0 where
-    pub adv : Adv Lies step len
-    pub inside : q ≤ len
-    pub few : from + n ≤ q
-    pub left : n + length (allFound step len q) ≡ length (allFound step len from)

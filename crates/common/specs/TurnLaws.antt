@@ -1,4 +1,4 @@
--- The laws of scans in turns, of runs of steps and of what the places of a stretch have, and the rules of the loops that look and count. Assumes nothing.
+-- The laws of scans in turns, of runs of steps and of what the places of a stretch have, and the rules of the loops that look. Assumes nothing.
 use mathlib.Core.Path.{_≡_, refl, sym, ap, subst, _∙_}
 use mathlib.Core.List.{List, [], _∷_, _++_, map, append-assoc, append-nil}
 use Prim.Native.Nat.{ℕ, zero, suc, _+_, _-_, _≤_, _<_}
@@ -9,7 +9,7 @@ use mir.Syntax.{w32}
 use lib.ListN.{length, take}
 use lib.Seq.{take-all}
 use Rattle.common.specs.Turn.{Turn, go, stop, found, thenScan, scan, thenCollect, collect, firstTurn, allFound, answers, moveT, Step, thenDrain, drain, stepOf, gather, between, None}
-use Rattle.common.specs.Turn.{Ahead, Last, Adv, Leads, Each, OnFound, turnEnd, Keeps, Joins, Covers, Told, Has, Stops, Rests, Stands, Counting}
+use Rattle.common.specs.Turn.{Ahead, Last, Adv, Leads, Each, OnFound, Covers, Told, Has, Rests, Stands}
 
 -- ---- a step that moves on within its text
 module _ {A : Type 0} {Lies : ℕ → ℕ → A → Type 0} {step : ℕ → Turn A} {len : ℕ} (adv : Adv Lies step len) where
@@ -160,35 +160,6 @@ module _ {A B : Type 0} {Lies : ℕ → ℕ → A → Type 0} {step : ℕ → Tu
   pub allFound-move : (len′ q : ℕ) → len ≤ len′ → q ≤ len → allFound step′ len′ (k + q) ≡ map f (allFound step len q)
   allFound-move len′ q l h = collect-move (suc len′) q h ∙ ap (map f) (collect-fuel adv (suc len′) (suc len) q h (omega arith) (omega arith))
 
--- ---- a text of length len with another behind it: `step` is over the first, `step′` over both
-module _ {A : Type 0} {Lies : ℕ → ℕ → A → Type 0} {step : ℕ → Turn A} {len : ℕ} (adv : Adv Lies step len) (endOf : A → ℕ) (step′ : ℕ → Turn A) (keeps : (q : ℕ) → q ≤ len → Keeps endOf step′ len q (step q)) where
-  -- an answer that ends before the first text's end is the answer over both
-  pub scan-prefix : (f q : ℕ) → q ≤ len → turnEnd endOf (scan step f q) < len → scan step′ f q ≡ scan step f q
-  unfolding scan
-  scan-prefix zero q h = λ l. refl
-  scan-prefix (suc f) q h =
-      by-turn adv (λ t. Keeps endOf step′ len q t → turnEnd endOf (thenScan (scan step f) t) < len → thenScan (scan step′ f) (step′ q) ≡ thenScan (scan step f) t) q h
-      (λ n m i k l. ap (thenScan (scan step′ f)) k ∙ scan-prefix f n i l) (λ v m i k l. ap (thenScan (scan step′ f)) (k l)) (λ a n m i w k l. ap (thenScan (scan step′ f)) (k l)) (keeps q h)
-
-  pub firstTurn-prefix : (len′ q : ℕ) → len ≤ len′ → q ≤ len → turnEnd endOf (firstTurn step len q) < len → firstTurn step′ len′ q ≡ firstTurn step len q
-  firstTurn-prefix len′ q m h l =
-      let e : scan step (suc len′) q ≡ firstTurn step len q = scan-fuel adv (suc len′) (suc len) q h (omega arith) (omega arith) in
-      scan-prefix (suc len′) q h (rw e l) ∙ e
-
-module _ {A : Type 0} {Lies Lies′ : ℕ → ℕ → A → Type 0} {step step′ : ℕ → Turn A} {len len′ : ℕ} (adv : Adv Lies step len) (adv′ : Adv Lies′ step′ len′) (endOf : A → ℕ) (fits : len ≤ len′)
-    (joins : (q : ℕ) → q ≤ len → Joins endOf step′ len′ len q (step q)) where
-  -- where all that is found in the first text ends before its end, over both that is found, and then what is found from that end on
-  pub collect-join : (f q : ℕ) → q ≤ len → len - q < f → Each (λ a. endOf a < len) (collect step f q) → allFound step′ len′ q ≡ collect step f q ++ allFound step′ len′ len
-  unfolding collect
-  collect-join zero q h l = absurd (not-suc-le-zero l)
-  collect-join (suc f) q h l =
-      by-turn adv (λ t. Joins endOf step′ len′ len q t → Each (λ a. endOf a < len) (thenCollect (collect step f) t) → allFound step′ len′ q ≡ thenCollect (collect step f) t ++ allFound step′ len′ len) q h
-      (λ n m i j e. collect-go adv′ (omega arith) j ∙ collect-join f n i (omega arith) e) (λ v m i j e. j)
-      (λ a n m i w j e. collect-found adv′ (omega arith) (j (e .0)) ∙ ap (λ (l : List A). a ∷ l) (collect-join f n i (omega arith) (e .1))) (joins q h)
-
-  pub allFound-join : (q : ℕ) → q ≤ len → Each (λ a. endOf a < len) (allFound step len q) → allFound step′ len′ q ≡ allFound step len q ++ allFound step′ len′ len
-  allFound-join q h = collect-join (suc len) q h (omega arith)
-
 -- ---- what the places of a stretch have
 module _ {A : Type 0} (at : ℕ → List A) where
   pub gather-none : (n a : ℕ) → None at a (a + n) → gather at n a ≡ []
@@ -295,31 +266,14 @@ module _ {A : Type 0} {Lies : ℕ → ℕ → A → Type 0} {step : ℕ → Turn
 
 -- a turn that is known by a part of it
 module _ {A : Type 0} where
-  pub stops-is : (t : Turn A) → Stops t → (v : ℕ) × (t ≡ stop v)
-  stops-is (go n) s = absurd s
-  stops-is (stop v) s = (v, refl)
-  stops-is (found a n) s = absurd s
-
   pub has-is : (P : A → ℕ → Type 0) (t : Turn A) → Has P t → (a : A) × (n : ℕ) × (t ≡ found a n) × P a n
   has-is P (go n) s = absurd s
   has-is P (stop v) s = absurd s
   has-is P (found a n) s = (a, n, refl, s)
 
-  pub finds-is : (m : ℕ) (t : Turn A) → Has (λ a n. n ≡ m) t → (a : A) × (t ≡ found a m)
-  finds-is m t s =
-      let x = has-is (λ a n. n ≡ m) t s in
-      (x .0, x .2 ∙ ap (found (x .0)) (x .3))
-
 module _ {A : Type 0} {Lies : ℕ → ℕ → A → Type 0} {step : ℕ → Turn A} {len q : ℕ} where
   pub stands-first : q ≤ len → Adv Lies step len → Stands Lies step len q q
   stands-first h adv = record { adv = adv; inside = h; same = refl }
-
-  pub counting-first : q ≤ len → Adv Lies step len → Counting Lies step len q q 0
-  counting-first h adv = record { adv = adv; inside = h; few = omega arith; left = omega arith }
-
--- what is made of a turn t that the code has as d
-pub seen-as : {A B D : Type 0} (view : D → Turn A) (f : Turn A → B) {t : Turn A} {d e : D} {b : B} → view d ≡ t → d ≡ e → b ≡ f (view e) → b ≡ f t
-seen-as view f p r c = c ∙ ap f (sym (ap view r) ∙ p)
 
 -- a loop that looks for the first turn that does not only go on
 module _ {A D : Type 0} (view : D → Turn A) {Lies : ℕ → ℕ → A → Type 0} {step : ℕ → Turn A} {len from q : ℕ} {d e : D} (i : Stands Lies step len from q) (p : view d ≡ step q) (r : d ≡ e) where
@@ -347,29 +301,6 @@ stands-as view f {step = step} {len = len} {q = q} {e = e} i p r c m =
     rests (go n) s = absurd s
     rests (stop v) s = refl
     rests (found a n) s = refl
-
--- a loop that counts what is found
-module _ {A D : Type 0} (view : D → Turn A) {Lies : ℕ → ℕ → A → Type 0} {step : ℕ → Turn A} {len from q n : ℕ} {d e : D} (i : Counting Lies step len from q n) (p : view d ≡ step q) (r : d ≡ e) where
-  pub counting-go : {m : ℕ} → view e ≡ go m → Counting Lies step len from m n
-  counting-go c =
-      let s = sym p ∙ ap view r ∙ c in
-      let w = turn-ahead (i .adv) (i .inside) s in
-      record { adv = i .adv; inside = w .1; few = omega arith; left = rw (← (collect-go (i .adv) (i .inside) s)) (i .left) }
-
-  pub counting-go-less : {m : ℕ} → view e ≡ go m → len - m < len - q
-  counting-go-less c = omega (arith, turn-ahead (i .adv) (i .inside) (sym p ∙ ap view r ∙ c))
-
-  pub counting-found : {m : ℕ} → Has (λ a n. n ≡ m) (view e) → Counting Lies step len from m (n + 1)
-  counting-found {m} c =
-      let s = sym p ∙ ap view r ∙ finds-is m (view e) c .1 in
-      let w = turn-ahead (i .adv) (i .inside) s in
-      record { adv = i .adv; inside = w .1; few = omega arith; left = omega (arith, ap length (collect-found (i .adv) (i .inside) s)) }
-
-  pub counting-found-less : (m : ℕ) → Has (λ a n. n ≡ m) (view e) → len - m < len - q
-  counting-found-less m c = omega (arith, turn-ahead (i .adv) (i .inside) (sym p ∙ ap view r ∙ finds-is m (view e) c .1))
-
-  pub counting-stop : Stops (view e) → n ≡ length (allFound step len from)
-  counting-stop c = omega (arith, ap length (collect-stop (i .adv) (i .inside) (sym p ∙ ap view r ∙ stops-is (view e) c .1)))
 
 -- what the code makes of a scan's answer: a value of what is found that lies within the text fits 32 bits
 pub last-fits : {A D : Type 0} (Lies : ℕ → ℕ → A → Type 0) (view : D → Turn A) (value : A → ℕ) {step : ℕ → Turn A} {len q x : ℕ} {d e : D}

@@ -1,20 +1,20 @@
 // What a line says of fences, after context.rs: whether it opens one, whether it closes one, and the search for the close. The
 // rules come as two tables over the byte: whether a rule has it, and the minimum of the first that has.
 use crate::grammar::Grammar;
-use crate::search::blank_end;
-use crate::search::byte_at;
-use crate::search::find_byte;
-use crate::search::find_either;
-use crate::search::is_at;
-use crate::search::lesser;
-use crate::search::line_start;
-use crate::search::next_line;
-use crate::search::run_end;
 use crate::sets::accepts;
 use crate::sets::index;
 use crate::sets::number_of;
+use search::blank_end;
+use search::byte_at;
+use search::find_byte;
+use search::find_either;
+use search::is_at;
+use search::lesser;
+use search::line_start;
+use search::next_line;
+use search::run_end;
 ghost use mathlib.Core.Bool.{false};
-ghost use Rattle.common.specs.Promise.{Gives};
+ghost use Rattle.search.specs.Promise.{Gives};
 ghost use Rattle.common.specs.Rules.{entry, tablesOf};
 ghost use Rattle.common.specs.Fences.{runCount, openingOf, opening, opensLine, closesTo, closing, closeScan};
 ghost use Rattle.common.specs.Paragraph.{nextIn};

@@ -1,5 +1,5 @@
 // The grammar bytes. They are free: any may equal any other.
-ghost use Rattle.common.specs.Promise.{Gives};
+ghost use Rattle.search.specs.Promise.{Gives};
 ghost use Rattle.common.specs.Grammars.{house};
 
 pub struct Grammar {

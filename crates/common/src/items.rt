@@ -1,9 +1,9 @@
 // What both item scanners ask of a line.
-use crate::search::blank_before;
-use crate::search::is_blank;
-use crate::search::line_start;
-ghost use Rattle.common.specs.Promise.{Gives};
-ghost use Rattle.common.specs.Search.{either, holds};
+use search::blank_before;
+use search::is_blank;
+use search::line_start;
+ghost use Rattle.search.specs.Promise.{Gives};
+ghost use Rattle.search.specs.Search.{either, holds};
 ghost use Rattle.common.specs.Items.{leads};
 
 // Whether a separator or a tab stands at place `k`.

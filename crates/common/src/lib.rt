@@ -6,14 +6,13 @@ pub mod fence_tests; // what a line says of fences, and the search for a close
 pub mod grammar; // the grammar bytes, and the house's
 pub mod items; // what both item scanners ask of a line
 pub mod refusal; // refusals and answers
-pub mod search; // the searches that all else stands on: they refuse nothing
 pub mod sets; // byte sets, the house classes, the probe
 pub mod span; // spans, and the stretch of text that one names
 
 use crate::refusal::Answer;
 use crate::refusal::Found;
 use crate::refusal::Refusal;
-ghost use Rattle.common.specs.Promise.{Gives};
+ghost use Rattle.search.specs.Promise.{Gives};
 ghost use Rattle.common.specs.Refusals.{told, toldFound};
 ghost use Rattle.common.specs.Leaf.{findLineEnd, countEscape, nextInParagraph};
 

@@ -1,5 +1,5 @@
 // Refusals, and the answers that may be one.
-ghost use Rattle.common.specs.Promise.{Gives};
+ghost use Rattle.search.specs.Promise.{Gives};
 ghost use Rattle.common.specs.Refusals.{numberOf};
 
 // Why an input is not served, each by the page's number.

@@ -1,7 +1,7 @@
 // Byte sets: predicates on bytes as tables of 256 entries.
 use crate::classes::CLASSES;
 ghost use mathlib.Core.Bool.{false};
-ghost use Rattle.common.specs.Promise.{Gives};
+ghost use Rattle.search.specs.Promise.{Gives};
 ghost use Rattle.common.specs.Rules.{entry};
 ghost use Rattle.common.specs.Sets.{Index, setOf, classOf, classSet, probe};
 

@@ -1,7 +1,7 @@
 // Spans, and the stretch of text that one names.
 use crate::refusal::Refusal;
-use crate::search::lesser;
-ghost use Rattle.common.specs.Promise.{Gives};
+use search::lesser;
+ghost use Rattle.search.specs.Promise.{Gives};
 ghost use Rattle.common.specs.Content.{stretch, Stretch};
 
 // The most bytes a text may have: spans are 32-bit numbers.

@@ -4,7 +4,7 @@ use mathlib.Core.List.{List, [], _∷_}
 use Prim.Native.Nat.{ℕ, zero, suc, _+_, _-_, min}
 use lib.Dec.{ltb}
 use lib.ListN.{length, getD, drop, replicate}
-use Rattle.common.specs.Search.{find, is, holds, lineStart, lineEnd, nextLine}
+use Rattle.search.specs.Search.{find, is, holds, lineStart, lineEnd, nextLine}
 use Rattle.common.specs.Refusals.{Outcome, given, refuse, tooLong}
 use Rattle.common.specs.Entry.{putAt}
 use Rattle.common.specs.Turn.{Step, yields, ends}

@@ -8,8 +8,8 @@ use native.Mathlib.Omega.{arith}
 use lib.Dec.{ltb}
 use lib.ListN.{length}
 use borrow.Author.Tests.{ltb-true, ltb-false}
-use Rattle.common.specs.Search.{lineStart}
-use Rattle.common.specs.SearchLaws.{decide, clash}
+use Rattle.search.specs.Search.{lineStart}
+use Rattle.search.specs.SearchLaws.{decide, clash}
 use Rattle.common.specs.TurnLaws.{between-none}
 use Rattle.cont.specs.declared.Marks.{Marks}
 use Rattle.cont.specs.Frames.{depth, marker, orElse, begun, ending, frames}

@@ -4,7 +4,7 @@ use mathlib.Core.List.{List, [], _∷_, _++_, map}
 use Prim.Native.Nat.{ℕ, zero, suc, _+_, _-_}
 use lib.Dec.{ltb, leb}
 use lib.ListN.{length, getD}
-use Rattle.common.specs.Search.{is, either, holds, lineStart, lineEnd}
+use Rattle.search.specs.Search.{is, either, holds, lineStart, lineEnd}
 use Rattle.common.specs.Turn.{between}
 use Rattle.common.specs.declared.span.Span.{Span}
 use Rattle.cont.specs.declared.Marks.{Marks}

@@ -12,9 +12,9 @@ use lib.Dec.{ltb}
 use lib.ListN.{length, getD, take, drop, set, length-append}
 use lib.Seq.{drop-at}
 use borrow.Author.Tests.{lt-ltb, le-ltb, ltb-true}
-use Rattle.common.specs.Promise.{Gives}
-use Rattle.common.specs.Search.{is, either, holds, lineEnd}
-use Rattle.common.specs.SearchLaws.{decide, and-true, holds-in}
+use Rattle.search.specs.Promise.{Gives}
+use Rattle.search.specs.Search.{is, either, holds, lineEnd}
+use Rattle.search.specs.SearchLaws.{decide, and-true, holds-in}
 use Rattle.cont.specs.declared.Marks.{Marks}
 use Rattle.cont.specs.Frames.{markAt, afterMark, marksFrom, marks}
 use Rattle.common.specs.Entry.{putAt}

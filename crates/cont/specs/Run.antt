@@ -11,8 +11,8 @@ use lib.Dec.{ltb}
 use lib.ListN.{length, getD, take, drop, length-append, length-take, length-drop, length-replicate, drop-of-length-le}
 use lib.Seq.{take-all, drop-nil, take-take, drop-cons, getD-take, length-take-le}
 use borrow.Author.Tests.{ltb-true, ltb-false, lt-ltb, le-ltb}
-use Rattle.common.specs.Search.{is, holds, find, lineStart, lineEnd}
-use Rattle.common.specs.SearchLaws.{decide, find-ge, find-le, find-before, find-at, clash, holds-in, line-one, line-next}
+use Rattle.search.specs.Search.{is, holds, find, lineStart, lineEnd}
+use Rattle.search.specs.SearchLaws.{decide, find-ge, find-le, find-before, find-at, clash, holds-in, line-one, line-next}
 use Rattle.common.specs.Turn.{None, Step, yields, ends, thenDrain, drain}
 use Rattle.common.specs.declared.span.Span.{Span}
 use Rattle.cont.specs.declared.Marks.{Marks}

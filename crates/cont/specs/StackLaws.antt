@@ -9,8 +9,8 @@ use lib.Dec.{ltb}
 use lib.ListN.{length, getD, take, drop, length-append, length-take, length-drop, drop-of-length-le, List·getD-append}
 use lib.Seq.{take-all, drop-cons, getD-append-add, getD-take, getD-drop}
 use borrow.Author.Tests.{ltb-true, ltb-false, lt-ltb, lt-leb, le-leb}
-use Rattle.common.specs.Search.{is, holds, lineStart, lineEnd}
-use Rattle.common.specs.SearchLaws.{decide}
+use Rattle.search.specs.Search.{is, holds, lineStart, lineEnd}
+use Rattle.search.specs.SearchLaws.{decide}
 use Rattle.common.specs.Turn.{gather, between, None}
 use Rattle.common.specs.TurnLaws.{gather-split, between-none, between-skip, between-at}
 use Rattle.common.specs.declared.span.Span.{Span}

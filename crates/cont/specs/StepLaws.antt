@@ -6,10 +6,10 @@ use Prim.Native.Nat.{ℕ, _-_, _≤_, _<_, min}
 use lib.Dec.{ltb}
 use lib.ListN.{length, replicate}
 use borrow.Author.Tests.{lt-ltb, le-ltb, ltb-false}
-use Rattle.common.specs.Promise.{Gives, Steps, steps-unique}
+use Rattle.search.specs.Promise.{Gives, Steps, steps-unique}
 use Rattle.common.specs.Refusals.{Outcome, toldSpan}
 use Rattle.common.specs.RefusalLaws.{span-unique}
-use Rattle.common.specs.SearchLaws.{clash}
+use Rattle.search.specs.SearchLaws.{clash}
 use Rattle.common.specs.Turn.{Step, yields, ends}
 use Rattle.common.specs.declared.span.Span.{Span}
 use Rattle.common.specs.declared.span.SpanFound.{SpanFound}

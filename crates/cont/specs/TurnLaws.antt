@@ -9,9 +9,9 @@ use native.Mathlib.Omega.{arith}
 use lib.Dec.{ltb}
 use lib.ListN.{length, getD, drop, set, drop-of-length-le}
 use borrow.Author.Tests.{lt-ltb, le-ltb, ltb-true, ltb-false}
-use Rattle.common.specs.Promise.{Gives}
-use Rattle.common.specs.Search.{is, holds, find, Sought, lineStart, nextLine}
-use Rattle.common.specs.SearchLaws.{decide, find-ge, find-here, sought, holds-true}
+use Rattle.search.specs.Promise.{Gives}
+use Rattle.search.specs.Search.{is, holds, find, Sought, lineStart, nextLine}
+use Rattle.search.specs.SearchLaws.{decide, find-ge, find-here, sought, holds-true}
 use Rattle.common.specs.declared.span.Span.{Span}
 use Rattle.cont.specs.declared.Marks.{Marks}
 use Rattle.cont.specs.declared.Peeled.{Peeled}

@@ -7,19 +7,19 @@
 // The scan is streaming: with no frame open one search finds the next marker byte, and lines without one are never walked. Inside,
 // the open frames are a lent array and the rest are numbers; the state as a whole is handed over at the step alone.
 use common::refusal::Refusal;
-use common::search::find_byte;
-use common::search::is_at;
-use common::search::is_blank;
-use common::search::lesser;
-use common::search::line_start;
-use common::search::next_line;
 use common::span::MAX_INPUT_LEN;
 use common::span::Span;
 use common::span::SpanFound;
+use search::find_byte;
+use search::is_at;
+use search::is_blank;
+use search::lesser;
+use search::line_start;
+use search::next_line;
 ghost use Prim.Native.Nat.{_≤_, _<_, _-_};
 ghost use lib.ListN.{length};
-ghost use Rattle.common.specs.Promise.{Gives, Steps};
-ghost use Rattle.common.specs.Search.{Sought, is};
+ghost use Rattle.search.specs.Promise.{Gives, Steps};
+ghost use Rattle.search.specs.Search.{Sought, is};
 ghost use Rattle.common.specs.Refusals.{toldSpan};
 ghost use Rattle.cont.specs.Frames.{markAt, afterMark, marksFrom};
 ghost use Rattle.common.specs.Entry.{putAt};

@@ -4,7 +4,7 @@ use mathlib.Core.List.{List, [], _∷_}
 use Prim.Native.Nat.{ℕ, _+_, _*_, _≤_, _<_}
 use lib.Dec.{ltb, leb}
 use lib.ListN.{getD}
-use Rattle.common.specs.Search.{firstPlace}
+use Rattle.search.specs.Search.{firstPlace}
 use Rattle.common.specs.Entry.{room, startOf, stopOf}
 use Rattle.common.specs.Refusals.{Outcome, given, refuse}
 

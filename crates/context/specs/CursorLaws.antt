@@ -9,8 +9,8 @@ use lib.Dec.{ltb, leb}
 use lib.ListN.{length, getD, drop, drop-of-length-le, length-append}
 use lib.Seq.{drop-cons}
 use borrow.Author.Tests.{lt-ltb, le-ltb, ltb-true, ltb-false, le-leb, lt-leb, leb-false}
-use Rattle.common.specs.Promise.{Gives, Steps}
-use Rattle.common.specs.SearchLaws.{decide, first-le, first-here, first-next, first-end, first-before, first-at}
+use Rattle.search.specs.Promise.{Gives, Steps}
+use Rattle.search.specs.SearchLaws.{decide, first-le, first-here, first-next, first-end, first-before, first-at}
 use Rattle.common.specs.Refusals.{Outcome, given, refused, toldFound, tooLong}
 use Rattle.common.specs.RefusalLaws.{found-unique}
 use Rattle.common.specs.Entry.{flatten, rows, room, over, startOf, stopOf, Shaped}

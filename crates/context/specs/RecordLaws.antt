@@ -11,9 +11,9 @@ use lib.Dec.{eqb, ltb, leb}
 use lib.ListN.{length, getD, take, set, replicate, length-append, length-map, List·getD-append}
 use lib.Seq.{take-suc, take-all, length-take-le, getD-append-add, set-out}
 use borrow.Author.Tests.{eq-eqb, eqb-true, eqb-false, lt-ltb, le-ltb, ltb-true, ltb-false}
-use Rattle.common.specs.Promise.{Gives}
-use Rattle.common.specs.Search.{is, oneOf, find}
-use Rattle.common.specs.SearchLaws.{decide, clash, is-yes, is-no, is-true, find-here, find-next, find-end, find-at, find-prefix, find-past}
+use Rattle.search.specs.Promise.{Gives}
+use Rattle.search.specs.Search.{is, oneOf, find}
+use Rattle.search.specs.SearchLaws.{decide, clash, is-yes, is-no, is-true, find-here, find-next, find-end, find-at, find-prefix, find-past}
 use Rattle.common.specs.Sets.{Index}
 use Rattle.common.specs.Rules.{tabulate, row, hasRule, leastOf, entry, onByte}
 use Rattle.common.specs.TableLaws.{table-entry, table-is, table-same, table-of, table-set, table-start, length-tabulate}

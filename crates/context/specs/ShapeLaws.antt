@@ -6,7 +6,7 @@ use Prim.Native.Nat.{ℕ, _+_, _*_, _/_, _≤_, _<_}
 use native.Mathlib.Omega.{arith}
 use lib.ListN.{length, getD}
 use borrow.Author.Tests.{lt-ltb, le-ltb, ltb-false, not-false}
-use Rattle.common.specs.Promise.{Gives}
+use Rattle.search.specs.Promise.{Gives}
 use Rattle.common.specs.Entry.{rows, room, shaped, Shaped, Shaping}
 use Rattle.common.specs.EntryLaws.{shaped-holds, shaping-again, shaping-early, shaping-empty, shaping-long}
 use Rattle.context.specs.Cursor.{overfull}

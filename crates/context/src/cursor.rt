@@ -3,7 +3,7 @@
 use common::refusal::Found;
 use common::refusal::Refusal;
 ghost use Prim.Native.Nat.{_≤_};
-ghost use Rattle.common.specs.Promise.{Gives, Steps};
+ghost use Rattle.search.specs.Promise.{Gives, Steps};
 ghost use Rattle.common.specs.Refusals.{toldFound};
 ghost use Rattle.common.specs.Entry.{room};
 ghost use Rattle.context.specs.Cursor.{passed, coverAnswer, coverNext};

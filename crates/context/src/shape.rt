@@ -1,7 +1,7 @@
 // The shape of a list: what an amendment and a work sheet ask of the regions that they are given.
 ghost use Prim.Native.Nat.{_*_, _≤_};
 ghost use lib.ListN.{length, getD};
-ghost use Rattle.common.specs.Promise.{Gives};
+ghost use Rattle.search.specs.Promise.{Gives};
 ghost use Rattle.common.specs.Entry.{rows, shaped};
 ghost use Rattle.context.specs.Shape.{misshapen};
 

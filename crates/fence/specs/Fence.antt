@@ -4,7 +4,7 @@ use mathlib.Core.List.{List, [], _∷_}
 use Prim.Native.Nat.{ℕ, _+_}
 use lib.Dec.{ltb}
 use lib.ListN.{length}
-use Rattle.common.specs.Search.{find, is, other, holds, firstPlace, lineStart, lineEnd, nextLine}
+use Rattle.search.specs.Search.{find, is, other, holds, firstPlace, lineStart, lineEnd, nextLine}
 use Rattle.common.specs.Fences.{runCount, opensRun, closesRun}
 use Rattle.common.specs.Refusals.{Outcome, given, refuse, tooLong, past}
 use Rattle.common.specs.Turn.{Turn, go, stop, found, firstTurn, allFound}

@@ -8,9 +8,9 @@ use native.Mathlib.Omega.{arith}
 use lib.Dec.{ltb, leb}
 use lib.ListN.{length, getD}
 use borrow.Author.Tests.{lt-ltb, le-ltb, ltb-true, ltb-false, le-leb, lt-leb, leb-false}
-use Rattle.common.specs.Promise.{Gives, Steps, steps-unique}
-use Rattle.common.specs.Search.{is, either, other, holds, firstPlace, find, Sought, lineStart, lineEnd, nextLine}
-use Rattle.common.specs.SearchLaws.{decide, clash, and-true, is-yes, either-true, either-false, other-no, holds-in, holds-past, holds-true, first-ge, first-none, first-end, first-over, first-here, find-ge, sought, find-before, find-at, find-over, find-hit, find-from, find-next, line-one}
+use Rattle.search.specs.Promise.{Gives, Steps, steps-unique}
+use Rattle.search.specs.Search.{is, either, other, holds, firstPlace, find, Sought, lineStart, lineEnd, nextLine}
+use Rattle.search.specs.SearchLaws.{decide, clash, and-true, is-yes, either-true, either-false, other-no, holds-in, holds-past, holds-true, first-ge, first-none, first-end, first-over, first-here, find-ge, sought, find-before, find-at, find-over, find-hit, find-from, find-next, line-one}
 use Rattle.common.specs.Fences.{runCount, opensRun, closesRun}
 use Rattle.common.specs.Refusals.{Outcome, refused}
 use Rattle.common.specs.RefusalLaws.{span-unique}

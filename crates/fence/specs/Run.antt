@@ -8,8 +8,8 @@ use native.Mathlib.Omega.{arith}
 use lib.Dec.{ltb}
 use lib.ListN.{length}
 use borrow.Author.Tests.{lt-ltb, le-ltb, ltb-true, ltb-false}
-use Rattle.common.specs.Search.{is, find, firstPlace, Sought, lineStart}
-use Rattle.common.specs.SearchLaws.{decide, and-true, first-ge, first-at, sought}
+use Rattle.search.specs.Search.{is, find, firstPlace, Sought, lineStart}
+use Rattle.search.specs.SearchLaws.{decide, and-true, first-ge, first-at, sought}
 use Rattle.common.specs.Fences.{runCount}
 use Rattle.common.specs.RefusalLaws.{span-unique}
 use Rattle.common.specs.Refusals.{toldSpan}

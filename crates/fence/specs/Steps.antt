@@ -3,7 +3,7 @@ use mathlib.Core.Path.{_≡_}
 use mathlib.Core.List.{List}
 use Prim.Native.Nat.{ℕ, _≤_, _<_}
 use lib.ListN.{length}
-use Rattle.common.specs.Promise.{Steps}
+use Rattle.search.specs.Promise.{Steps}
 use Rattle.common.specs.Refusals.{toldSpan}
 use Rattle.common.specs.Turn.{Step, yields, ends, stepOf}
 use Rattle.common.specs.declared.span.SpanFound.{SpanFound}

@@ -6,7 +6,7 @@ use Prim.Native.Nat.{ℕ, _/_, _≤_}
 use native.Mathlib.Omega.{arith}
 use lib.ListN.{length, getD, drop, length-append, length-drop}
 use borrow.Author.Tests.{le-ltb}
-use Rattle.common.specs.Promise.{Gives}
+use Rattle.search.specs.Promise.{Gives}
 use Rattle.common.specs.Grammars.{house}
 use Rattle.common.specs.Entry.{flatten, rows, room, Shaped, over}
 use Rattle.common.specs.EntryLaws.{length-flatten, rows-flatten, holds-shaped}

@@ -6,8 +6,8 @@ use mathlib.Core.Logic.{_⊎_, inl, inr}
 use Prim.Native.Nat.{ℕ, _-_, _≤_, _<_}
 use native.Mathlib.Omega.{arith}
 use lib.ListN.{length, length-map}
-use Rattle.common.specs.Promise.{Gives}
-use Rattle.common.specs.SearchLaws.{decide}
+use Rattle.search.specs.Promise.{Gives}
+use Rattle.search.specs.SearchLaws.{decide}
 use Rattle.common.specs.Refusals.{toldSpan}
 use Rattle.common.specs.Turn.{Step, yields, ends}
 use Rattle.common.specs.declared.refusal.Refusal.{Refusal}

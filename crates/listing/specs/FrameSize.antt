@@ -9,8 +9,8 @@ use native.Mathlib.Omega.{arith}
 use lib.Dec.{ltb}
 use lib.ListN.{length, getD, take, drop, length-append}
 use borrow.Author.Tests.{ltb-true, ltb-false}
-use Rattle.common.specs.Search.{is, lineStart, lineEnd}
-use Rattle.common.specs.SearchLaws.{decide, find-ge, find-le, line-one, line-next}
+use Rattle.search.specs.Search.{is, lineStart, lineEnd}
+use Rattle.search.specs.SearchLaws.{decide, find-ge, find-le, line-one, line-next}
 use Rattle.common.specs.Turn.{Each, gather, between, None}
 use Rattle.common.specs.declared.span.Span.{Span}
 use Rattle.cont.specs.declared.Marks.{Marks}

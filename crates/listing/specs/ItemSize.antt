@@ -9,8 +9,8 @@ use lib.Dec.{eqb, ltb}
 use lib.ListN.{length, getD, take}
 use borrow.Author.Tests.{ltb-true, eqb-true}
 use Rattle.common.specs.Rules.{tabulate}
-use Rattle.common.specs.Search.{find, oneOf, back, holds}
-use Rattle.common.specs.SearchLaws.{decide, clash, find-at}
+use Rattle.search.specs.Search.{find, oneOf, back, holds}
+use Rattle.search.specs.SearchLaws.{decide, clash, find-at}
 use Rattle.common.specs.Sets.{acceptedFrom}
 use Rattle.common.specs.Items.{ItemGrammar, blank, leads}
 use Rattle.common.specs.ItemLaws.{both}

@@ -9,7 +9,7 @@ use lib.Dec.{ltb}
 use lib.ListN.{length, length-append}
 use borrow.Author.Tests.{lt-ltb, le-ltb, ltb-true, ltb-false}
 use mathlib.Core.Logic.{_⊎_, inl, inr}
-use Rattle.common.specs.SearchLaws.{decide}
+use Rattle.search.specs.SearchLaws.{decide}
 use Rattle.block_numbered.specs.Numbered.{decimalFrom, decimal as valueOf}
 use Rattle.listing.specs.Lines.{decimalBy, decimal}
 

@@ -9,10 +9,10 @@ use lib.Dec.{ltb}
 use lib.ListN.{length, getD, take, drop, length-append}
 use lib.Seq.{length-take-le}
 use borrow.Author.Tests.{lt-ltb, le-ltb}
-use Rattle.common.specs.Promise.{Gives}
+use Rattle.search.specs.Promise.{Gives}
 use Rattle.common.specs.Entry.{putAt, over, Written}
 use Rattle.common.specs.EntryLaws.{written-none, written-put, written-all}
-use Rattle.common.specs.SearchLaws.{decide}
+use Rattle.search.specs.SearchLaws.{decide}
 use Rattle.common.specs.Refusals.{Outcome, given, refused, told}
 use Rattle.common.specs.RefusalLaws.{answer-unique}
 use Rattle.common.specs.declared.refusal.Answer.{Answer}

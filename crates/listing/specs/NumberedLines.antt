@@ -8,8 +8,8 @@ use native.Mathlib.Omega.{arith}
 use lib.Dec.{ltb}
 use lib.ListN.{length, length-map}
 use borrow.Author.Tests.{ltb-true, ltb-false}
-use Rattle.common.specs.Promise.{Gives}
-use Rattle.common.specs.SearchLaws.{decide}
+use Rattle.search.specs.Promise.{Gives}
+use Rattle.search.specs.SearchLaws.{decide}
 use Rattle.common.specs.Items.{said, placeOf}
 use Rattle.common.specs.ItemLaws.{step-seen}
 use Rattle.common.specs.Turn.{Turn, go, stop, found, Step}

@@ -7,7 +7,7 @@ use lib.ListN.{length, set, length-append}
 use lib.Seq.{set-out}
 use mir.Val.{Fits}
 use mir.Syntax.{w32}
-use Rattle.common.specs.Promise.{Gives}
+use Rattle.search.specs.Promise.{Gives}
 use Rattle.common.specs.Entry.{putAt}
 use Rattle.listing.specs.Lines.{decimal, field, fields, line}
 use Rattle.listing.specs.LineLaws.{decimal-small, decimal-more, decimal-few}

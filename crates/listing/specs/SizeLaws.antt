@@ -9,7 +9,7 @@ use lib.ListN.{length, length-append}
 use borrow.Author.Tests.{ltb-false}
 use Rattle.common.specs.Grammars.{house}
 use Rattle.common.specs.Entry.{flatten, rows}
-use Rattle.common.specs.Search.{find}
+use Rattle.search.specs.Search.{find}
 use Rattle.common.specs.Turn.{Turn, go, stop, found, thenCollect, collect, Adv, Each, OnFound}
 use Rattle.common.specs.TurnLaws.{by-turn, collect-each}
 use Rattle.common.specs.ItemLaws.{both}

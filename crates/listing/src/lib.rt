@@ -18,7 +18,7 @@ use tables::put_sheet;
 ghost use mathlib.Core.Path.{_≡_};
 ghost use Prim.Native.Nat.{_≤_};
 ghost use lib.ListN.{length};
-ghost use Rattle.common.specs.Promise.{Gives};
+ghost use Rattle.search.specs.Promise.{Gives};
 ghost use Rattle.common.specs.Refusals.{told};
 ghost use Rattle.listing.specs.Put.{Laid, Room};
 ghost use Rattle.listing.specs.Held.{Held};

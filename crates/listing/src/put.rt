@@ -2,7 +2,7 @@
 // counts and writes. A listing ends at or before place 1,000,000 and its lines are short, so that no place is too large for a sum.
 ghost use mathlib.Core.List.{[], _∷_};
 ghost use Prim.Native.Nat.{_+_, _%_, _≤_};
-ghost use Rattle.common.specs.Promise.{Gives};
+ghost use Rattle.search.specs.Promise.{Gives};
 ghost use Rattle.listing.specs.Lines.{decimal, field, fields, line};
 ghost use Rattle.listing.specs.Put.{Put};
 

@@ -2,7 +2,7 @@
 use mathlib.Core.List.{[], _∷_}
 use Prim.Native.Nat.{ℕ}
 use Rattle.common.specs.Grammars.{house}
-use Rattle.common.specs.Search.{oneOf}
+use Rattle.search.specs.Search.{oneOf}
 use Rattle.common.specs.Items.{ItemGrammar, grammar}
 use Rattle.rules.specs.Grammar.{Gram}
 use Rattle.rules.specs.Columns.{gramOf}

@@ -1,6 +1,6 @@
 -- The marked examples, all under one statement: the table computes from the definitions. Assumes nothing.
 use mathlib.Core.Path.{refl}
-use Rattle.common.specs.Search.{is, either, oneOf, other, holds, firstOf, firstPlace, find, back, lineStart}
+use Rattle.search.specs.Search.{is, either, oneOf, other, holds, firstOf, firstPlace, find, back, lineStart}
 use Rattle.common.specs.Fences.{opensLine, closesTo, closing}
 use Rattle.common.specs.Paragraph.{endsAt, paragraphEnd, nextIn}
 use Rattle.common.specs.Turn.{scan, collect, gather}

@@ -2,7 +2,6 @@
 // the edited note has. `tools/pace` times both. The input is `b` or `a`, a blank and a number.
 use common::grammar::Grammar;
 use common::refusal::Answer;
-use common::search;
 use libc::STDIN_FILENO;
 use libc::STDOUT_FILENO;
 

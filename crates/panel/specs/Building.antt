@@ -29,18 +29,23 @@ pub record Put (n start end : ℕ) (out out′ : List ℕ) (r : ℕ) : Type 0 wh
   pub next : r ≡ n + 1
   pub laid : Laid (n * 8) (flatten four (start ∷ end ∷ [])) out out′
 
--- bytes written over the front of a run
-pub record Wrote (l out out′ : List ℕ) : Type 0 where
-  pub list : out′ ≡ over l out
+-- a list's entries written over the front of a run, and how many
+pub record Wrote {A : Type 0} (flat : A → List ℕ) (l : List A) (out out′ : List ℕ) (n : ℕ) : Type 0 where
+  pub count : n ≡ length l
+  pub list : out′ ≡ over (flatten flat l) out
 
 -- a reply, and a list that is written on success alone
 pub record Poured (o : Outcome) (l out out′ run run′ : List ℕ) (r : ℕ) : Type 0 where
   pub reply : Replied o run run′ r
   pub left : out′ ≡ cond (served (fitted o run)) (over l out) out
 
--- "the answer has more regions … than there is room for", of eight bytes each; else how many there are
-abbrev pub pourAnswer : List Caused → List ℕ → Outcome
-pourAnswer l out = refuse 3 (ltb (length out / 8) (length l)) (given (length l ∷ []))
+-- "the answer has more regions, or items, than there is room for", of w bytes each; else how many there are
+abbrev pub pourAnswer : {A : Type 0} → ℕ → List A → List ℕ → Outcome
+pourAnswer w l out = refuse 3 (ltb (length out / w) (length l)) (given (length l ∷ []))
+
+-- a list's entries poured into a run, w bytes each
+abbrev pub PouredAs : {A : Type 0} → (A → List ℕ) → ℕ → List A → List ℕ → List ℕ → List ℕ → List ℕ → ℕ → Type 0
+PouredAs flat w l out out′ run run′ r = Poured (pourAnswer w l out) (flatten flat l) out out′ run run′ r
 
 -- ---- rules
 -- whether a run is four bytes for each number of a byte column
@@ -66,9 +71,13 @@ unfoldable pub rulesOf : List ℕ → List FenceRule
 rulesOf l = map ruleOf (rows 2 (length l / 2) l)
 
 -- ---- building
--- "For building: 1, 6, 3."
-unfoldable pub buildAnswer : Bool → List Caused → List ℕ → List ℕ → Outcome
-buildAnswer bad l s out = refuse 1 (tooLong s) (refuse 6 bad (pourAnswer l out))
+-- "For building: 1, 6, 3.", of a list whose entries have w bytes each
+unfoldable pub buildAnswer : {A : Type 0} → ℕ → Bool → List A → List ℕ → List ℕ → Outcome
+buildAnswer w bad l s out = refuse 1 (tooLong s) (refuse 6 bad (pourAnswer w l out))
+
+-- the same with the list that is left
+abbrev pub BuiltAs : {A : Type 0} → (A → List ℕ) → ℕ → Bool → List A → List ℕ → List ℕ → List ℕ → List ℕ → List ℕ → ℕ → Type 0
+BuiltAs flat w bad l s out out′ run run′ r = Poured (buildAnswer w bad l s out) (flatten flat l) out out′ run run′ r
 
 -- by columns, of which the counts are in bytes
 abbrev pub builtBy : Grammar → List ℕ → List ℕ → List ℕ → List ℕ → List ℕ → List ℕ → List ℕ → List ℕ → List Caused
@@ -76,14 +85,13 @@ builtBy g f m y t o k n s = regions (gramOf g (columns f m y (cells t) o k (cell
 
 -- building that is past the refusals of text and rules
 abbrev pub PouredBy : Grammar → List ℕ → List ℕ → List ℕ → List ℕ → List ℕ → List ℕ → List ℕ → List ℕ → List ℕ → List ℕ → List ℕ → List ℕ → ℕ → Type 0
-PouredBy g f m y t o k n s out out′ run run′ r = Poured (pourAnswer (builtBy g f m y t o k n s) out) (flatten regionBytes (builtBy g f m y t o k n s)) out out′ run run′ r
+PouredBy g f m y t o k n s out out′ run run′ r = PouredAs regionBytes 8 (builtBy g f m y t o k n s) out out′ run run′ r
 
 abbrev pub BuiltBytes : Grammar → List ℕ → List ℕ → List ℕ → List ℕ → List ℕ → List ℕ → List ℕ → List ℕ → List ℕ → List ℕ → List ℕ → List ℕ → ℕ → Type 0
 BuiltBytes g f m y t o k n s out out′ run run′ r =
-    Poured (buildAnswer (differ f m || uneven y t o k n) (builtBy g f m y t o k n s) s out) (flatten regionBytes (builtBy g f m y t o k n s)) out out′ run run′ r
+    BuiltAs regionBytes 8 (differ f m || uneven y t o k n) (builtBy g f m y t o k n s) s out out′ run run′ r
 
 -- by fence rules of two bytes each: "an odd length is 6"
 abbrev pub BuiltRules : Grammar → List ℕ → List ℕ → List ℕ → List ℕ → List ℕ → List ℕ → List ℕ → List ℕ → List ℕ → List ℕ → List ℕ → ℕ → Type 0
 BuiltRules g l y t o k n s out out′ run run′ r =
-    Poured (buildAnswer (not (eqb (length l % 2) 0) || uneven y t o k n) (builtBy g (ruleBytes (rulesOf l)) (ruleMins (rulesOf l)) y t o k n s) s out)
-    (flatten regionBytes (builtBy g (ruleBytes (rulesOf l)) (ruleMins (rulesOf l)) y t o k n s)) out out′ run run′ r
+    BuiltAs regionBytes 8 (not (eqb (length l % 2) 0) || uneven y t o k n) (builtBy g (ruleBytes (rulesOf l)) (ruleMins (rulesOf l)) y t o k n s) s out out′ run run′ r

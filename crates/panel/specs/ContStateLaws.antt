@@ -6,7 +6,7 @@ use Prim.Native.Nat.{ℕ, zero, suc, _+_, _*_, _≤_, _<_}
 use native.Mathlib.Numerals.{add-one}
 use native.Mathlib.Omega.{arith}
 use lib.ListN.{length, getD, set, replicate, length-append}
-use Rattle.common.specs.Promise.{Gives}
+use Rattle.search.specs.Promise.{Gives}
 use Rattle.common.specs.Entry.{flatten, putAt}
 use Rattle.common.specs.EntryLaws.{length-flatten}
 use Rattle.common.specs.Rules.{tabulate}

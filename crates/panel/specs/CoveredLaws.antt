@@ -9,8 +9,8 @@ use native.Mathlib.Omega.{arith}
 use lib.Dec.{ltb}
 use lib.ListN.{length, getD}
 use borrow.Author.Tests.{lt-ltb, le-ltb, ltb-true, ltb-false}
-use Rattle.common.specs.Promise.{Gives, Steps}
-use Rattle.common.specs.SearchLaws.{decide, first-here, first-next, first-end}
+use Rattle.search.specs.Promise.{Gives, Steps}
+use Rattle.search.specs.SearchLaws.{decide, first-here, first-next, first-end}
 use Rattle.common.specs.Entry.{room}
 use Rattle.common.specs.Refusals.{Outcome, given, refused, numberOf, toldFound}
 use Rattle.common.specs.RefusalLaws.{number-some}

@@ -2,7 +2,7 @@
 use mathlib.Core.Path.{_≡_, ap, subst, _∙_}
 use mathlib.Core.List.{List, [], _∷_, _++_}
 use Prim.Native.Nat.{ℕ}
-use Rattle.common.specs.Promise.{Gives}
+use Rattle.search.specs.Promise.{Gives}
 use Rattle.common.specs.Refusals.{given}
 use Rattle.common.specs.Sets.{setOf, probe}
 use Rattle.common.specs.declared.sets.Probe.{Probe}

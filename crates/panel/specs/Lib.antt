@@ -5,6 +5,8 @@ pub mod Covered
 pub mod State
 pub mod ContState
 pub mod Building
+pub mod Hiding
+pub mod Sheeting
 pub mod ByteLaws
 pub mod ReplyLaws
 pub mod LeafLaws
@@ -14,3 +16,5 @@ pub mod CoveredLaws
 pub mod ContStateLaws
 pub mod RuleLaws
 pub mod PourLaws
+pub mod HidingLaws
+pub mod SheetingLaws

@@ -7,7 +7,7 @@ use native.Mathlib.Omega.{arith}
 use lib.Dec.{eqb}
 use lib.ListN.{length, length-append}
 use borrow.Author.Tests.{lt-ltb, le-ltb}
-use Rattle.common.specs.Promise.{Gives}
+use Rattle.search.specs.Promise.{Gives}
 use Rattle.common.specs.Entry.{flatten, over}
 use Rattle.common.specs.Refusals.{Outcome, given, refused, numberOf, told, toldFound}
 use Rattle.common.specs.RefusalLaws.{number-some}

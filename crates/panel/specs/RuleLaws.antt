@@ -8,8 +8,8 @@ use native.Mathlib.Omega.{arith}
 use lib.Dec.{eqb}
 use lib.ListN.{length, getD, take, set, length-map, List·getD-map}
 use borrow.Author.Tests.{eq-eqb, ne-eqb, eqb-true, eqb-false}
-use Rattle.common.specs.Promise.{Gives}
-use Rattle.common.specs.SearchLaws.{decide}
+use Rattle.search.specs.Promise.{Gives}
+use Rattle.search.specs.SearchLaws.{decide}
 use Rattle.common.specs.Entry.{rows}
 use Rattle.common.specs.EntryLaws.{rows-at, length-rows}
 use Rattle.common.specs.Rules.{tabulate, entry, hasRule}

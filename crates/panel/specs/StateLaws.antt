@@ -7,7 +7,7 @@ use native.Mathlib.Omega.{arith}
 use lib.Dec.{eqb}
 use lib.ListN.{length, getD, drop-of-length-le}
 use borrow.Author.Tests.{lt-ltb, le-ltb, eq-eqb, ne-eqb}
-use Rattle.common.specs.Promise.{Gives, Steps}
+use Rattle.search.specs.Promise.{Gives, Steps}
 use Rattle.common.specs.Entry.{flatten, over}
 use Rattle.common.specs.Refusals.{Outcome, given, refused, numberOf}
 use Rattle.common.specs.RefusalLaws.{number-some}

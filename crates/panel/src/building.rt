@@ -9,13 +9,12 @@ use common::grammar::Grammar;
 use common::span::MAX_INPUT_LEN;
 use rules::search_bytes::search_bytes;
 use rules::tables::fence_rows;
-ghost use Rattle.common.specs.Entry.{flatten};
 ghost use Rattle.region.specs.Regions.{regions};
 ghost use Rattle.rules.specs.Columns.{openRule, symRule};
 ghost use Rattle.rules.specs.Tables.{tablesFor, gramIn};
 ghost use Rattle.context.specs.Records.{ruleBytes, ruleMins};
 ghost use Rattle.panel.specs.Bytes.{cells};
-ghost use Rattle.panel.specs.Building.{grammar, regionBytes, Poured, PouredBy, pourAnswer, rulesOf, BuiltBytes, BuiltRules};
+ghost use Rattle.panel.specs.Building.{grammar, regionBytes, PouredAs, PouredBy, rulesOf, BuiltBytes, BuiltRules};
 
 // The inline rules into tables, and on.
 fn with_inline(
@@ -34,7 +33,7 @@ fn with_inline(
     out: &mut [u8],
     answer: &mut [u8],
 ) -> u32
-    ensures { λ r. ⌜ Poured (pourAnswer (regions (gramIn g (now (needles .entry)) n (now (has .entry)) (now (least .entry)) (now (rows .entry)) (tablesFor (symRule (now (symmetric .entry)) (cells (now (times .entry))) (openRule (now (openers .entry)) (now (closers .entry)) (cells (now (counts .entry))))))) (now (text .entry))) (now (out .entry))) (flatten regionBytes (regions (gramIn g (now (needles .entry)) n (now (has .entry)) (now (least .entry)) (now (rows .entry)) (tablesFor (symRule (now (symmetric .entry)) (cells (now (times .entry))) (openRule (now (openers .entry)) (now (closers .entry)) (cells (now (counts .entry))))))) (now (text .entry)))) (now (out .entry)) (now (out .exit)) (now (answer .entry)) (now (answer .exit)) r ⌝ }
+    ensures { λ r. ⌜ PouredAs regionBytes 8 (regions (gramIn g (now (needles .entry)) n (now (has .entry)) (now (least .entry)) (now (rows .entry)) (tablesFor (symRule (now (symmetric .entry)) (cells (now (times .entry))) (openRule (now (openers .entry)) (now (closers .entry)) (cells (now (counts .entry))))))) (now (text .entry))) (now (out .entry)) (now (out .exit)) (now (answer .entry)) (now (answer .exit)) r ⌝ }
 {
     let inline = inline_rules(symmetric, times, openers, closers, counts);
     let kind = inline.kind;

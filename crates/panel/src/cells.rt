@@ -1,6 +1,6 @@
 // Numbers read from byte runs.
 use common::sets::index;
-ghost use Rattle.common.specs.Promise.{Gives};
+ghost use Rattle.search.specs.Promise.{Gives};
 ghost use lib.ListN.{getD};
 ghost use Rattle.panel.specs.Bytes.{cells};
 ghost use Rattle.panel.specs.State.{readable};

@@ -1,17 +1,22 @@
 // Rules by byte, from byte runs: what the core's tables make of columns, where a count column is four bytes for each number and fence
 // rules may be two bytes each.
 use crate::cells::cell;
-use common::search::byte_at;
+use common::fence_tests::fence_tables;
 use context::records::FenceRule;
 use context::records::Gathered;
+use rules::rule_tables::RuleTables;
+use rules::search_bytes::search_bytes;
 use rules::tables::InlineTables;
+use rules::tables::fence_rows;
 use rules::tables::inline_tables;
+use search::byte_at;
 ghost use Prim.Native.Nat.{_*_};
 ghost use lib.Dec.{eqb};
-ghost use Rattle.common.specs.Promise.{Gives};
+ghost use Rattle.search.specs.Promise.{Gives};
 ghost use Rattle.common.specs.Rules.{entry};
 ghost use Rattle.rules.specs.Columns.{openRule, symRule};
 ghost use Rattle.rules.specs.Tables.{tablesFor};
+ghost use Rattle.rules.specs.RuleTables.{ruleTables};
 ghost use Rattle.context.specs.Records.{ruleBytes, ruleMins, gatheredOf};
 ghost use Rattle.panel.specs.Bytes.{cells};
 ghost use Rattle.panel.specs.Building.{countAt, countTable, rulesOf, uneven};
@@ -90,6 +95,42 @@ pub(crate) fn inline_rules(
     let index = bare.index;
     let count = count_table(&kind, &index, times, counts);
     InlineTables {
+        kind,
+        closer,
+        count,
+        index,
+    }
+}
+
+// All rules of columns, folded once into tables over the byte, as the core folds them.
+pub(crate) fn rule_tables(
+    fences: &[u8],
+    mins: &[u8],
+    symmetric: &[u8],
+    times: &[u8],
+    openers: &[u8],
+    closers: &[u8],
+    counts: &[u8],
+) -> RuleTables
+    ensures { λ r. ⌜ Gives (ruleTables (now (fences .entry)) (now (mins .entry)) (now (symmetric .entry)) (cells (now (times .entry))) (now (openers .entry)) (now (closers .entry)) (cells (now (counts .entry)))) r ⌝ }
+{
+    let searched = search_bytes(fences, symmetric, openers);
+    let fenced = fence_tables(fences, mins);
+    let inline = inline_rules(symmetric, times, openers, closers, counts);
+    let rows = fence_rows(fences);
+    let needles = searched.bytes;
+    let has = fenced.has;
+    let least = fenced.least;
+    let kind = inline.kind;
+    let closer = inline.closer;
+    let count = inline.count;
+    let index = inline.index;
+    RuleTables {
+        needles,
+        searched: searched.count,
+        has,
+        least,
+        rows,
         kind,
         closer,
         count,

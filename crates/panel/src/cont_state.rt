@@ -2,12 +2,12 @@
 // frames' starts and ends, their count and index.
 use crate::cells::cell;
 use crate::cells::cells_fit;
-use common::search::byte_at;
 use common::span::Span;
 use cont::ContIter;
+use search::byte_at;
 ghost use mathlib.Core.Path.{_≡_};
 ghost use mathlib.Core.Bool.{true};
-ghost use Rattle.common.specs.Promise.{Gives};
+ghost use Rattle.search.specs.Promise.{Gives};
 ghost use Rattle.panel.specs.Bytes.{cells};
 ghost use Rattle.panel.specs.State.{readable};
 ghost use Rattle.panel.specs.ContState.{single, spanPair, Spread, openFrom, pendingFrom, contLimits, contCells, contFrom};

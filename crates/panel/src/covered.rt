@@ -5,7 +5,7 @@ use common::refusal::Found;
 use common::refusal::Refusal;
 use context::cursor::Cover;
 use context::cursor::covering_end;
-ghost use Rattle.common.specs.Promise.{Steps};
+ghost use Rattle.search.specs.Promise.{Steps};
 ghost use Rattle.common.specs.Refusals.{toldFound};
 ghost use Rattle.context.specs.Cursor.{coverAnswer, coverNext};
 ghost use Rattle.panel.specs.Bytes.{cells};

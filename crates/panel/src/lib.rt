@@ -4,9 +4,11 @@ mod building; // building
 mod cells; // numbers read from byte runs
 mod cont_state; // the state of the scanner of frames
 mod covered; // the cursor
+mod hiding; // regions as they come, to tell what they hide
 mod leaves; // the leaves of common.rs, and the bytes searched for
 mod pouring; // regions into a list in bytes
 mod reply; // what an entry answers
 mod columns; // rules by byte, from byte runs
 mod scanners; // the scanners
+mod sheeting; // the work sheet
 mod states; // states as byte runs

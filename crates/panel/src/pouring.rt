@@ -1,4 +1,5 @@
-// Regions into a list in bytes, eight bytes a region: counted first, so that nothing is written before a refusal is excluded.
+// Regions into a list in bytes, eight bytes a region: counted first where the room may be too little, so that nothing is written before
+// a refusal is excluded.
 use crate::reply;
 use crate::reply::put_number;
 use common::grammar::Grammar;
@@ -6,12 +7,12 @@ use region::Next;
 use region::count_regions;
 use region::next_region;
 ghost use Prim.Native.Nat.{_+_, _*_, _/_, _≤_};
+ghost use lib.Dec.{leb};
 ghost use lib.ListN.{length};
-ghost use Rattle.common.specs.Promise.{Gives};
-ghost use Rattle.common.specs.Entry.{flatten};
+ghost use Rattle.search.specs.Promise.{Gives};
 ghost use Rattle.region.specs.Regions.{regions};
 ghost use Rattle.rules.specs.Tables.{gramBy};
-ghost use Rattle.panel.specs.Building.{regionBytes, Put, Wrote, Poured, pourAnswer};
+ghost use Rattle.panel.specs.Building.{regionBytes, Put, Wrote, PouredAs};
 
 // How many regions a list of `len` bytes has room for.
 fn region_room(len: usize) -> usize
@@ -30,7 +31,7 @@ fn put_region(out: &mut [u8], n: usize, start: usize, end: usize) -> usize
     n + 1
 }
 
-// Writes the regions of a text over the front of a list that has room for them.
+// Writes the regions of a text over the front of a list that has room for them, and says how many there are.
 fn write_regions(
     text: &[u8],
     g: Grammar,
@@ -44,9 +45,9 @@ fn write_regions(
     count: &[u32; 256],
     index: &[usize; 256],
     out: &mut [u8],
-)
+) -> usize
     requires { ⌜ length (regions (gramBy g (now needles) n (now has) (now least) (now rows) (now kind) (now closer) (now count) (now index)) (now text)) ≤ length (now out) / 8 ⌝ }
-    ensures { λ r. ⌜ Wrote (flatten regionBytes (regions (gramBy g (now (needles .entry)) n (now (has .entry)) (now (least .entry)) (now (rows .entry)) (now (kind .entry)) (now (closer .entry)) (now (count .entry)) (now (index .entry))) (now (text .entry)))) (now (out .entry)) (now (out .exit)) ⌝ }
+    ensures { λ r. ⌜ Wrote regionBytes (regions (gramBy g (now (needles .entry)) n (now (has .entry)) (now (least .entry)) (now (rows .entry)) (now (kind .entry)) (now (closer .entry)) (now (count .entry)) (now (index .entry))) (now (text .entry))) (now (out .entry)) (now (out .exit)) r ⌝ }
 {
     let mut found: usize = 0;
     let mut q: usize = 0;
@@ -70,13 +71,52 @@ fn write_regions(
                 q = next;
             }
             Next::Nothing => {
-                return;
+                return found;
             }
         }
     }
 }
 
-// Writes the regions of a text, and replies how many there are; or refuses where the list or the answer run is too short.
+// Whether `len` bytes have room for the regions of a text. Where it is surely enough, since there are at most half as many regions as
+// bytes and one more, no counting pass runs.
+fn fits(
+    len: usize,
+    text: &[u8],
+    g: Grammar,
+    needles: &[u8; Grammar::MAX_NEEDLES],
+    n: usize,
+    has: &[bool; 256],
+    least: &[u8; 256],
+    rows: &[usize; 256],
+    kind: &[u8; 256],
+    closer: &[u8; 256],
+    count: &[u32; 256],
+    index: &[usize; 256],
+) -> bool
+    ensures { λ r. ⌜ Gives (leb (length (regions (gramBy g (now (needles .entry)) n (now (has .entry)) (now (least .entry)) (now (rows .entry)) (now (kind .entry)) (now (closer .entry)) (now (count .entry)) (now (index .entry))) (now (text .entry)))) (len / 8)) r ⌝ }
+{
+    let most = region_room(len);
+    if text.len() / 2 < most {
+        return true;
+    }
+    count_regions(
+        text,
+        g,
+        needles,
+        n,
+        has,
+        least,
+        rows,
+        kind,
+        closer,
+        count,
+        index,
+    )
+        <= most
+}
+
+// Writes the regions of a text, and replies how many there are; or refuses where the list or the answer run is too short. Both are
+// refused with 3, so that the answer run may be looked at first.
 pub(crate) fn pour(
     text: &[u8],
     g: Grammar,
@@ -92,26 +132,11 @@ pub(crate) fn pour(
     out: &mut [u8],
     answer: &mut [u8],
 ) -> u32
-    ensures { λ r. ⌜ Poured (pourAnswer (regions (gramBy g (now (needles .entry)) n (now (has .entry)) (now (least .entry)) (now (rows .entry)) (now (kind .entry)) (now (closer .entry)) (now (count .entry)) (now (index .entry))) (now (text .entry))) (now (out .entry))) (flatten regionBytes (regions (gramBy g (now (needles .entry)) n (now (has .entry)) (now (least .entry)) (now (rows .entry)) (now (kind .entry)) (now (closer .entry)) (now (count .entry)) (now (index .entry))) (now (text .entry)))) (now (out .entry)) (now (out .exit)) (now (answer .entry)) (now (answer .exit)) r ⌝ }
+    ensures { λ r. ⌜ PouredAs regionBytes 8 (regions (gramBy g (now (needles .entry)) n (now (has .entry)) (now (least .entry)) (now (rows .entry)) (now (kind .entry)) (now (closer .entry)) (now (count .entry)) (now (index .entry))) (now (text .entry))) (now (out .entry)) (now (out .exit)) (now (answer .entry)) (now (answer .exit)) r ⌝ }
 {
-    let found = count_regions(
-        text,
-        g,
-        needles,
-        n,
-        has,
-        least,
-        rows,
-        kind,
-        closer,
-        count,
-        index,
-    );
-    if region_room(out.len()) < found {
-        return 3;
-    }
     if 1 < reply::room_of(answer.len()) {
-        write_regions(
+        if fits(
+            out.len(),
             text,
             g,
             needles,
@@ -123,10 +148,25 @@ pub(crate) fn pour(
             closer,
             count,
             index,
-            out,
-        );
-        let all = [found];
-        return reply::values(&all, answer);
+        ) {
+            let found = write_regions(
+                text,
+                g,
+                needles,
+                n,
+                has,
+                least,
+                rows,
+                kind,
+                closer,
+                count,
+                index,
+                out,
+            );
+            let all = [found];
+            return reply::values(&all, answer);
+        }
+        return 3;
     }
     3
 }

@@ -5,7 +5,7 @@ use common::sets::index;
 ghost use mathlib.Core.List.{_++_};
 ghost use Prim.Native.Nat.{_+_, _*_, _/_, _≤_};
 ghost use lib.ListN.{length};
-ghost use Rattle.common.specs.Promise.{Gives};
+ghost use Rattle.search.specs.Promise.{Gives};
 ghost use Rattle.common.specs.Entry.{flatten};
 ghost use Rattle.common.specs.Refusals.{given, told, toldFound};
 ghost use Rattle.panel.specs.Bytes.{four, asFlag};

@@ -7,8 +7,8 @@ use native.Mathlib.Omega.{arith}
 use lib.Dec.{eqb, ltb}
 use lib.ListN.{length, getD}
 use borrow.Author.Tests.{ltb-true, eq-eqb}
-use Rattle.common.specs.Search.{find, is, other, lineEnd, nextLine}
-use Rattle.common.specs.SearchLaws.{clash, and-true, is-yes, is-true, other-no, find-ge, find-le, find-next, find-at, first-ge, first-le}
+use Rattle.search.specs.Search.{find, is, other, lineEnd, nextLine}
+use Rattle.search.specs.SearchLaws.{clash, and-true, is-yes, is-true, other-no, find-ge, find-le, find-next, find-at, first-ge, first-le}
 use Rattle.common.specs.Paragraph.{endsAt, paragraphEnd, hitAt, nextIn}
 use Rattle.common.specs.Turn.{Turn, go, stop, found, thenCollect, collect, firstTurn, Ahead, Last, Adv}
 use Rattle.common.specs.TurnLaws.{by-turn, adv-weaken, scan-last}

@@ -4,7 +4,7 @@ use mathlib.Core.List.{List, _++_}
 use Prim.Native.Nat.{ℕ, _+_, _-_, _*_, _/_, _≤_, _<_}
 use native.Mathlib.Omega.{arith}
 use lib.ListN.{length, length-append}
-use Rattle.common.specs.Promise.{Gives}
+use Rattle.search.specs.Promise.{Gives}
 use Rattle.common.specs.Entry.{flatten, room, over, putAt, Written}
 use Rattle.common.specs.EntryLaws.{length-flatten, room-fits, rows-next, written-none, written-put, written-all, written-room}
 use Rattle.rules.specs.Grammar.{Gram}

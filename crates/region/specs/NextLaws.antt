@@ -4,7 +4,7 @@ use mathlib.Core.List.{List, [], _∷_}
 use Prim.Native.Nat.{ℕ, suc, _≤_, _<_}
 use native.Mathlib.Omega.{arith}
 use lib.ListN.{length}
-use Rattle.common.specs.Promise.{Gives}
+use Rattle.search.specs.Promise.{Gives}
 use Rattle.common.specs.Turn.{Turn, go, stop, found, allFound, thenCollect, Last}
 use Rattle.common.specs.TurnLaws.{collect-scan, scan-last}
 use Rattle.region.specs.Region.{Caused, regionOf}

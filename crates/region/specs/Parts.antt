@@ -4,7 +4,7 @@ use mathlib.Core.List.{List}
 use Prim.Native.Nat.{ℕ, _-_}
 use lib.Dec.{eqb}
 use lib.ListN.{length, getD}
-use Rattle.common.specs.Search.{find, is, other, lineStart, nextLine}
+use Rattle.search.specs.Search.{find, is, other, lineStart, nextLine}
 use Rattle.common.specs.Fences.{pickOpening, opening, closeScan}
 use Rattle.common.specs.Turn.{Turn, go, found, firstTurn}
 use Rattle.common.specs.Rules.{entry}

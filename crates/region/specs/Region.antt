@@ -4,7 +4,6 @@ use mathlib.Core.List.{List, [], _∷_, map}
 use Prim.Native.Nat.{ℕ, _+_, _≤_, _<_}
 use lib.Dec.{ltb, leb}
 use Rattle.region.specs.declared.Cause.{Cause}
-use Rattle.region.specs.declared.Cause.the-variants.{Fence, Symmetric, Asymmetric}
 use Rattle.region.specs.declared.Region.{Region as Told}
 
 -- a region: its start, its exclusive end, and what a list says of it besides
@@ -68,9 +67,3 @@ InOrder from len (r ∷ l) = (from ≤ r .start) × (r .start < r .stop) × (r .
 -- "A region list is a lent run of 32-bit numbers: region k has its start at 2k and its exclusive end at 2k+1."
 abbrev pub pair : {T : Type 0} → Region T → List ℕ
 pair r = r .start ∷ r .stop ∷ []
-
--- the page's number of a cause: fence, symmetric, asymmetric
-abbrev pub causeNumber : Cause → ℕ
-causeNumber Fence = 0
-causeNumber Symmetric = 1
-causeNumber Asymmetric = 2

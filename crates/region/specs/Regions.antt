@@ -4,7 +4,7 @@ use mathlib.Core.List.{List}
 use Prim.Native.Nat.{ℕ, _+_, _-_, _%_}
 use lib.Dec.{eqb, ltb}
 use lib.ListN.{length, getD}
-use Rattle.common.specs.Search.{find, is, other, back, firstPlace, lineEnd, nextLine}
+use Rattle.search.specs.Search.{find, is, other, back, firstPlace, lineEnd, nextLine}
 use Rattle.common.specs.Paragraph.{nextIn}
 use Rattle.common.specs.Turn.{Turn, go, stop, found, firstTurn, allFound}
 use Rattle.common.specs.declared.fence_tests.Hit.{Hit}

@@ -10,9 +10,9 @@ use mir.Syntax.{w64}
 use lib.Dec.{eqb, ltb}
 use lib.ListN.{length, getD, take}
 use borrow.Author.Tests.{eq-eqb, ne-eqb, lt-ltb, le-ltb}
-use Rattle.common.specs.Promise.{Gives}
-use Rattle.common.specs.Search.{find, is, other, oneOf, back, Sought, lineStart, lineEnd, nextLine, firstPlace}
-use Rattle.common.specs.SearchLaws.{decide, find-end}
+use Rattle.search.specs.Promise.{Gives}
+use Rattle.search.specs.Search.{find, is, other, oneOf, back, Sought, lineStart, lineEnd, nextLine, firstPlace}
+use Rattle.search.specs.SearchLaws.{decide, find-end}
 use Rattle.common.specs.Rules.{entry}
 use Rattle.common.specs.Fences.{runCount, runEnd, pickOpening, opensLine, opening, closing, closeScan, closeAt}
 use Rattle.common.specs.FenceLaws.{opening-is}

@@ -3,11 +3,11 @@
 use common::fence_tests::Hit;
 use common::fence_tests::next_in;
 use common::grammar::Grammar;
-use common::search::run_before;
-use common::search::run_end;
+use search::run_before;
+use search::run_end;
 ghost use Prim.Native.Nat.{_≤_};
 ghost use lib.ListN.{length};
-ghost use Rattle.common.specs.Promise.{Gives};
+ghost use Rattle.search.specs.Promise.{Gives};
 ghost use Rattle.common.specs.Turn.{firstTurn};
 ghost use Rattle.region.specs.Regions.{oddBefore, symTurn, asymTurn};
 ghost use Rattle.region.specs.Parts.{fenceGram};

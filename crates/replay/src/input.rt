@@ -4,7 +4,6 @@ use crate::cuts::bytes_part;
 use crate::judge;
 use crate::tally::NO_SECTION;
 use crate::tally::Tally;
-use common::search;
 use libc::STDIN_FILENO;
 
 // The room for a chunk, and so for a line.

@@ -9,7 +9,6 @@ use crate::page;
 use crate::question;
 use crate::tally::Tally;
 use crate::told;
-use common::search;
 
 // A line begins with what it is: a comment, a section, or a question by its letter, which may have a star.
 pub(crate) fn line(text: &[u8], before: Tally) -> Tally {

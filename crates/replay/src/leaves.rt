@@ -16,7 +16,6 @@ use common::fence_tests;
 use common::fence_tests::Close;
 use common::fence_tests::Opening;
 use common::grammar::Grammar;
-use common::search;
 use common::sets;
 
 pub(crate) fn form_of(letter: u8) -> Form {

@@ -1,7 +1,6 @@
 // Texts that are too long for a line: given in runs, or drawn.
 use crate::cuts::byte_at;
 use crate::cuts::number_at;
-use common::search;
 
 // The room for a text.
 pub(crate) const ROOM: usize = 8200;

@@ -1,6 +1,5 @@
 // The texts of a block: all of one length over an alphabet, the first byte changing fastest.
 use crate::cuts::next_within;
-use common::search;
 
 // The length of the longest.
 pub(crate) const LONGEST: usize = 8;

@@ -11,9 +11,9 @@ use lib.Dec.{leb, ltb}
 use lib.ListN.{length, getD, take, drop, set, length-append, drop-of-length-le, replicate, List·getD-eq-default}
 use lib.Seq.{drop-cons}
 use borrow.Author.Tests.{le-leb, lt-leb, leb-false, lt-ltb, le-ltb}
-use Rattle.common.specs.Promise.{Gives}
-use Rattle.common.specs.Search.{oneOf, is, find}
-use Rattle.common.specs.SearchLaws.{decide, is-yes, is-no, find-here, find-next, find-end}
+use Rattle.search.specs.Promise.{Gives}
+use Rattle.search.specs.Search.{oneOf, is, find}
+use Rattle.search.specs.SearchLaws.{decide, is-yes, is-no, find-here, find-next, find-end}
 use Rattle.common.specs.Sets.{padded, Index}
 use Rattle.common.specs.Rules.{tabulate}
 use Rattle.common.specs.TableLaws.{Table, table-is, table-same, table-set, table-start, table-of}

@@ -6,7 +6,7 @@ use lib.Dec.{leb}
 use lib.ListN.{length, getD, take, set}
 use Rattle.common.specs.Refusals.{differ}
 use Rattle.common.specs.Sets.{padded}
-use Rattle.common.specs.Search.{oneOf, lineStart, lineEnd}
+use Rattle.search.specs.Search.{oneOf, lineStart, lineEnd}
 use Rattle.common.specs.Rules.{row, hasRule, leastOf, onByte}
 use Rattle.common.specs.Fences.{runCount, runEnd, opensLine, closing}
 use Rattle.common.specs.declared.grammar.Grammar.{Grammar}

@@ -8,9 +8,9 @@ use native.Mathlib.Omega.{arith}
 use lib.Dec.{eqb, ltb}
 use lib.ListN.{length}
 use borrow.Author.Tests.{eq-eqb, ne-eqb}
-use Rattle.common.specs.Promise.{Gives}
-use Rattle.common.specs.Search.{oneOf}
-use Rattle.common.specs.SearchLaws.{decide}
+use Rattle.search.specs.Promise.{Gives}
+use Rattle.search.specs.Search.{oneOf}
+use Rattle.search.specs.SearchLaws.{decide}
 use Rattle.common.specs.Rules.{tabulate, entry, onByte, hasRule, leastOf, tablesOf}
 use Rattle.common.specs.TableLaws.{table-entry}
 use Rattle.common.specs.Sets.{padded}

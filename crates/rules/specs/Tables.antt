@@ -4,7 +4,7 @@ use mathlib.Core.List.{List}
 use Prim.Native.Nat.{ℕ}
 use lib.Dec.{eqb}
 use lib.ListN.{take}
-use Rattle.common.specs.Search.{oneOf}
+use Rattle.search.specs.Search.{oneOf}
 use Rattle.common.specs.Rules.{tabulate, entry}
 use Rattle.common.specs.declared.grammar.Grammar.{Grammar}
 use Rattle.rules.specs.Grammar.{Rule, plain, sym, asym, Gram}

@@ -4,7 +4,7 @@ use crate::tables::fence_rows;
 use crate::tables::inline_tables;
 use common::fence_tests::fence_tables;
 use common::grammar::Grammar;
-ghost use Rattle.common.specs.Promise.{Gives};
+ghost use Rattle.search.specs.Promise.{Gives};
 ghost use Rattle.rules.specs.Columns.{columns, unequalInline, unequal};
 ghost use Rattle.rules.specs.RuleTables.{ruleTables};
 

@@ -1,9 +1,9 @@
 // Rules by byte: "the first rule with that byte decides", so all that a scan ever asks of the rules is a function of one byte. The
 // tables are filled from the last rule to the first.
-use common::search::byte_at;
 use common::sets::index;
+use search::byte_at;
 ghost use lib.ListN.{getD};
-ghost use Rattle.common.specs.Promise.{Gives};
+ghost use Rattle.search.specs.Promise.{Gives};
 ghost use Rattle.common.specs.Rules.{tabulate};
 ghost use Rattle.rules.specs.Columns.{openRule, symRule, fenceRow};
 ghost use Rattle.rules.specs.Tables.{tablesFor, ruleBy};

@@ -1,9 +1,8 @@
 -- What the parts of a work sheet ask and promise. Assumes nothing.
 use mathlib.Core.Path.{_≡_}
-use mathlib.Core.Bool.{Bool, true, false, cond}
+use mathlib.Core.Bool.{Bool, true, false}
 use mathlib.Core.List.{List, [], _∷_, map}
 use Prim.Native.Nat.{ℕ, _+_, _*_, _≤_, _<_}
-use lib.Dec.{ltb}
 use lib.ListN.{length}
 use Rattle.common.specs.Entry.{flatten, rows, room, Shaped, over, putAt}
 use Rattle.common.specs.Refusals.{Outcome, given, refuse}
@@ -20,13 +19,12 @@ use Rattle.sheet.specs.Sheet.{five, marked, counted, markItems, numbered
 use Rattle.sheet.specs.declared.item.SheetItem.{SheetItem}
 use Rattle.sheet.specs.declared.feed.Head.{Head}
 use Rattle.sheet.specs.declared.feed.Head.the-variants as head
-use Rattle.sheet.specs.declared.feed.Pick.{Pick}
-use Rattle.sheet.specs.declared.feed.Pick.the-variants as pick
 use Rattle.sheet.specs.declared.feed.Feed.{Feed}
 use Rattle.sheet.specs.declared.feed.Taken.{Taken}
 use Rattle.sheet.specs.declared.Query.{Query}
-use Rattle.sheet.specs.declared.Seen.{Seen}
-use Rattle.sheet.specs.declared.Seen.the-variants as seen
+use Rattle.sheet.specs.declared.item.Seen.{Seen}
+use Rattle.sheet.specs.declared.item.Seen.the-variants as seen
+use Rattle.sheet.specs.declared.Walk.{Walk}
 use Rattle.sheet.specs.declared.Step.{Step}
 
 -- item n written to its five places, and the next item's number
@@ -53,13 +51,6 @@ pub record Led (all : List SheetItem) (len : ℕ) (h : Head) (rest : List SheetI
   pub inside : pos ≤ len
 
 -- ---- both
--- which head is next: the one that starts first, the marker's where both start at one place
-abbrev pub picked : Head → Head → Pick
-picked (head.Item x) (head.Item y) = cond (ltb (y .start) (x .start)) (pick.Number y) (pick.Mark x)
-picked (head.Item x) head.End = pick.Mark x
-picked head.End (head.Item y) = pick.Number y
-picked head.End head.End = pick.Neither
-
 -- scanners that stand within a text that is not too long
 pub record Within (f : Feed) (len : ℕ) : Type 0 where
   pub marks : f .marks .rest .pos ≤ len
@@ -75,13 +66,11 @@ module _ (markers delims : List Bool) where
   pub record Took (s : List ℕ) (f : Feed) (t : Taken) : Type 0 where
     pub same : ahead s f ≡ headed (t .head) (ahead s (t .rest))
     pub within : Within (t .rest) (length s)
-    pub index : t .rest .index ≡ f .index
 
 -- the beginning: all items
 pub record Started (g : Grammar) (markers delims : List Bool) (s : List ℕ) (f : Feed) : Type 0 where
   pub same : ahead markers delims s f ≡ merge (markItems g markers s) (numberedItems g delims s)
   pub within : Within f (length s)
-  pub index : f .index ≡ 0
 
 -- ---- with the list
 -- a list with its first n regions in order
@@ -115,22 +104,22 @@ Beyond seen.End P = Unit {0}
 
 module _ (markers delims : List Bool) (l : List ℕ) (n : ℕ) (s : List ℕ) where
   -- the items ahead that no region hides
-  unfoldable pub left : Feed → List SheetItem
-  left f = outside (rows 2 n l) (ahead markers delims s f)
+  unfoldable pub left : Walk → List SheetItem
+  left w = outside (rows 2 n l) (ahead markers delims s (w .feed))
 
   -- scanners and a cursor that may go on: no place ahead is before the last one that was asked for
-  pub record Ready (f : Feed) : Type 0 where
-    pub within : Within f (length s)
+  pub record Ready (w : Walk) : Type 0 where
+    pub within : Within (w .feed) (length s)
     pub orderly : Orderly l n
     pub low : ℕ
-    pub ended : Ended 2 l n (f .index) low
-    pub rising : Rising low (map placeOf (ahead markers delims s f))
-    pub few : length (ahead markers delims s f) ≤ 4294967295
+    pub ended : Ended 2 l n (w .index) low
+    pub rising : Rising low (map placeOf (ahead markers delims s (w .feed)))
+    pub few : length (ahead markers delims s (w .feed)) ≤ 4294967295
 
   -- what a turn tells of the items left, and that it may go on, with fewer ahead
-  pub record Turned (f : Feed) (t : Step) : Type 0 where
-    pub same : left f ≡ seenThen (t .seen) (left (t .rest))
-    pub goes : Beyond (t .seen) (Ready (t .rest) × (length (ahead markers delims s (t .rest)) < length (ahead markers delims s f)))
+  pub record Turned (w : Walk) (t : Step) : Type 0 where
+    pub same : left w ≡ seenThen (t .seen) (left (t .rest))
+    pub goes : Beyond (t .seen) (Ready (t .rest) × (length (ahead markers delims s (t .rest .feed)) < length (ahead markers delims s (w .feed))))
 
 -- ---- items written
 -- over the front of a run, and how many

@@ -8,7 +8,7 @@ use native.Mathlib.Omega.{arith}
 use lib.Dec.{ltb}
 use lib.ListN.{length}
 use borrow.Author.Tests.{ltb-true, ltb-false}
-use Rattle.common.specs.SearchLaws.{decide}
+use Rattle.search.specs.SearchLaws.{decide}
 use Rattle.common.specs.Turn.{Turn, thenCollect, collect, Adv}
 use Rattle.common.specs.TurnLaws.{by-turn}
 use Rattle.common.specs.declared.grammar.Grammar.{Grammar}

@@ -7,7 +7,7 @@ use native.Mathlib.Nat.{add-assoc}
 use native.Mathlib.Omega.{arith}
 use lib.ListN.{length, set, length-append}
 use borrow.Author.Tests.{lt-ltb, le-ltb}
-use Rattle.common.specs.Promise.{Gives}
+use Rattle.search.specs.Promise.{Gives}
 use Rattle.common.specs.Refusals.{Outcome, given, refused, told}
 use Rattle.common.specs.RefusalLaws.{answer-unique}
 use Rattle.common.specs.Entry.{flatten, rows, room, Written}
@@ -17,11 +17,14 @@ use Rattle.common.specs.declared.grammar.Grammar.{Grammar}
 use Rattle.context.specs.Shape.{misshapen}
 use Rattle.context.specs.ShapeLaws.{shape-fits, shape-order}
 use Rattle.sheet.specs.Sheet.{five, outside, sheetOf, full, sheetAnswer, sheetList, Sheeted}
+use Rattle.sheet.specs.Feeds.{begun}
+use Rattle.sheet.specs.FeedLaws.{started}
 use Rattle.sheet.specs.Parts.{Put, ahead, Started, left, Ready, Turned, Wrote, Filled}
 use Rattle.sheet.specs.RunLaws.{items-few, places-rise, outside-few}
 use Rattle.sheet.specs.declared.item.SheetItem.{SheetItem}
 use Rattle.sheet.specs.declared.feed.Feed.{Feed}
-use Rattle.sheet.specs.declared.Seen.the-variants as seen
+use Rattle.sheet.specs.declared.item.Seen.the-variants as seen
+use Rattle.sheet.specs.declared.Walk.{Walk}
 use Rattle.sheet.specs.declared.Step.{Step}
 
 pub five-numbers : (i : SheetItem) → length (five i) ≡ 5
@@ -33,29 +36,29 @@ item-put n i out = record { next = refl; list = simp add-assoc }
 
 -- ---- the loops: of all items that are shown, those of a feed are left
 module _ (markers delims : List Bool) (l : List ℕ) (n : ℕ) (s : List ℕ) where
-  pub record Tallied (all : List SheetItem) (f : Feed) (k : ℕ) : Type 0 where
+  pub record Tallied (all : List SheetItem) (f : Walk) (k : ℕ) : Type 0 where
     pub ready : Ready markers delims l n s f
     pub count : k + length (left markers delims l n s f) ≡ length all
     pub few : length all ≤ 4294967295
 
-  pub record Writing (all : List SheetItem) (out₀ : List ℕ) (f : Feed) (out : List ℕ) (k : ℕ) : Type 0 where
+  pub record Writing (all : List SheetItem) (out₀ : List ℕ) (f : Walk) (out : List ℕ) (k : ℕ) : Type 0 where
     pub ready : Ready markers delims l n s f
     pub wrote : Written (flatten five all) (flatten five (left markers delims l n s f)) out₀ out (k * 5)
 
-  module _ (f : Feed) (r : Ready markers delims l n s f) where
+  module _ (f : Walk) (r : Ready markers delims l n s f) where
     pub tally-first : Tallied (left markers delims l n s f) f 0
     unfolding left
-    tally-first = record { ready = r; count = omega arith; few = omega (arith, r .few, outside-few (rows 2 n l) (ahead markers delims s f)) }
+    tally-first = record { ready = r; count = omega arith; few = omega (arith, r .few, outside-few (rows 2 n l) (ahead markers delims s (f .feed))) }
 
     pub write-first : (out : List ℕ) → length (left markers delims l n s f) ≤ room 5 out → Writing (left markers delims l n s f) out f out 0
     write-first out h = record { ready = r; wrote = written-none (omega (arith, room-fits 5 (length (left markers delims l n s f)) out h, length-flatten five 5 five-numbers (left markers delims l n s f))) }
 
   -- what a turn told
-  module _ (f : Feed) (t : Step) where
-    pub less-hidden : t .seen ≡ seen.Hidden → Turned markers delims l n s f t → length (ahead markers delims s (t .rest)) < length (ahead markers delims s f)
+  module _ (f : Walk) (t : Step) where
+    pub less-hidden : t .seen ≡ seen.Hidden → Turned markers delims l n s f t → length (ahead markers delims s (t .rest .feed)) < length (ahead markers delims s (f .feed))
     less-hidden e w = (rw e at (w .goes)) .1
 
-    pub less-shown : (i : SheetItem) → t .seen ≡ seen.Shown i → Turned markers delims l n s f t → length (ahead markers delims s (t .rest)) < length (ahead markers delims s f)
+    pub less-shown : (i : SheetItem) → t .seen ≡ seen.Shown i → Turned markers delims l n s f t → length (ahead markers delims s (t .rest .feed)) < length (ahead markers delims s (f .feed))
     less-shown i e w = (rw e at (w .goes)) .1
 
     module _ (all : List SheetItem) (k : ℕ) where
@@ -105,47 +108,50 @@ module _ (markers delims : List Bool) (l : List ℕ) (n : ℕ) (s : List ℕ) wh
       write-long = c .wrote .long
 
 -- ---- the ways out of filling: `most` is the room
-module _ (g : Grammar) (markers delims : List Bool) (l : List ℕ) (n : ℕ) (s : List ℕ) (f : Feed) (w : Started g markers delims s f) where
-  started-left : left markers delims l n s f ≡ sheetOf g markers delims l n s
+module _ (g : Grammar) (markers delims : List Bool) (l : List ℕ) (n : ℕ) (s : List ℕ) (a : Feed) (short : length s ≤ 4294967295) (d : Gives (begun g markers delims s) a) where
+  w : Started g markers delims s a
+  w = started g markers delims s a short d
+
+  started-left : left markers delims l n s (record { feed = a; index = 0 }) ≡ sheetOf g markers delims l n s
   unfolding left sheetOf
   started-left = ap (outside (rows 2 n l)) (w .same)
 
-  pub started-ready : misshapen l n (length s) ≡ false → Ready markers delims l n s f
+  pub started-ready : misshapen l n (length s) ≡ false → Ready markers delims l n s (record { feed = a; index = 0 })
   started-ready m = record {
     within = w .within;
     orderly = record { fits = shape-fits l n (length s) m; len = length s; order = shape-order l n (length s) m };
     low = 0;
-    ended = rw (w .index) (record { within = omega arith; before = λ j h. absurd (omega arith) });
+    ended = record { within = omega arith; before = λ j h. absurd (omega arith) };
     rising = rw (w .same) (places-rise g markers delims s);
     few = omega (arith, w .within .short, ap length (w .same), items-few g markers delims s);
   }
 
-  sheet-few : length (left markers delims l n s f) ≤ length s
+  sheet-few : length (left markers delims l n s (record { feed = a; index = 0 })) ≤ length s
   unfolding left
-  sheet-few = omega (arith, outside-few (rows 2 n l) (ahead markers delims s f), ap length (w .same), items-few g markers delims s)
+  sheet-few = omega (arith, outside-few (rows 2 n l) (ahead markers delims s a), ap length (w .same), items-few g markers delims s)
 
   module _ (out : List ℕ) (most : ℕ) (hm : most ≡ length out / 5) where
     -- there is room
-    pub room-roomy : length s ≤ most → length (left markers delims l n s f) ≤ room 5 out
+    pub room-roomy : length s ≤ most → length (left markers delims l n s (record { feed = a; index = 0 })) ≤ room 5 out
     room-roomy h = omega (arith, sheet-few)
 
-    pub room-counted : (k : ℕ) → k ≤ most → Gives (length (left markers delims l n s f)) k → length (left markers delims l n s f) ≤ room 5 out
+    pub room-counted : (k : ℕ) → k ≤ most → Gives (length (left markers delims l n s (record { feed = a; index = 0 }))) k → length (left markers delims l n s (record { feed = a; index = 0 })) ≤ room 5 out
     room-counted k h c = omega (arith, c .answer)
 
-    fill-done : (out′ : List ℕ) (k : ℕ) → length (left markers delims l n s f) ≤ most → Wrote (left markers delims l n s f) out out′ k → Filled (sheetOf g markers delims l n s) out out′ (given (k ∷ []))
+    fill-done : (out′ : List ℕ) (k : ℕ) → length (left markers delims l n s (record { feed = a; index = 0 })) ≤ most → Wrote (left markers delims l n s (record { feed = a; index = 0 })) out out′ k → Filled (sheetOf g markers delims l n s) out out′ (given (k ∷ []))
     fill-done out′ k h v =
-        let t : full (left markers delims l n s f) out ≡ false = le-ltb (length out / 5) (length (left markers delims l n s f)) (omega arith) in
+        let t : full (left markers delims l n s (record { feed = a; index = 0 })) out ≡ false = le-ltb (length out / 5) (length (left markers delims l n s (record { feed = a; index = 0 }))) (omega arith) in
         subst (λ (x : List SheetItem). Filled x out out′ (given (k ∷ []))) started-left (record { answer = simp (t, v .count); list = v .list ∙ simp t })
 
-    pub fill-roomy : (out′ : List ℕ) (k : ℕ) → length s ≤ most → Wrote (left markers delims l n s f) out out′ k → Filled (sheetOf g markers delims l n s) out out′ (given (k ∷ []))
+    pub fill-roomy : (out′ : List ℕ) (k : ℕ) → length s ≤ most → Wrote (left markers delims l n s (record { feed = a; index = 0 })) out out′ k → Filled (sheetOf g markers delims l n s) out out′ (given (k ∷ []))
     fill-roomy out′ k h v = fill-done out′ k (omega (arith, sheet-few)) v
 
-    pub fill-full : (k : ℕ) → most < k → Gives (length (left markers delims l n s f)) k → Filled (sheetOf g markers delims l n s) out out (refused 3)
+    pub fill-full : (k : ℕ) → most < k → Gives (length (left markers delims l n s (record { feed = a; index = 0 }))) k → Filled (sheetOf g markers delims l n s) out out (refused 3)
     fill-full k h c =
-        let t : full (left markers delims l n s f) out ≡ true = lt-ltb (length out / 5) (length (left markers delims l n s f)) (omega (arith, c .answer)) in
+        let t : full (left markers delims l n s (record { feed = a; index = 0 })) out ≡ true = lt-ltb (length out / 5) (length (left markers delims l n s (record { feed = a; index = 0 }))) (omega (arith, c .answer)) in
         subst (λ (x : List SheetItem). Filled x out out (refused 3)) started-left (record { answer = simp t; list = simp t })
 
-    pub fill-counted : (out′ : List ℕ) (j k : ℕ) → j ≤ most → Gives (length (left markers delims l n s f)) j → Wrote (left markers delims l n s f) out out′ k → Filled (sheetOf g markers delims l n s) out out′ (given (k ∷ []))
+    pub fill-counted : (out′ : List ℕ) (j k : ℕ) → j ≤ most → Gives (length (left markers delims l n s (record { feed = a; index = 0 }))) j → Wrote (left markers delims l n s (record { feed = a; index = 0 })) out out′ k → Filled (sheetOf g markers delims l n s) out out′ (given (k ∷ []))
     fill-counted out′ j k h c v = fill-done out′ k (omega (arith, c .answer)) v
 
 -- ---- the ways out of the entry

@@ -6,8 +6,8 @@ use mathlib.Core.Logic.{_⊎_, inl, inr}
 use Prim.Native.Nat.{ℕ, _<_}
 use native.Mathlib.Omega.{arith}
 use lib.ListN.{length}
-use Rattle.common.specs.Promise.{Gives, Steps}
-use Rattle.common.specs.SearchLaws.{decide}
+use Rattle.search.specs.Promise.{Gives, Steps}
+use Rattle.search.specs.SearchLaws.{decide}
 use Rattle.common.specs.Refusals.{Outcome, toldFound}
 use Rattle.common.specs.Entry.{rows}
 use Rattle.common.specs.declared.refusal.Found.{Found}
@@ -16,13 +16,15 @@ use Rattle.context.specs.Cursor.{coverAnswer, coverNext, covers, coverage, Risi
 use Rattle.context.specs.CursorLaws.{query-ended}
 use Rattle.context.specs.declared.cursor.Cover.{Cover}
 use Rattle.sheet.specs.Sheet.{placeOf, inside, outside}
+use Rattle.sheet.specs.Feeds.{taken}
+use Rattle.sheet.specs.FeedLaws.{took}
 use Rattle.sheet.specs.Parts.{ahead, Took, Orderly, isAt, Hid, left, Ready, Turned}
 use Rattle.sheet.specs.declared.item.SheetItem.{SheetItem}
 use Rattle.sheet.specs.declared.feed.Head.the-variants as head
-use Rattle.sheet.specs.declared.feed.Feed.{Feed}
 use Rattle.sheet.specs.declared.feed.Taken.{Taken}
+use Rattle.sheet.specs.declared.Walk.{Walk}
 use Rattle.sheet.specs.declared.Query.{Query}
-use Rattle.sheet.specs.declared.Seen.the-variants as seen
+use Rattle.sheet.specs.declared.item.Seen.the-variants as seen
 
 -- ---- a query
 -- whether a list of ends has one
@@ -56,42 +58,41 @@ hid l n index place p c b o e gp q g =
     }
 
 -- ---- a turn
-outside-hidden : (regions : List (List ℕ)) (i : SheetItem) (l : List SheetItem) → inside regions (placeOf i) ≡ true → outside regions (i ∷ l) ≡ outside regions l
+pub outside-hidden : (regions : List (List ℕ)) (i : SheetItem) (l : List SheetItem) → inside regions (placeOf i) ≡ true → outside regions (i ∷ l) ≡ outside regions l
 unfolding outside
 outside-hidden regions i l e = rw (e, outside)
 
-outside-shown : (regions : List (List ℕ)) (i : SheetItem) (l : List SheetItem) → inside regions (placeOf i) ≡ false → outside regions (i ∷ l) ≡ i ∷ outside regions l
+pub outside-shown : (regions : List (List ℕ)) (i : SheetItem) (l : List SheetItem) → inside regions (placeOf i) ≡ false → outside regions (i ∷ l) ≡ i ∷ outside regions l
 unfolding outside
 outside-shown regions i l e = rw (e, outside)
 
-module _ (markers delims : List Bool) (l : List ℕ) (n : ℕ) (s : List ℕ) (f : Feed) (t : Taken) where
-  pub turned-end : t .head ≡ head.End → Took markers delims s f t → Turned markers delims l n s f (record { seen = seen.End; rest = t .rest })
+module _ (markers delims : List Bool) (l : List ℕ) (n : ℕ) (s : List ℕ) (f : Walk) (t : Taken) where
+  pub turned-end : (k : ℕ) → t .head ≡ head.End → Gives (taken markers delims s (f .feed)) t → Ready markers delims l n s f → Turned markers delims l n s f (record { seen = seen.End; rest = record { feed = t .rest; index = k } })
   unfolding left outside
-  turned-end e w =
-      let z : ahead markers delims s f ≡ [] = w .same ∙ rw e in
+  turned-end k e g r =
+      let z : ahead markers delims s (f .feed) ≡ [] = took markers delims s (f .feed) t g (r .within) .same ∙ rw e in
       record { same = ap (outside (rows 2 n l)) z; goes = tt }
 
-  module _ (i : SheetItem) (e : t .head ≡ head.Item i) (w : Took markers delims s f t) (r : Ready markers delims l n s f) where
-    next : ahead markers delims s f ≡ i ∷ ahead markers delims s (t .rest)
+  module _ (i : SheetItem) (e : t .head ≡ head.Item i) (g : Gives (taken markers delims s (f .feed)) t) (r : Ready markers delims l n s f) where
+    w : Took markers delims s (f .feed) t
+    w = took markers delims s (f .feed) t g (r .within)
+
+    next : ahead markers delims s (f .feed) ≡ i ∷ ahead markers delims s (t .rest)
     next = w .same ∙ rw e
 
     rises : Rising (r .low) (placeOf i ∷ map placeOf (ahead markers delims s (t .rest)))
     rises = subst (λ (k : List SheetItem). Rising (r .low) (map placeOf k)) next (r .rising)
 
     -- the item's place is not before the last one
-    pub item-ended : Ended 2 l n (t .rest .index) (placeOf i)
-    item-ended = rw (w .index) (record { within = r .ended .within; before = λ j h. omega (arith, r .ended .before j h, rises .0) })
+    pub item-ended : Ended 2 l n (f .index) (placeOf i)
+    item-ended = record { within = r .ended .within; before = λ j h. omega (arith, r .ended .before j h, rises .0) }
 
     module _ (q : Query) (h : Hid l n (placeOf i) q) where
       -- what comes after it, with the cursor moved on
-      rest : Feed
-      rest = record { marks = t .rest .marks; numbers = t .rest .numbers; index = q .index }
-
-      goes-on : Ready markers delims l n s rest × (length (ahead markers delims s rest) < length (ahead markers delims s f))
-      unfolding rest ahead
+      goes-on : Ready markers delims l n s (record { feed = t .rest; index = q .index }) × (length (ahead markers delims s (t .rest)) < length (ahead markers delims s (f .feed)))
       goes-on = (
         record {
-          within = record { marks = w .within .marks; numbers = w .within .numbers; short = w .within .short };
+          within = w .within;
           orderly = r .orderly;
           low = placeOf i;
           ended = h .ended;
@@ -101,10 +102,10 @@ module _ (markers delims : List Bool) (l : List ℕ) (n : ℕ) (s : List ℕ) (f
         omega (arith, ap length next),
       )
 
-      pub turned-hidden : q .hidden ≡ true → Turned markers delims l n s f (record { seen = seen.Hidden; rest = record { marks = t .rest .marks; numbers = t .rest .numbers; index = q .index } })
-      unfolding rest left ahead
+      pub turned-hidden : q .hidden ≡ true → Turned markers delims l n s f (record { seen = seen.Hidden; rest = record { feed = t .rest; index = q .index } })
+      unfolding left
       turned-hidden u = record { same = ap (outside (rows 2 n l)) next ∙ outside-hidden (rows 2 n l) i (ahead markers delims s (t .rest)) (sym (h .hidden) ∙ u); goes = goes-on }
 
-      pub turned-shown : q .hidden ≡ false → Turned markers delims l n s f (record { seen = seen.Shown i; rest = record { marks = t .rest .marks; numbers = t .rest .numbers; index = q .index } })
-      unfolding rest left ahead
+      pub turned-shown : q .hidden ≡ false → Turned markers delims l n s f (record { seen = seen.Shown i; rest = record { feed = t .rest; index = q .index } })
+      unfolding left
       turned-shown u = record { same = ap (outside (rows 2 n l)) next ∙ outside-shown (rows 2 n l) i (ahead markers delims s (t .rest)) (sym (h .hidden) ∙ u); goes = goes-on }

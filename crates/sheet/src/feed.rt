@@ -1,42 +1,40 @@
-// Both scanners as one run of items: each stands one item ahead, so that the lesser of the two is known and no item is sought twice.
+// Both scanners as one run of items: each stands one item ahead, so that the lesser of the two is known and no item is sought twice. A
+// scanner's refusal counts as its end.
 use crate::item::SheetItem;
 use block_marker::BlockMarkerIter;
 use block_marker::MarkerFound;
 use block_numbered::BlockNumberedIter;
 use block_numbered::NumberedFound;
 use common::grammar::Grammar;
-ghost use Prim.Native.Nat.{_≤_};
-ghost use lib.ListN.{length};
-ghost use Rattle.common.specs.Promise.{Gives};
-ghost use Rattle.sheet.specs.Parts.{picked, marksOf, numbersOf, Led, Within, Started, Took};
+ghost use Rattle.search.specs.Promise.{Gives};
+ghost use Rattle.sheet.specs.Feeds.{marksAfter, numbersAfter, begun, picked, taken};
 
 // The next item, or the end of the run.
-pub(crate) enum Head {
+pub enum Head {
     Item(SheetItem),
     End,
 }
 
 // The marker scanner, one item ahead.
-pub(crate) struct Marks {
+pub struct Marks {
     pub head: Head,
     pub rest: BlockMarkerIter,
 }
 
 // The numbered scanner, one item ahead.
-pub(crate) struct Numbers {
+pub struct Numbers {
     pub head: Head,
     pub rest: BlockNumberedIter,
 }
 
-// Both, and the cursor's index in the list.
-pub(crate) struct Feed {
+// Both.
+pub struct Feed {
     pub marks: Marks,
     pub numbers: Numbers,
-    pub index: usize,
 }
 
 // The next item of both, and what comes after it.
-pub(crate) struct Taken {
+pub struct Taken {
     pub head: Head,
     pub rest: Feed,
 }
@@ -50,9 +48,7 @@ enum Pick {
 
 // The marker scanner's next item.
 fn next_mark(g: BlockMarkerIter, src: &[u8], set: &[bool; 256]) -> Marks
-    requires { ⌜ g .pos ≤ length (now src) ⌝ }
-    requires { ⌜ length (now src) ≤ 4294967295 ⌝ }
-    ensures { λ r. ⌜ Led (marksOf g (now (set .entry)) (now (src .entry))) (length (now (src .entry))) (r .head) (marksOf (r .rest) (now (set .entry)) (now (src .entry))) (r .rest .pos) ⌝ }
+    ensures { λ r. ⌜ Gives (marksAfter (now (set .entry)) (now (src .entry)) g) r ⌝ }
 {
     let step = g.next(src, set);
     let rest = step.next;
@@ -81,9 +77,7 @@ fn next_mark(g: BlockMarkerIter, src: &[u8], set: &[bool; 256]) -> Marks
 
 // The numbered scanner's next item.
 fn next_number(g: BlockNumberedIter, src: &[u8], set: &[bool; 256]) -> Numbers
-    requires { ⌜ g .pos ≤ length (now src) ⌝ }
-    requires { ⌜ length (now src) ≤ 4294967295 ⌝ }
-    ensures { λ r. ⌜ Led (numbersOf g (now (set .entry)) (now (src .entry))) (length (now (src .entry))) (r .head) (numbersOf (r .rest) (now (set .entry)) (now (src .entry))) (r .rest .pos) ⌝ }
+    ensures { λ r. ⌜ Gives (numbersAfter (now (set .entry)) (now (src .entry)) g) r ⌝ }
 {
     let step = g.next(src, set);
     let rest = step.next;
@@ -110,10 +104,9 @@ fn next_number(g: BlockNumberedIter, src: &[u8], set: &[bool; 256]) -> Numbers
     }
 }
 
-// Both scanners from the text's start, by fresh states, and a fresh cursor.
-pub(crate) fn start(g: Grammar, src: &[u8], markers: &[bool; 256], delims: &[bool; 256]) -> Feed
-    requires { ⌜ length (now src) ≤ 4294967295 ⌝ }
-    ensures { λ r. ⌜ Started g (now (markers .entry)) (now (delims .entry)) (now (src .entry)) r ⌝ }
+// Both scanners from the text's start, by fresh states.
+pub fn start(g: Grammar, src: &[u8], markers: &[bool; 256], delims: &[bool; 256]) -> Feed
+    ensures { λ r. ⌜ Gives (begun g (now (markers .entry)) (now (delims .entry)) (now (src .entry))) r ⌝ }
 {
     let marks = next_mark(
         BlockMarkerIter::new(g.eol, g.sep, g.tab, markers),
@@ -125,11 +118,7 @@ pub(crate) fn start(g: Grammar, src: &[u8], markers: &[bool; 256], delims: &[boo
         src,
         delims,
     );
-    Feed {
-        marks,
-        numbers,
-        index: 0,
-    }
+    Feed { marks, numbers }
 }
 
 // The item that starts first, the marker where both start at one place.
@@ -154,9 +143,8 @@ fn first_of(mark: Head, number: Head) -> Pick
 }
 
 // Takes the next item of both, and moves its scanner on.
-pub(crate) fn take(f: Feed, src: &[u8], markers: &[bool; 256], delims: &[bool; 256]) -> Taken
-    requires { ⌜ Within f (length (now src)) ⌝ }
-    ensures { λ r. ⌜ Took (now (markers .entry)) (now (delims .entry)) (now (src .entry)) f r ⌝ }
+pub fn take(f: Feed, src: &[u8], markers: &[bool; 256], delims: &[bool; 256]) -> Taken
+    ensures { λ r. ⌜ Gives (taken (now (markers .entry)) (now (delims .entry)) (now (src .entry)) f) r ⌝ }
 {
     let marks = f.marks;
     let numbers = f.numbers;
@@ -170,7 +158,6 @@ pub(crate) fn take(f: Feed, src: &[u8], markers: &[bool; 256], delims: &[bool; 2
                 rest: Feed {
                     marks: more,
                     numbers,
-                    index: f.index,
                 },
             }
         }
@@ -181,7 +168,6 @@ pub(crate) fn take(f: Feed, src: &[u8], markers: &[bool; 256], delims: &[bool; 2
                 rest: Feed {
                     marks,
                     numbers: more,
-                    index: f.index,
                 },
             }
         }

@@ -1,7 +1,7 @@
 // The sheet's items, each as five numbers.
 ghost use Prim.Native.Nat.{_+_, _*_, _≤_};
 ghost use lib.ListN.{length};
-ghost use Rattle.common.specs.Promise.{Gives};
+ghost use Rattle.search.specs.Promise.{Gives};
 ghost use Rattle.sheet.specs.Sheet.{placeOf};
 ghost use Rattle.sheet.specs.Parts.{Put};
 
@@ -14,8 +14,15 @@ pub struct SheetItem {
     pub number: u32,
 }
 
+// The next item as a turn finds it: one that is shown, one that a region hides, or none.
+pub enum Seen {
+    Shown(SheetItem),
+    Hidden,
+    End,
+}
+
 // The place that a region hides an item by.
-pub(crate) fn place_of(item: SheetItem) -> usize
+pub fn place_of(item: SheetItem) -> usize
     ensures { λ r. ⌜ Gives (placeOf item) r ⌝ }
 {
     item.start as usize

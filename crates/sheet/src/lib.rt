@@ -1,6 +1,6 @@
 // The work sheet: the marker and numbered items of a text that no region of a list hides, by rising content start. Both scanners and the
 // list's cursor move forward together, so that the text and the list are passed once.
-mod feed; // both scanners as one run of items
+pub mod feed; // both scanners as one run of items
 pub mod item; // the sheet's items
 
 use common::grammar::Grammar;
@@ -14,6 +14,7 @@ use feed::Feed;
 use feed::Head;
 use feed::start;
 use feed::take;
+use item::Seen;
 use item::SheetItem;
 use item::place_of;
 use item::put_item;
@@ -21,7 +22,7 @@ ghost use mathlib.Core.Path.{_≡_};
 ghost use mathlib.Core.Bool.{false};
 ghost use Prim.Native.Nat.{_≤_};
 ghost use lib.ListN.{length};
-ghost use Rattle.common.specs.Promise.{Gives};
+ghost use Rattle.search.specs.Promise.{Gives};
 ghost use Rattle.common.specs.Entry.{room};
 ghost use Rattle.common.specs.Refusals.{told};
 ghost use Rattle.context.specs.Cursor.{Ended};
@@ -35,17 +36,16 @@ struct Query {
     index: usize,
 }
 
-// The next item as a turn finds it.
-enum Seen {
-    Shown(SheetItem),
-    Hidden,
-    End,
+// Both scanners, and the cursor's index in the list.
+struct Walk {
+    feed: Feed,
+    index: usize,
 }
 
 // What a turn tells, and what comes after the item.
 struct Step {
     seen: Seen,
-    rest: Feed,
+    rest: Walk,
 }
 
 // Whether a query found a region.
@@ -75,27 +75,33 @@ fn hides(list: &[u32], count: usize, index: usize, item: SheetItem) -> Query
 
 // Takes the next item, and tells whether it is shown.
 fn turn(
-    f: Feed,
+    w: Walk,
     src: &[u8],
     markers: &[bool; 256],
     delims: &[bool; 256],
     list: &[u32],
     count: usize,
 ) -> Step
-    requires { ⌜ Ready (now markers) (now delims) (now list) count (now src) f ⌝ }
-    ensures { λ r. ⌜ Turned (now (markers .entry)) (now (delims .entry)) (now (list .entry)) count (now (src .entry)) f r ⌝ }
+    requires { ⌜ Ready (now markers) (now delims) (now list) count (now src) w ⌝ }
+    ensures { λ r. ⌜ Turned (now (markers .entry)) (now (delims .entry)) (now (list .entry)) count (now (src .entry)) w r ⌝ }
 {
-    let taken = take(f, src, markers, delims);
+    let taken = take(w.feed, src, markers, delims);
     let head = taken.head;
-    let mut rest = taken.rest;
+    let feed = taken.rest;
     match head {
         Head::End => Step {
             seen: Seen::End,
-            rest,
+            rest: Walk {
+                feed,
+                index: w.index,
+            },
         },
         Head::Item(i) => {
-            let h = hides(list, count, rest.index, i);
-            rest.index = h.index;
+            let h = hides(list, count, w.index, i);
+            let rest = Walk {
+                feed,
+                index: h.index,
+            };
             if h.hidden {
                 return Step {
                     seen: Seen::Hidden,
@@ -112,20 +118,20 @@ fn turn(
 
 // How many items are shown.
 fn count_items(
-    feed: Feed,
+    walk: Walk,
     src: &[u8],
     markers: &[bool; 256],
     delims: &[bool; 256],
     list: &[u32],
     count: usize,
 ) -> usize
-    requires { ⌜ Ready (now markers) (now delims) (now list) count (now src) feed ⌝ }
-    ensures { λ r. ⌜ Gives (length (left (now (markers .entry)) (now (delims .entry)) (now (list .entry)) count (now (src .entry)) feed)) r ⌝ }
+    requires { ⌜ Ready (now markers) (now delims) (now list) count (now src) walk ⌝ }
+    ensures { λ r. ⌜ Gives (length (left (now (markers .entry)) (now (delims .entry)) (now (list .entry)) count (now (src .entry)) walk)) r ⌝ }
 {
-    let mut f = feed;
+    let mut w = walk;
     let mut n: usize = 0;
     loop {
-        let t = turn(f, src, markers, delims, list, count);
+        let t = turn(w, src, markers, delims, list, count);
         let seen = t.seen;
         let rest = t.rest;
         match seen {
@@ -133,11 +139,11 @@ fn count_items(
                 return n;
             }
             Seen::Hidden => {
-                f = rest;
+                w = rest;
             }
             Seen::Shown(_) => {
                 n += 1;
-                f = rest;
+                w = rest;
             }
         }
     }
@@ -145,7 +151,7 @@ fn count_items(
 
 // Writes the items that are shown over the front of `out`, which has room for them, and says how many there are.
 fn write_items(
-    feed: Feed,
+    walk: Walk,
     src: &[u8],
     markers: &[bool; 256],
     delims: &[bool; 256],
@@ -153,14 +159,14 @@ fn write_items(
     count: usize,
     out: &mut [u32],
 ) -> usize
-    requires { ⌜ Ready (now markers) (now delims) (now list) count (now src) feed ⌝ }
-    requires { ⌜ length (left (now markers) (now delims) (now list) count (now src) feed) ≤ room 5 (now out) ⌝ }
-    ensures { λ r. ⌜ Wrote (left (now (markers .entry)) (now (delims .entry)) (now (list .entry)) count (now (src .entry)) feed) (now (out .entry)) (now (out .exit)) r ⌝ }
+    requires { ⌜ Ready (now markers) (now delims) (now list) count (now src) walk ⌝ }
+    requires { ⌜ length (left (now markers) (now delims) (now list) count (now src) walk) ≤ room 5 (now out) ⌝ }
+    ensures { λ r. ⌜ Wrote (left (now (markers .entry)) (now (delims .entry)) (now (list .entry)) count (now (src .entry)) walk) (now (out .entry)) (now (out .exit)) r ⌝ }
 {
-    let mut f = feed;
+    let mut w = walk;
     let mut n: usize = 0;
     loop {
-        let t = turn(f, src, markers, delims, list, count);
+        let t = turn(w, src, markers, delims, list, count);
         let seen = t.seen;
         let rest = t.rest;
         match seen {
@@ -168,11 +174,11 @@ fn write_items(
                 return n;
             }
             Seen::Hidden => {
-                f = rest;
+                w = rest;
             }
             Seen::Shown(i) => {
                 n = put_item(out, n, i);
-                f = rest;
+                w = rest;
             }
         }
     }
@@ -195,15 +201,18 @@ fn fill(
     ensures { λ r. ⌜ Filled (sheetOf g (now (markers .entry)) (now (delims .entry)) (now (list .entry)) count (now (src .entry))) (now (out .entry)) (now (out .exit)) (told r) ⌝ }
 {
     let most = out.len() / 5;
-    let feed = start(g, src, markers, delims);
+    let walk = Walk {
+        feed: start(g, src, markers, delims),
+        index: 0,
+    };
     if src.len() <= most {
-        return Answer::Value(write_items(feed, src, markers, delims, list, count, out));
+        return Answer::Value(write_items(walk, src, markers, delims, list, count, out));
     }
-    let n = count_items(feed, src, markers, delims, list, count);
+    let n = count_items(walk, src, markers, delims, list, count);
     if most < n {
         return Answer::Refused(Refusal::NoRoom);
     }
-    Answer::Value(write_items(feed, src, markers, delims, list, count, out))
+    Answer::Value(write_items(walk, src, markers, delims, list, count, out))
 }
 
 // Writes the work sheet of a text: the marker and numbered items, by the bytes of two sets, whose content starts in none of the list's

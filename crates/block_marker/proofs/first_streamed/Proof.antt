@@ -2,7 +2,7 @@
 use borrow.Author.Needs.{needs}
 use Prim.Native.Nat.{_-_}
 use lib.ListN.{length, take}
-use Rattle.common.specs.Search.{oneOf}
+use Rattle.search.specs.Search.{oneOf}
 use Rattle.common.specs.Items.{grammar}
 use Rattle.common.specs.Turn.{Stands}
 use Rattle.common.specs.TurnLaws.{stands-first, stands-less, stands-again, stands-stop, stands-found}

@@ -7,10 +7,10 @@ use Rattle.sheet.proofs.count_items.Statement.{statement}
 use Rattle.sheet.proofs.count_items.Tie as tie
 
 abbrev Inv-loop : tie.InvT-loop
-Inv-loop src markers delims list count f₀ n₀ f n = Tallied markers delims list count src (left markers delims list count src f₀) f n
+Inv-loop src markers delims list count w₀ n₀ w n = Tallied markers delims list count src (left markers delims list count src w₀) w n
 
 abbrev μ-loop : tie.MeasureT-loop
-μ-loop src markers delims list count f₀ n₀ f n = length (ahead markers delims src f)
+μ-loop src markers delims list count w₀ n₀ w n = length (ahead markers delims src (w .feed))
 
 loop-holds : tie.Need-loop-holds Inv-loop μ-loop
 loop-holds c = search tally-first

@@ -7,10 +7,10 @@ use Rattle.sheet.proofs.write_items.Statement.{statement}
 use Rattle.sheet.proofs.write_items.Tie as tie
 
 abbrev Inv-loop : tie.InvT-loop
-Inv-loop src markers delims list count out₀ f₀ n₀ out f n = Writing markers delims list count src (left markers delims list count src f₀) out₀ f out n
+Inv-loop src markers delims list count out₀ w₀ n₀ out w n = Writing markers delims list count src (left markers delims list count src w₀) out₀ w out n
 
 abbrev μ-loop : tie.MeasureT-loop
-μ-loop src markers delims list count out₀ f₀ n₀ out f n = length (ahead markers delims src f)
+μ-loop src markers delims list count out₀ w₀ n₀ out w n = length (ahead markers delims src (w .feed))
 
 loop-holds : tie.Need-loop-holds Inv-loop μ-loop
 loop-holds c = search write-first

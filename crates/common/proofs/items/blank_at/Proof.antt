@@ -1,5 +1,5 @@
 -- `blank_at` meets its contract. Assumes nothing.
-use Rattle.common.specs.SearchLaws.{holds-none}
+use Rattle.search.specs.SearchLaws.{holds-none}
 use Rattle.common.specs.ItemLaws.{holds-told}
 use borrow.Author.Needs.{needs}
 use Rattle.common.proofs.items.blank_at.Statement.{statement}

@@ -1,6 +1,6 @@
 -- `class` meets its contract: the rule of the class table, by one test over its 256 entries. Assumes nothing.
 use Prim.Native.Nat.{_<_}
-use Rattle.common.specs.Search.{oneOf}
+use Rattle.search.specs.Search.{oneOf}
 use Rattle.common.specs.ClassLaws.{class-at}
 use borrow.Author.Needs.{needs}
 use Rattle.common.proofs.sets.class.Statement.{statement}

@@ -44,7 +44,7 @@ use denote.Triple.Spec.{Meets, tripleOf}
 use denote.Triple.Table.{entered, cited}
 use denote.Triple.Walked.{says, Stays, stay-none, stay-none-slice, walkOf, goes-none, goes-none-slice, Walks, ends-at, walked, walk-meets}
 use denote.Exit.{yes}
-use Rattle.common.specs.Promise.{Steps}
+use Rattle.search.specs.Promise.{Steps}
 use Rattle.common.specs.Refusals.{toldFound}
 use Rattle.common.specs.declared.refusal.Found.{Found}
 use Rattle.common.proofs.refusal.Found as F

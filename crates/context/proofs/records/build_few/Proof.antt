@@ -51,7 +51,7 @@ use denote.Triple.Spec.{Meets, tripleOf}
 use denote.Triple.Table.{entered, cited}
 use denote.Triple.Walked.{says, Stays, stay-none, stay-none-slice, gave-slice, walkOf, goes-none, goes-none-slice, goes-gave-slice, Walks, ends-at, walked, walk-meets}
 use denote.Exit.{yes}
-use Rattle.common.specs.Promise.{Gives}
+use Rattle.search.specs.Promise.{Gives}
 use Rattle.common.specs.Refusals.{told}
 use Rattle.common.specs.declared.grammar.Grammar.{Grammar}
 use Rattle.common.specs.declared.refusal.Answer.{Answer}
@@ -66,10 +66,10 @@ use Rattle.context.specs.RecordLaws.{take-few}
 use Rattle.context.specs.declared.records.FenceRule.{FenceRule}
 use Rattle.context.proofs.records.FenceRule as R
 use Rattle.context.proofs.records.FenceRule.Laws as R′
-use Rattle.common.proofs.search.lesser as les
-use Rattle.common.proofs.search.lesser.Symbol as les-def
-use Rattle.common.proofs.search.lesser.Symbol.{name as #les}
-use Rattle.common.proofs.search.lesser.Met as les-thm
+use Rattle.search.proofs.lesser as les
+use Rattle.search.proofs.lesser.Symbol as les-def
+use Rattle.search.proofs.lesser.Symbol.{name as #les}
+use Rattle.search.proofs.lesser.Met as les-thm
 use Rattle.context.proofs.records.build_records as br
 use Rattle.context.proofs.records.build_records.Symbol as br-def
 use Rattle.context.proofs.records.build_records.Symbol.{name as #br}
@@ -334,5 +334,5 @@ build-few-spec 𝓤 H 𝓜 𝓖 𝓡 =
     entered 𝓤 H (tripleOf 𝓤 H (𝓖 .A) me.signature (me.spec 𝓤 H (𝓖 .A) (𝓜 .mem) (𝓡 .run)))
     (tables 𝓤 H 𝓜 𝓡 code.env .C) (tables 𝓤 H 𝓜 𝓡 code.env .Λ) #build-few code.function (code.unfolded 𝓤 H 𝓜 𝓡)
     (me-meets 𝓤 H (𝓖 .A) (givenOf 𝓤 H 𝓜 𝓖) (𝓜 .mem) (𝓡 .run) (tablesOf 𝓤 H 𝓜 (tables 𝓤 H 𝓜 𝓡 code.env))
-    (cited 𝓤 H (Les 𝓤 H (𝓖 .A) (𝓜 .mem) (𝓡 .run)) 𝓜 𝓡 code.env #les les-def.routine code.calls-common·search·lesser (les-thm.met 𝓤 H 𝓜 𝓖 𝓡))
+    (cited 𝓤 H (Les 𝓤 H (𝓖 .A) (𝓜 .mem) (𝓡 .run)) 𝓜 𝓡 code.env #les les-def.routine code.calls-search·lesser (les-thm.met 𝓤 H 𝓜 𝓖 𝓡))
     (cited 𝓤 H (Br 𝓤 H (𝓖 .A) (𝓜 .mem) (𝓡 .run)) 𝓜 𝓡 code.env #br br-def.routine code.calls-context·records·build-records (br-thm.met 𝓤 H 𝓜 𝓖 𝓡)))

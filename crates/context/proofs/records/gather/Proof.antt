@@ -43,7 +43,7 @@ use denote.Triple.Spec.{Meets, tripleOf}
 use denote.Triple.Table.{entered, cited}
 use denote.Triple.Walked.{says, Stays, stay-none-slice, walkOf, goes-none-slice, Walks, ends-at, walked, walk-meets}
 use denote.Exit.{yes}
-use Rattle.common.specs.Promise.{Gives}
+use Rattle.search.specs.Promise.{Gives}
 use Rattle.context.specs.Records.{noRule, noRules, withRule, ruleBytes, ruleMins, gatheredOf}
 use Rattle.context.specs.RecordLaws.{gather-first, gather-again, gather-all}
 use Rattle.context.specs.declared.records.FenceRule.{FenceRule}

@@ -1,20 +1,14 @@
 -- `pour` meets its contract. Assumes nothing.
-use Rattle.panel.specs.PourLaws.{pour-full, pour-room, pour-short, pour-done}
+use Rattle.panel.specs.PourLaws.{pour-room, pour-done, pour-full, pour-short}
 use borrow.Author.Needs.{needs}
 use Rattle.panel.proofs.pouring.pour.Statement.{statement}
 use Rattle.panel.proofs.pouring.pour.Tie as tie
 
-count-regions-requires : tie.Need-count-regions-requires
-count-regions-requires c κs = search needs
-
-region-room-requires : tie.Need-region-room-requires
-region-room-requires c κs = search needs
-
-returns : tie.Need-returns
-returns c = search pour-full
-
 room-of-requires : tie.Need-room-of-requires
 room-of-requires c κs = search needs
+
+fits-requires : tie.Need-fits-requires
+fits-requires c κs = search needs
 
 write-regions-requires : tie.Need-write-regions-requires
 write-regions-requires c κs = search pour-room
@@ -31,8 +25,11 @@ same-length c = search needs
 same-length-2 : tie.Need-same-length-2
 same-length-2 c = search needs
 
+returns : tie.Need-returns
+returns c = search pour-done
+
 returns-2 : tie.Need-returns-2
-returns-2 c = search pour-done
+returns-2 c = search pour-full
 
 returns-3 : tie.Need-returns-3
 returns-3 c = search pour-short
@@ -41,14 +38,13 @@ pub pour-spec : {M : Type 1} → statement M
 pour-spec =
     tie.close
     (tie.spec
-    count-regions-requires
-    region-room-requires
-    returns
     room-of-requires
+    fits-requires
     write-regions-requires
     slice-aggregate-values
     values-requires
     same-length
     same-length-2
+    returns
     returns-2
     returns-3)

@@ -1,6 +1,6 @@
 -- `next_mark` meets its contract. Assumes nothing.
 use borrow.Author.Needs.{needs}
-use Rattle.sheet.specs.FeedLaws.{mark-led}
+use Rattle.sheet.specs.FeedLaws.{mark-moved}
 use Rattle.sheet.proofs.feed.next_mark.Statement.{statement}
 use Rattle.sheet.proofs.feed.next_mark.Tie as tie
 
@@ -17,13 +17,13 @@ enum-told-2 : tie.Need-enum-told-2
 enum-told-2 c = search needs
 
 returns : tie.Need-returns
-returns c = search mark-led
+returns c = search mark-moved
 
 returns-2 : tie.Need-returns-2
-returns-2 c = search mark-led
+returns-2 c = search mark-moved
 
 returns-3 : tie.Need-returns-3
-returns-3 c = search mark-led
+returns-3 c = search mark-moved
 
 pub next-mark-spec : {M : Type 1} → statement M
 next-mark-spec =

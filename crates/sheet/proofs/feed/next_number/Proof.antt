@@ -1,6 +1,6 @@
 -- `next_number` meets its contract. Assumes nothing.
 use borrow.Author.Needs.{needs}
-use Rattle.sheet.specs.FeedLaws.{number-led}
+use Rattle.sheet.specs.FeedLaws.{number-moved}
 use Rattle.sheet.proofs.feed.next_number.Statement.{statement}
 use Rattle.sheet.proofs.feed.next_number.Tie as tie
 
@@ -17,13 +17,13 @@ enum-told-2 : tie.Need-enum-told-2
 enum-told-2 c = search needs
 
 returns : tie.Need-returns
-returns c = search number-led
+returns c = search number-moved
 
 returns-2 : tie.Need-returns-2
-returns-2 c = search number-led
+returns-2 c = search number-moved
 
 returns-3 : tie.Need-returns-3
-returns-3 c = search number-led
+returns-3 c = search number-moved
 
 pub next-number-spec : {M : Type 1} → statement M
 next-number-spec =

@@ -1,6 +1,6 @@
 -- `start` meets its contract. Assumes nothing.
 use borrow.Author.Needs.{needs}
-use Rattle.sheet.specs.FeedLaws.{fresh-mark, fresh-number, started}
+use Rattle.sheet.specs.FeedLaws.{start-told}
 use Rattle.sheet.proofs.feed.start.Statement.{statement}
 use Rattle.sheet.proofs.feed.start.Tie as tie
 
@@ -8,16 +8,16 @@ new-requires : tie.Need-new-requires
 new-requires c κs = search needs
 
 next-mark-requires : tie.Need-next-mark-requires
-next-mark-requires c κs = search (fresh-mark, needs)
+next-mark-requires c κs = search needs
 
 new-requires-2 : tie.Need-new-requires-2
 new-requires-2 c κs = search needs
 
 next-number-requires : tie.Need-next-number-requires
-next-number-requires c κs = search (fresh-number, needs)
+next-number-requires c κs = search needs
 
 returns : tie.Need-returns
-returns c = search started
+returns c = search start-told
 
 pub start-spec : {M : Type 1} → statement M
 start-spec =

@@ -1,6 +1,6 @@
 -- `take` meets its contract: its three ways out. Assumes nothing.
 use borrow.Author.Needs.{needs}
-use Rattle.sheet.specs.FeedLaws.{took-mark, took-number, took-none}
+use Rattle.sheet.specs.FeedLaws.{take-mark, take-number, take-none}
 use Rattle.sheet.proofs.feed.take.Statement.{statement}
 use Rattle.sheet.proofs.feed.take.Tie as tie
 
@@ -23,13 +23,13 @@ enum-told : tie.Need-enum-told
 enum-told c = search needs
 
 returns : tie.Need-returns
-returns c = search took-mark
+returns c = search take-mark
 
 returns-2 : tie.Need-returns-2
-returns-2 c = search took-number
+returns-2 c = search take-number
 
 returns-3 : tie.Need-returns-3
-returns-3 c = search took-none
+returns-3 c = search take-none
 
 pub take-spec : {M : Type 1} → statement M
 take-spec =

@@ -1,0 +1,61 @@
+-- Both scanners as one run of items: where it begins, and what is taken of it. Assumes nothing.
+use mathlib.Core.Bool.{Bool, cond}
+use mathlib.Core.List.{List, [], _∷_}
+use Prim.Native.Nat.{ℕ}
+use lib.Dec.{ltb}
+use lib.ListN.{getD}
+use Rattle.common.specs.declared.grammar.Grammar.{Grammar}
+use Rattle.block_marker.specs.Marker as marker
+use Rattle.block_marker.specs.declared.BlockMarkerIter.{BlockMarkerIter}
+use Rattle.block_numbered.specs.Numbered as numbered
+use Rattle.block_numbered.specs.declared.BlockNumberedIter.{BlockNumberedIter}
+use Rattle.sheet.specs.declared.feed.Head.{Head}
+use Rattle.sheet.specs.declared.feed.Head.the-variants as head
+use Rattle.sheet.specs.declared.feed.Pick.{Pick}
+use Rattle.sheet.specs.declared.feed.Pick.the-variants as pick
+use Rattle.sheet.specs.declared.feed.Marks.{Marks}
+use Rattle.sheet.specs.declared.feed.Numbers.{Numbers}
+use Rattle.sheet.specs.declared.feed.Feed.{Feed}
+use Rattle.sheet.specs.declared.feed.Taken.{Taken}
+
+-- ---- one scanner, one item ahead
+-- the head that a step's values make; none at all is the end, and so is a refusal
+abbrev pub markHead : List ℕ → Head
+markHead [] = head.End
+markHead (a ∷ l) = head.Item (record { start = a; end = getD l 0 0; kind = 0; byte = getD l 1 0; number = 0 })
+
+abbrev pub numberHead : List ℕ → Head
+numberHead [] = head.End
+numberHead (a ∷ l) = head.Item (record { start = a; end = getD l 0 0; kind = 1; byte = getD l 1 0; number = getD l 2 0 })
+
+-- what a state's step answers as the head, and the state after it
+unfoldable pub marksAfter : List Bool → List ℕ → BlockMarkerIter → Marks
+marksAfter set s g = record { head = markHead (marker.answer g set s .values); rest = marker.state g set s }
+
+unfoldable pub numbersAfter : List Bool → List ℕ → BlockNumberedIter → Numbers
+numbersAfter set s g = record { head = numberHead (numbered.answer g set s .values); rest = numbered.state g set s }
+
+-- ---- both
+-- the beginning: "both scanned from place 0", by fresh states
+unfoldable pub begun : Grammar → List Bool → List Bool → List ℕ → Feed
+begun g markers delims s = record {
+  marks = marksAfter markers s (marker.fresh (g .eol) (g .sep) (g .tab) markers);
+  numbers = numbersAfter delims s (numbered.fresh (g .eol) (g .sep) (g .tab) delims);
+}
+
+-- which head is next: the one that starts first, the marker's where both start at one place
+abbrev pub picked : Head → Head → Pick
+picked (head.Item x) (head.Item y) = cond (ltb (y .start) (x .start)) (pick.Number y) (pick.Mark x)
+picked (head.Item x) head.End = pick.Mark x
+picked head.End (head.Item y) = pick.Number y
+picked head.End head.End = pick.Neither
+
+module _ (markers delims : List Bool) (s : List ℕ) where
+  -- that head, and its scanner moved on
+  abbrev pub takenBy : Pick → Feed → Taken
+  takenBy (pick.Mark x) f = record { head = head.Item x; rest = record { marks = marksAfter markers s (f .marks .rest); numbers = f .numbers } }
+  takenBy (pick.Number y) f = record { head = head.Item y; rest = record { marks = f .marks; numbers = numbersAfter delims s (f .numbers .rest) } }
+  takenBy pick.Neither f = record { head = head.End; rest = f }
+
+  unfoldable pub taken : Feed → Taken
+  taken f = takenBy (picked (f .marks .head) (f .numbers .head)) f
