@@ -22,9 +22,9 @@ static const uint8_t SYMMETRIC[] = {'`'}, TIMES[] = {1, 0, 0, 0};
 static const uint8_t OPENERS[] = {'<'}, CLOSERS[] = {'>'}, COUNTS[] = {1, 0, 0, 0};
 static const uint8_t MARKERS[] = {'-', '*', '+'}, DELIMITERS[] = {'.', ')'};
 
-/* Sizes in bytes: of a number, a region, an item of the sheet, an item scanner's state, an answer of up to four values. */
-enum { NUMBER = 4, REGION = 8, ITEM = 20, STATE = 36, ANSWER = 20 };
-enum { MARKER, NUMBERED };
+/* Sizes in bytes: of a number, a region, an item of the sheet, an answer of one value. And the kind of a numbered item. */
+enum { NUMBER = 4, REGION = 8, ITEM = 20, ANSWER = 8 };
+enum { NUMBERED = 1 };
 
 struct note {
     const char *name;
@@ -32,7 +32,7 @@ struct note {
     size_t len;
 };
 
-/* A list that an entry or the sheet fills: numbers of four bytes. */
+/* A list that an entry fills: numbers of four bytes. */
 struct list {
     uint8_t *at;
     size_t len;
@@ -65,12 +65,6 @@ _Noreturn static void refused(const char *name, uint32_t refusal)
 static uint32_t number_at(const uint8_t *at)
 {
     return (uint32_t)at[0] | (uint32_t)at[1] << 8 | (uint32_t)at[2] << 16 | (uint32_t)at[3] << 24;
-}
-
-static void put_number(uint8_t *at, uint32_t n)
-{
-    for (int i = 0; i < NUMBER; i++)
-        at[i] = (uint8_t)(n >> 8 * i);
 }
 
 /* ---- the note */
@@ -121,76 +115,19 @@ static struct list build(const struct note *note)
 
 /* ---- the work sheet */
 
-/* One of the two item scanners, with the item that is next. */
-struct scan {
-    int kind;
-    uint8_t state[STATE], answer[ANSWER];
-    bool has_item;
-};
-
-static void step(const struct note *note, struct scan *scan)
-{
-    uint32_t refusal =
-        scan->kind == MARKER ? rack_marker_step(note->at, note->len, MARKERS, sizeof MARKERS, scan->state, STATE, scan->answer, ANSWER)
-                             : rack_numbered_step(note->at, note->len, DELIMITERS, sizeof DELIMITERS, scan->state, STATE,
-                                                  scan->answer, ANSWER);
-    if (refusal)
-        refused(note->name, refusal);
-    scan->has_item = number_at(scan->answer) > 0;
-}
-
-static struct scan begin(const struct note *note, int kind)
-{
-    struct scan scan = {.kind = kind};
-    uint32_t refusal = kind == MARKER ? rack_marker_new(EOL, SEP, TAB, MARKERS, sizeof MARKERS, scan.state, STATE)
-                                      : rack_numbered_new(EOL, SEP, TAB, DELIMITERS, sizeof DELIMITERS, scan.state, STATE);
-    if (refusal)
-        refused(note->name, refusal);
-    step(note, &scan);
-    return scan;
-}
-
-/* Value `k` of the item that is next: content start, content end, accepted byte, number. */
-static uint32_t value(const struct scan *scan, int k)
-{
-    return number_at(scan->answer + NUMBER * (k + 1));
-}
-
-/* Whether a region hides a place; the index moves on with rising places. */
-static bool is_hidden(const struct note *note, const struct list *regions, uint32_t *index, uint32_t place)
+/* The items that no region hides, by rising content start: five numbers each, which are start, end, kind, accepted byte, number. */
+static struct list make_sheet(const struct note *note)
 {
     uint8_t answer[ANSWER];
-    uint32_t refusal = rack_covering_end(regions->at, regions->len, regions->count, *index, place, answer, sizeof answer);
-    if (refusal)
-        refused(note->name, refusal);
-    *index = number_at(answer + NUMBER);
-    return number_at(answer) == 2;
-}
-
-static void put_item(struct list *sheet, const struct scan *scan)
-{
-    uint8_t *at = sheet->at + (size_t)sheet->count++ * ITEM;
-    put_number(at, value(scan, 0));
-    put_number(at + NUMBER, value(scan, 1));
-    put_number(at + 2 * NUMBER, (uint32_t)scan->kind);
-    put_number(at + 3 * NUMBER, value(scan, 2));
-    put_number(at + 4 * NUMBER, scan->kind == NUMBERED ? value(scan, 3) : 0);
-}
-
-/* The items that no region hides, by rising content start: five numbers each, which are start, end, kind, accepted byte, number. */
-static struct list make_sheet(const struct note *note, const struct list *regions)
-{
     /* By the house grammar each item has a line of two bytes and more. */
     struct list sheet = reserved(note, note->len / 2 + 1, ITEM);
-    struct scan markers = begin(note, MARKER), numbered = begin(note, NUMBERED);
-    uint32_t index = 0;
-    while (markers.has_item || numbered.has_item) {
-        bool is_marker = markers.has_item && (!numbered.has_item || value(&markers, 0) <= value(&numbered, 0));
-        struct scan *next = is_marker ? &markers : &numbered;
-        if (!is_hidden(note, regions, &index, value(next, 0)))
-            put_item(&sheet, next);
-        step(note, next);
-    }
+    uint32_t refusal = rack_sheet(note->at, note->len, EOL, ESCAPE, SEP, TAB, FENCES, sizeof FENCES, MINIMUMS, sizeof MINIMUMS,
+                                  SYMMETRIC, sizeof SYMMETRIC, TIMES, sizeof TIMES, OPENERS, sizeof OPENERS,
+                                  CLOSERS, sizeof CLOSERS, COUNTS, sizeof COUNTS, MARKERS, sizeof MARKERS,
+                                  DELIMITERS, sizeof DELIMITERS, sheet.at, sheet.len, answer, sizeof answer);
+    if (refusal)
+        refused(note->name, refusal);
+    sheet.count = number_at(answer + NUMBER);
     return sheet;
 }
 
@@ -261,14 +198,21 @@ static void print_all(const struct note *note, const struct list *list, size_t s
         print(&page, list->at + i * size);
 }
 
+static void print_regions(const struct note *note, bool raw)
+{
+    struct list regions = build(note);
+    if (raw)
+        print_raw(&regions, REGION);
+    else
+        print_all(note, &regions, REGION, print_region);
+}
+
 static void print_note(const struct options *options)
 {
     struct note note = mapped(options->name);
-    struct list regions = build(&note), sheet = make_sheet(&note, &regions);
-    if (options->raw && options->regions)
-        print_raw(&regions, REGION);
-    else if (options->regions)
-        print_all(&note, &regions, REGION, print_region);
+    struct list sheet = make_sheet(&note);
+    if (options->regions)
+        print_regions(&note, options->raw);
     if (options->raw)
         print_raw(&sheet, ITEM);
     else

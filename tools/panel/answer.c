@@ -22,23 +22,19 @@ void begin(struct answer *a, enum kind kind, size_t columns)
     a->words[a->words_len++] = (struct word){kind, a->len, 0, columns, {0}};
 }
 
-void put(struct answer *a, uint64_t n)
+void make_room(struct answer *a, size_t more)
 {
-    if (a->len == a->room) {
-        a->room = a->room ? a->room * 2 : 256;
-        a->numbers = realloc(a->numbers, a->room * sizeof *a->numbers);
-        if (!a->numbers) {
-            perror("panel: no memory");
-            exit(2);
-        }
+    a->room = a->room * 2 + more + 256;
+    a->numbers = realloc(a->numbers, a->room * sizeof *a->numbers);
+    if (!a->numbers) {
+        perror("panel: no memory");
+        exit(2);
     }
-    a->numbers[a->len++] = n;
-    a->words[a->words_len - 1].len++;
 }
 
 void put_alone(struct answer *a, uint64_t n)
 {
-    begin(a, TUPLE, 1);
+    begin(a, EACH, 1);
     put(a, n);
 }
 
@@ -57,18 +53,18 @@ static size_t used(const struct answer *a, const struct word *word)
     return (len + word->columns - 1) / word->columns * word->columns;
 }
 
-void each_number(const struct answer *a, void (*take)(void *to, uint64_t n), void *to)
+void each_stretch(const struct answer *a, void (*take)(void *to, const uint64_t *numbers, size_t len), void *to)
 {
-    take(to, a->head == REFUSED ? 0 : a->head == NONE ? 2 : 1);
-    if (a->head == REFUSED && a->refusal != 2)
-        take(to, a->refusal);
+    uint64_t head[2] = {a->head == REFUSED ? 0 : a->head == NONE ? 2 : 1, a->refusal};
+    take(to, head, a->head == REFUSED && a->refusal != 2 ? 2 : 1);
     for (size_t i = 0; i < a->words_len; i++) {
         const struct word *word = &a->words[i];
         size_t len = word->kind == CELLS ? used(a, word) : word->len;
+        uint64_t entries = len / word->columns;
         if (word->kind == LIST || word->kind == CELLS)
-            take(to, len / word->columns);
-        for (size_t k = 0; k < len; k++)
-            take(to, a->numbers[word->from + k]);
+            take(to, &entries, 1);
+        if (len)
+            take(to, a->numbers + word->from, len);
     }
 }
 
@@ -78,7 +74,7 @@ static void print_numbers(const struct answer *a, const struct word *word)
         putchar('-');
     for (size_t k = 0; k < word->len; k++) {
         if (k)
-            putchar(word->kind == TUPLE || k % word->columns ? ':' : ',');
+            putchar(word->kind == EACH ? ' ' : word->kind == TUPLE || k % word->columns ? ':' : ',');
         printf("%" PRIu64, a->numbers[word->from + k]);
     }
 }

@@ -24,7 +24,7 @@ static struct answer answer;
 
 struct question find_question(const char *name, struct words *words)
 {
-    const struct form *const groups[] = {leaf_forms, scanner_forms, context_forms};
+    const struct form *const groups[] = {leaf_forms, scanner_forms, context_forms, sheet_forms};
     for (size_t i = 0; i < sizeof groups / sizeof *groups; i++)
         for (const struct form *form = groups[i]; form->name; form++)
             if (!strcmp(form->name, name)) {
@@ -49,34 +49,45 @@ static void feed(struct sums *sums, uint64_t x)
     sums->h2 = (sums->h2 * 69069 + x + 1) % 4294967279;
 }
 
-/* The numbers of an answer on their way to the sums. */
-struct feeding {
+static void feed_stretch(void *to, const uint64_t *numbers, size_t len)
+{
+    struct sums *sums = to;
+    for (size_t i = 0; i < len; i++)
+        feed(sums, numbers[i]);
+}
+
+/* The numbers of an answer that may be the one to alter, on their way to the sums. */
+struct altering {
     struct block *block;
     size_t fed;
     bool has_value;
 };
 
-static void feed_answer(void *to, uint64_t n)
+static void feed_altered(void *to, const uint64_t *numbers, size_t len)
 {
-    struct feeding *feeding = to;
-    struct block *block = feeding->block;
-    if (feeding->fed == 0)
-        feeding->has_value = n == 1;
-    if (feeding->fed == 1 && feeding->has_value && ++block->values == block->altered)
-        n++;
-    feeding->fed++;
-    feed(&block->sums, n);
+    struct altering *altering = to;
+    struct block *block = altering->block;
+    for (size_t i = 0; i < len; i++, altering->fed++) {
+        bool is_first = altering->fed == 1 && altering->has_value;
+        if (altering->fed == 0)
+            altering->has_value = numbers[i] == 1;
+        feed(&block->sums, numbers[i] + (is_first && ++block->values == block->altered));
+    }
 }
 
 static void take(struct block *block, const struct text *text, bool has_place, size_t place)
 {
+    struct run run = text->bytes.run;
     block->sums.asked++;
-    feed(&block->sums, text->run.len);
-    for (size_t i = 0; i < text->run.len; i++)
-        feed(&block->sums, text->run.at[i]);
+    feed(&block->sums, run.len);
+    for (size_t i = 0; i < run.len; i++)
+        feed(&block->sums, run.at[i]);
     if (has_place)
         feed(&block->sums, place);
-    each_number(&answer, feed_answer, &(struct feeding){.block = block});
+    if (block->altered)
+        each_stretch(&answer, feed_altered, &(struct altering){.block = block});
+    else
+        each_stretch(&answer, feed_stretch, &block->sums);
 }
 
 static void ask_text(struct block *block, struct run run)
@@ -89,7 +100,9 @@ static void ask_text(struct block *block, struct run run)
         ask(&block->q, &text, place, &answer);
         take(block, &text, form->takes == A_PLACE, place);
     }
+    check_text(&text);
     release(&text);
+    asking = (struct asking){0};
 }
 
 /* Which answer to alter, and the question. */
@@ -108,6 +121,7 @@ static struct block read_block(struct words *words)
 
 static void print_sums(const struct sums *sums)
 {
+    check_slots();
     printf("sums %" PRIu64 " %" PRIu64 " %" PRIu64 "\n", sums->asked, sums->h1, sums->h2);
 }
 

@@ -2,14 +2,16 @@
  *
  * Each time every lent run is flush against an inaccessible page: first the page behind it, then the page before it. The first time
  * there is room to spare, the second time none. Between them rooms are a byte too short, which must be refused with 3. After each call
- * every lent byte that wasn't to be written must be as it was. A question that is asked by itself is asked in wrong shapes too. */
+ * every byte of a state, list or answer that wasn't to be written must be as it was, and some behind it; after a text's last call the
+ * text; after a request all memory about what is written. Rules and sets, and long texts, lie where nothing can be written. A question
+ * that is asked by itself is asked in wrong shapes too. */
 #ifndef CALL_H
 #define CALL_H
 
 #include "lend.h"
 #include "text.h"
 
-enum { MOST_READ = 8, MOST_VALUES = 12, NUMBER = 4, REGION = 8 };
+enum { MOST_READ = 10, MOST_VALUES = 12, NUMBER = 4, REGION = 8, ITEM = 20 };
 
 /* The runs as they are lent. */
 struct lent {
@@ -25,27 +27,31 @@ struct call {
     /* Calls the entry; `of` is what it takes beside the runs. */
     uint32_t (*enter)(const void *of, const struct lent *lent);
     const void *of;
-    /* The text, which is lent as the first run that is only read, and how many such runs there are with it. */
-    const struct text *text;
-    struct run read[MOST_READ];
-    size_t reads;
-    /* How many bytes longer (or, less than 0, shorter) one of the others is made to be refused, and by which number; 0: no way. */
+    /* Whether the text is huge; the runs that are only read, the text first where there is one; how many sets are the last of them. */
+    bool is_huge, has_text;
+    size_t reads, sets;
+    const struct placed *read[MOST_READ];
+    /* How many bytes longer (or, less than 0, shorter) one of those between is made to be refused, and by which number; 0: no way. */
     int reshape;
     uint32_t reshaped;
     enum work work;
-    /* The state, or a list's room. */
-    struct run given;
-    /* What the cells of a state may hold; without, its run is only made another length. */
-    const uint32_t *limits;
+    /* Whether there is an answer run, and how many values it has at the most. */
     bool has_answer;
+    size_t most_values;
+    /* The state, or a list's room, and how many bytes an entry of it takes. */
+    struct run given;
+    size_t entry;
+    /* What the first cells of a state may hold, and how many these are. */
+    const uint32_t *limits;
+    size_t limited;
 };
 
 /* What a call gave: a refusal's number or 0, the values, and the work run as it was left, which stays until the next call. */
 struct outcome {
     uint32_t refusal;
-    uint32_t values[MOST_VALUES];
     size_t count;
     struct run work;
+    uint32_t values[MOST_VALUES];
 };
 
 /* Whether a question is asked in wrong shapes too. */
@@ -58,7 +64,22 @@ extern struct tally {
 
 void run_call(const struct call *call, struct outcome *outcome);
 
-uint32_t number_at(const uint8_t *at);
-void put_number(uint8_t *at, uint32_t n);
+/* Ends the request where memory was written that no call lent. */
+void check_slots(void);
+/* After a request that was given up: what it left must not be laid to the next one. */
+void give_back_slots(void);
+
+static inline uint32_t number_at(const uint8_t *at)
+{
+    return (uint32_t)at[0] | (uint32_t)at[1] << 8 | (uint32_t)at[2] << 16 | (uint32_t)at[3] << 24;
+}
+
+static inline void put_number(uint8_t *at, uint32_t n)
+{
+    at[0] = (uint8_t)n;
+    at[1] = (uint8_t)(n >> 8);
+    at[2] = (uint8_t)(n >> 16);
+    at[3] = (uint8_t)(n >> 24);
+}
 
 #endif

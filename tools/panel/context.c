@@ -1,6 +1,7 @@
 /* Building, by columns and by rule records, and the cursor. */
 #include "question.h"
 
+#include <stdlib.h>
 #include <string.h>
 
 #include "../../include/rack.h"
@@ -30,14 +31,15 @@ static uint32_t enter_build_rules(const void *of, const struct lent *l)
 static void build(const struct question *q, const struct text *text, size_t room, bool records, struct outcome *got)
 {
     struct call call = call_of(q, text);
-    struct run columns[] = {q->fences, q->mins, q->symmetric, q->times, q->openers, q->closers, q->counts};
-    struct run rules[] = {q->rules, q->symmetric, q->times, q->openers, q->closers, q->counts};
+    const struct placed *const columns[] = {&q->fences, &q->mins, &q->symmetric, &q->times, &q->openers, &q->closers, &q->counts};
+    const struct placed *const rules[] = {&q->rules, &q->symmetric, &q->times, &q->openers, &q->closers, &q->counts};
     memcpy(call.read + 1, records ? rules : columns, records ? sizeof rules : sizeof columns);
     call.reads += (records ? sizeof rules : sizeof columns) / sizeof *rules;
     call.enter = records ? enter_build_rules : enter_build;
     call.reshape = 1;
     call.reshaped = 6;
     call.work = A_LIST;
+    call.entry = REGION;
     call.given.len = room;
     run_call(&call, got);
 }
@@ -45,20 +47,33 @@ static void build(const struct question *q, const struct text *text, size_t room
 /* Regions lie apart, so that at most every second byte begins one. */
 static size_t room_for(const struct text *text)
 {
-    return (text->size == HUGE ? HUGE_ROOM : text->run.len / 2 + 1) * REGION;
+    return (text->size == HUGE ? HUGE_ROOM : text->bytes.run.len / 2 + 1) * REGION;
+}
+
+/* The regions that a call left, as a copy that stays until the next one. */
+static struct run copied(const struct outcome *got)
+{
+    static struct run copy;
+    size_t len = got->refusal ? 0 : (size_t)got->values[0] * REGION;
+    if (copy.len < len)
+        copy = (struct run){realloc(copy.at, len), len};
+    if (len && !copy.at)
+        give_up("error", "no memory");
+    if (len)
+        memcpy(copy.at, got->work.at, len);
+    return (struct run){copy.at, len};
 }
 
 /* The regions into a list of so many bytes, built in both ways, which must agree: a copy that stays until the next call. */
 static struct run built(const struct question *q, const struct text *text, size_t room, uint32_t *refusal)
 {
-    static struct slot copy;
     struct outcome by_columns, by_records;
     build(q, text, room, false, &by_columns);
-    size_t len = by_columns.refusal ? 0 : by_columns.values[0] * REGION;
-    struct run regions = lend_copy(&copy, BEHIND, (struct run){by_columns.work.at, len});
+    struct run regions = copied(&by_columns);
     build(q, text, room, true, &by_records);
-    if (by_records.refusal != by_columns.refusal || by_records.values[0] != by_columns.values[0] ||
-        memcmp(by_records.work.at, regions.at, len))
+    if (by_records.refusal != by_columns.refusal ||
+        (!by_records.refusal && by_records.values[0] * REGION != regions.len) ||
+        (regions.len && memcmp(by_records.work.at, regions.at, regions.len)))
         give_up("unlike", "regions by columns and by records");
     *refusal = by_columns.refusal;
     return regions;
@@ -99,7 +114,7 @@ static void ask_into(const struct question *q, const struct text *text, size_t p
 
 /* A query: the list, the index, the place. */
 struct query {
-    struct run list;
+    const struct placed *list;
     uint32_t index;
     size_t place;
 };
@@ -107,14 +122,14 @@ struct query {
 static uint32_t enter_covering_end(const void *of, const struct lent *l)
 {
     const struct query *query = of;
-    return rack_covering_end(l->read[0].at, l->read[0].len, (uint32_t)(query->list.len / REGION), query->index, query->place,
+    return rack_covering_end(l->read[0].at, l->read[0].len, (uint32_t)(query->list->run.len / REGION), query->index, query->place,
                              l->answer.at, l->answer.len);
 }
 
 static void query(const struct query *query, struct outcome *got)
 {
     struct call call = {.enter = enter_covering_end, .of = query, .read = {query->list}, .reads = 1, .has_answer = true,
-                        .reshape = -1, .reshaped = 5};
+                        .most_values = 2, .reshape = -1, .reshaped = 5};
     run_call(&call, got);
     if (got->refusal || !got->count || got->count > 2)
         give_up("unlike", "a query has an index, and an end or none");
@@ -124,7 +139,7 @@ static void ask_covering_end(const struct question *q, const struct text *text, 
 {
     struct outcome got;
     (void)text, (void)place;
-    query(&(struct query){q->list, q->index, q->place}, &got);
+    query(&(struct query){&q->list, q->index, q->place}, &got);
     clear(a, got.count == 2 ? SOME : NONE);
     if (got.count == 2)
         put_alone(a, got.values[1]);
@@ -135,14 +150,14 @@ static void ask_is_covered(const struct question *q, const struct text *text, si
 {
     struct outcome got;
     (void)text, (void)place;
-    query(&(struct query){q->list, q->index, q->place}, &got);
+    query(&(struct query){&q->list, q->index, q->place}, &got);
     clear(a, SOME);
     put_alone(a, got.count == 2);
     put_alone(a, got.values[0]);
 }
 
 /* One more query, whose end, or 0, and index are put; the index is the next query's. */
-static uint32_t put_query(struct run list, uint32_t index, size_t place, struct answer *a)
+static uint32_t put_query(const struct placed *list, uint32_t index, size_t place, struct answer *a)
 {
     struct outcome got;
     query(&(struct query){list, index, place}, &got);
@@ -153,7 +168,7 @@ static uint32_t put_query(struct run list, uint32_t index, size_t place, struct 
 
 static void ask_cover(const struct question *q, const struct text *text, size_t place, struct answer *a)
 {
-    static struct slot copy;
+    static struct rooms rooms;
     struct outcome got;
     uint32_t index = 0;
     (void)place;
@@ -162,24 +177,15 @@ static void ask_cover(const struct question *q, const struct text *text, size_t 
         refuse(a, got.refusal);
         return;
     }
-    struct run regions = lend_copy(&copy, BEHIND, (struct run){got.work.at, got.values[0] * REGION});
+    struct placed regions = place_run(&rooms, copied(&got));
     clear(a, ALL);
     begin(a, LIST, 2);
-    for (size_t at = 0; at <= text->run.len; at++)
-        index = put_query(regions, index, at, a);
-    for (size_t at = text->run.len + 1; at--;)
-        index = put_query(regions, index, at, a);
-}
-
-static void read_grammar(struct words *words, struct question *q)
-{
-    q->eol = next_byte(words, "the line end is a byte");
-    q->escape = next_byte(words, "the escape is a byte");
-    q->sep = next_byte(words, "the separator is a byte");
-    q->tab = next_byte(words, "the tab is a byte");
-    read_fences(words, q);
-    read_symmetric(words, q);
-    read_asymmetric(words, q);
+    for (size_t at = 0; at <= text->bytes.run.len; at++)
+        index = put_query(&regions, index, at, a);
+    for (size_t at = text->bytes.run.len + 1; at--;)
+        index = put_query(&regions, index, at, a);
+    if (!is_as_placed(&regions))
+        give_up("changed", "the cursor's list");
 }
 
 static void read_into(struct words *words, struct question *q)

@@ -80,8 +80,8 @@ static void ask_next_in_paragraph(const struct question *q, const struct text *t
     struct call call = call_of(q, text);
     call.enter = enter_next_in_paragraph;
     call.of = &at;
-    call.read[call.reads++] = q->fences;
-    call.read[call.reads++] = q->mins;
+    call.read[call.reads++] = &q->fences;
+    call.read[call.reads++] = &q->mins;
     call.reshape = 1;
     call.reshaped = 6;
     tell_value(&call, a);
@@ -97,7 +97,7 @@ static void put_values(struct answer *a, const struct outcome *got, size_t from)
 
 static void ask_probe_matcher(const struct question *q, const struct text *text, size_t place, struct answer *a)
 {
-    struct call call = {.enter = enter_probe_matcher, .read = {q->accepted}, .reads = 1, .has_answer = true};
+    struct call call = {.enter = enter_probe_matcher, .read = {&q->accepted}, .reads = 1, .has_answer = true, .most_values = 5};
     struct outcome got;
     (void)text, (void)place;
     run_call(&call, &got);
@@ -111,7 +111,8 @@ static void ask_probe_matcher(const struct question *q, const struct text *text,
 
 static void ask_build_needles(const struct question *q, const struct text *text, size_t place, struct answer *a)
 {
-    struct call call = {.enter = enter_search_bytes, .read = {q->fences, q->symmetric, q->openers}, .reads = 3, .has_answer = true};
+    struct call call = {.enter = enter_search_bytes, .read = {&q->fences, &q->symmetric, &q->openers}, .reads = 3, .has_answer = true,
+                        .most_values = 12};
     struct outcome got;
     (void)text, (void)place;
     run_call(&call, &got);
@@ -139,7 +140,7 @@ static void read_paragraph(struct words *words, struct question *q)
 
 static void read_accepted(struct words *words, struct question *q)
 {
-    q->accepted = next_bytes(words, "accepted bytes are a list");
+    q->accepted = keep_sealed(next_bytes(words, "accepted bytes are a list"));
 }
 
 static void read_needles(struct words *words, struct question *q)

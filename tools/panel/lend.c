@@ -3,10 +3,10 @@
 
 #include <stdio.h>
 #include <stdlib.h>
-#include <string.h>
 #include <sys/mman.h>
 
-enum { BESIDE = 64 };
+/* From which size on a slot is given back. */
+enum { LARGE = 16 * PAGE };
 
 static void fail(const char *what)
 {
@@ -14,7 +14,7 @@ static void fail(const char *what)
     exit(2);
 }
 
-/* So many bytes, rounded up to pages, between two pages without access. */
+/* So many bytes, which are whole pages, between two pages without access. */
 static uint8_t *mapped(size_t size)
 {
     uint8_t *all = mmap(NULL, size + 2 * PAGE, PROT_NONE, MAP_PRIVATE | MAP_ANONYMOUS | MAP_NORESERVE, -1, 0);
@@ -35,77 +35,98 @@ static size_t paged(size_t len)
     return (len + PAGE - 1) / PAGE * PAGE;
 }
 
-static void fit(struct slot *slot, size_t len)
-{
-    size_t size = paged(len + BESIDE);
-    if (slot->size >= size)
-        return;
-    if (slot->body)
-        unmapped(slot->body, slot->size);
-    slot->body = mapped(size);
-    slot->size = size;
-}
+/* A page of marks, which repeat from page to page: no two near bytes are alike, and few are 0. */
+static uint8_t marks[PAGE];
 
-struct run lend(struct slot *slot, enum side side, size_t len)
+/* Goes over a run page by page. Writes the marks, or tells whether they stand. */
+static bool over(const struct slot *slot, struct run run, bool write)
 {
-    fit(slot, len);
-    return (struct run){side == BEFORE ? slot->body : slot->body + slot->size - len, len};
-}
-
-struct run lend_copy(struct slot *slot, enum side side, struct run from)
-{
-    struct run run = lend(slot, side, from.len);
-    if (from.len)
-        memcpy(run.at, from.at, from.len);
-    return run;
-}
-
-/* A page of marks: no two near bytes are alike, and few are 0. */
-static const uint8_t *marks(void)
-{
-    static uint8_t page[PAGE];
-    if (!page[1])
-        for (size_t i = 0; i < PAGE; i++)
-            page[i] = (uint8_t)(i * 151 + i / 256 + 90);
-    return page;
-}
-
-/* Goes over the bytes from `from` up to `to` page by page. Writes the marks, or tells whether they stand. */
-static bool over(const struct slot *slot, size_t from, size_t to, bool write)
-{
-    while (from < to) {
-        size_t start = from % PAGE;
-        size_t len = PAGE - start < to - from ? PAGE - start : to - from;
+    while (run.len) {
+        size_t from = (size_t)(run.at - slot->body) % PAGE;
+        size_t len = PAGE - from < run.len ? PAGE - from : run.len;
         if (write)
-            memcpy(slot->body + from, marks() + start, len);
-        else if (memcmp(slot->body + from, marks() + start, len))
+            copy_bytes(run.at, marks + from, len);
+        else if (!is_same(run.at, marks + from, len))
             return false;
-        from += len;
+        run.at += len;
+        run.len -= len;
     }
     return true;
 }
 
-/* The bytes beside a run: behind one that touches the page before it, else before it. */
-static struct run beside(const struct slot *slot, struct run run)
+void mark(struct slot *slot, struct run run)
 {
-    return (struct run){run.at == slot->body ? run.at + run.len : run.at - BESIDE, BESIDE};
+    over(slot, run, true);
 }
 
-struct run lend_marked(struct slot *slot, enum side side, size_t len)
+bool is_marked(const struct slot *slot, struct run run)
 {
-    struct run run = lend(slot, side, len);
-    struct run by = beside(slot, run);
-    size_t start = (size_t)(run.at - slot->body), next = (size_t)(by.at - slot->body);
-    over(slot, start, start + len, true);
-    over(slot, next, next + by.len, true);
-    return run;
+    return over(slot, run, false);
 }
 
-bool is_marked_from(const struct slot *slot, struct run run, size_t from)
+/* Room for a run of so many bytes and what stands next to it. */
+static void fit(struct slot *slot, size_t len)
 {
-    struct run by = beside(slot, run);
-    size_t start = (size_t)(run.at - slot->body), next = (size_t)(by.at - slot->body);
-    return over(slot, start + from, start + run.len, false) && over(slot, next, next + by.len, false);
+    if (slot->body)
+        unmapped(slot->body, slot->size);
+    slot->size = paged(len + BESIDE);
+    slot->body = mapped(slot->size);
+    slot->written = (struct run){0};
+}
+
+/* Whether there are marks everywhere but in what was written last. */
+static bool is_marked_about(const struct slot *slot)
+{
+    const struct run written = slot->written;
+    if (!written.len)
+        return is_marked(slot, (struct run){slot->body, slot->size});
+    uint8_t *behind = written.at + written.len;
+    return is_marked(slot, (struct run){slot->body, (size_t)(written.at - slot->body)}) &&
+           is_marked(slot, (struct run){behind, (size_t)(slot->body + slot->size - behind)});
+}
+
+void renew(struct slot *slot, size_t len)
+{
+    if (!marks[1])
+        for (size_t i = 0; i < PAGE; i++)
+            marks[i] = (uint8_t)(i * 151 + i / 256 + 90);
+    slot->is_spoilt |= slot->body && !is_marked_about(slot);
+    fit(slot, len);
+    mark(slot, (struct run){slot->body, slot->size});
+}
+
+bool is_marked_else(struct slot *slot)
+{
+    bool is_good = !slot->is_spoilt && (!slot->body || is_marked_about(slot));
+    if (slot->size >= LARGE)
+        give_back(slot);
+    return is_good;
+}
+
+void give_back(struct slot *slot)
+{
+    if (slot->body)
+        unmapped(slot->body, slot->size);
+    *slot = (struct slot){0};
+}
+
+struct placed place_run(struct rooms *rooms, struct run run)
+{
+    struct placed placed = {.run = run};
+    for (int side = BEHIND; side < SIDES; side++) {
+        struct slot *slot = &rooms->side[side];
+        if (slot->size < run.len + BESIDE)
+            fit(slot, run.len);
+        placed.at[side] = flush_run(slot, side, run.len);
+        copy_bytes(placed.at[side].at, run.at, run.len);
+    }
+    return placed;
+}
+
+bool is_as_placed(const struct placed *placed)
+{
+    size_t len = placed->run.len;
+    return is_same(placed->run.at, placed->at[BEHIND].at, len) && is_same(placed->run.at, placed->at[BEFORE].at, len);
 }
 
 struct run lend_sealed(enum side side, uint8_t byte, size_t times, struct run tail)

@@ -24,7 +24,7 @@ static sigjmp_buf next_request;
 /* The text and place that were asked about. */
 static void print_asking(void)
 {
-    struct run run = asking.text ? asking.text->run : (struct run){0};
+    struct run run = asking.text ? asking.text->bytes.run : (struct run){0};
     if (!asking.text || asking.text->size == HUGE)
         return;
     printf(": %s", run.len ? "" : "-");
@@ -33,8 +33,11 @@ static void print_asking(void)
     printf(" %zu", asking.place);
 }
 
+static bool is_giving_up;
+
 _Noreturn void give_up(const char *head, const char *why)
 {
+    is_giving_up = true;
     printf("%s %s", head, why);
     print_asking();
     putchar('\n');
@@ -45,13 +48,16 @@ _Noreturn void give_up(const char *head, const char *why)
 static void on_fault(int signal)
 {
     (void)signal;
+    if (is_giving_up)
+        _Exit(2);
     give_up("fault", "memory that isn't lent");
 }
 
-static void print_number(void *to, uint64_t n)
+static void print_stretch(void *to, const uint64_t *numbers, size_t len)
 {
     (void)to;
-    printf(" %" PRIu64, n);
+    for (size_t i = 0; i < len; i++)
+        printf(" %" PRIu64, numbers[i]);
 }
 
 /* The answer to one question, in full or as numbers. */
@@ -68,9 +74,11 @@ static void answer_one(const char *name, struct words *words, bool as_numbers)
     end_words(words);
     thorough = true;
     ask(&q, &text, place, &a);
+    check_text(&text);
+    check_slots();
     if (as_numbers) {
         fputs("numbers", stdout);
-        each_number(&a, print_number, NULL);
+        each_stretch(&a, print_stretch, NULL);
     } else {
         print_answer(&a);
     }
@@ -110,8 +118,12 @@ int main(void)
         line[len - (line[len - 1] == '\n')] = 0;
         asking = (struct asking){0};
         thorough = false;
+        is_giving_up = false;
         if (!sigsetjmp(next_request, 1))
             respond((struct words){line});
+        else
+            give_back_slots();
+        give_back_sealed();
         forget();
         fflush(stdout);
     }

@@ -1,15 +1,15 @@
 #include "question.h"
 
-struct run column_of_numbers(struct numbers list, size_t first, size_t columns)
+struct placed column_of_numbers(struct numbers list, size_t first, size_t columns)
 {
     size_t count = list.len / columns;
     struct run run = {keep(count * NUMBER), count * NUMBER};
     for (size_t i = 0; i < count; i++)
         put_number(run.at + i * NUMBER, (uint32_t)list.at[first + i * columns]);
-    return run;
+    return keep_sealed(run);
 }
 
-struct run column_of_bytes(struct numbers list, size_t first, size_t columns)
+struct placed column_of_bytes(struct numbers list, size_t first, size_t columns)
 {
     size_t count = list.len / columns;
     struct run run = {keep(count), count};
@@ -18,7 +18,7 @@ struct run column_of_bytes(struct numbers list, size_t first, size_t columns)
             give_up("error", "a rule's byte is over 255");
         run.at[i] = (uint8_t)list.at[first + i * columns];
     }
-    return run;
+    return keep_sealed(run);
 }
 
 void read_fences(struct words *words, struct question *q)
@@ -44,7 +44,13 @@ void read_asymmetric(struct words *words, struct question *q)
     q->counts = column_of_numbers(list, 2, 3);
 }
 
-struct call call_of(const struct question *q, const struct text *text)
+void read_grammar(struct words *words, struct question *q)
 {
-    return (struct call){.of = q, .text = text, .read = {text->run}, .reads = 1, .has_answer = true};
+    q->eol = next_byte(words, "the line end is a byte");
+    q->escape = next_byte(words, "the escape is a byte");
+    q->sep = next_byte(words, "the separator is a byte");
+    q->tab = next_byte(words, "the tab is a byte");
+    read_fences(words, q);
+    read_symmetric(words, q);
+    read_asymmetric(words, q);
 }

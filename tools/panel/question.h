@@ -30,28 +30,35 @@ struct form {
 struct question {
     const struct form *form;
     uint8_t byte, min, eol, escape, sep, tab;
-    struct run accepted;
+    struct placed accepted;
     /* Rules: columns, counts being four bytes each; fence rules as two bytes each too. */
-    struct run fences, mins, rules, symmetric, times, openers, closers, counts;
-    struct run list;
+    struct placed fences, mins, rules, symmetric, times, openers, closers, counts;
+    struct placed list;
+    /* Of a work sheet. */
+    struct placed markers, delims;
     uint32_t index;
     size_t cells, nest, place;
     /* A handmade state, its position aside. */
-    uint32_t state[MOST_CELLS];
+    uint8_t state[MOST_CELLS * NUMBER];
 };
 
 /* The forms of each group, ended by one without a name. */
-extern const struct form leaf_forms[], scanner_forms[], context_forms[];
+extern const struct form leaf_forms[], scanner_forms[], context_forms[], sheet_forms[];
 
 /* The bytes of numbers, four each; every `columns`-th from `first` on. */
-struct run column_of_numbers(struct numbers list, size_t first, size_t columns);
-struct run column_of_bytes(struct numbers list, size_t first, size_t columns);
+struct placed column_of_numbers(struct numbers list, size_t first, size_t columns);
+struct placed column_of_bytes(struct numbers list, size_t first, size_t columns);
 
 void read_fences(struct words *words, struct question *q);
 void read_symmetric(struct words *words, struct question *q);
 void read_asymmetric(struct words *words, struct question *q);
+/* The grammar bytes and all rules. */
+void read_grammar(struct words *words, struct question *q);
 
 /* A call that reads this text first. */
-struct call call_of(const struct question *q, const struct text *text);
+static inline struct call call_of(const struct question *q, const struct text *text)
+{
+    return (struct call){.of = q, .is_huge = text->size == HUGE, .has_text = true, .read = {&text->bytes}, .reads = 1, .has_answer = true, .most_values = 1};
+}
 
 #endif

@@ -5,13 +5,14 @@
 
 #include "../../include/rack.h"
 
-enum { OPEN = 6, OPEN_COUNT = 38, PENDING = 39, PENDING_COUNT = 103, PENDING_INDEX = 104, DEPTH = 32 };
+enum { CAP = 4, OPEN = 6, OPEN_COUNT = 38, PENDING = 39, PENDING_COUNT = 103, PENDING_INDEX = 104, DEPTH = 32 };
 
 /* A scanner: its state's cells, where the position stands among them, what they may hold, its two entries, how what is found is
  * told, and its state. */
 struct scanner {
     size_t cells, pos;
     const uint32_t *limits;
+    size_t limited;
     uint32_t (*fresh)(const void *of, const struct lent *lent);
     uint32_t (*step)(const void *of, const struct lent *lent);
     bool has_set;
@@ -70,36 +71,39 @@ static uint32_t step_cont(const void *of, const struct lent *l)
     return rack_cont_step(l->read[0].at, l->read[0].len, l->work.at, l->work.len, l->answer.at, l->answer.len);
 }
 
-/* Cells from `from` up to `to`, each a word. */
-static void put_cells(struct answer *a, const uint8_t *state, size_t from, size_t to)
-{
-    for (size_t k = from; k < to; k++)
-        put_alone(a, number_at(state + k * NUMBER));
-}
-
-/* Cells as one word. */
+/* So many cells of a state, from `from` on. */
 static void put_array(struct answer *a, enum kind kind, size_t columns, const uint8_t *state, size_t from, size_t len)
 {
     begin(a, kind, columns);
-    for (size_t k = from; k < from + len; k++)
-        put(a, number_at(state + k * NUMBER));
+    if (a->room - a->len < len)
+        make_room(a, len);
+    for (size_t k = 0; k < len; k++)
+        a->numbers[a->len + k] = number_at(state + (from + k) * NUMBER);
+    a->len += len;
+    a->words[a->words_len - 1].len = len;
+}
+
+/* Cells from `from` up to `to`, each a word. */
+static void put_cells(struct answer *a, const uint8_t *state, size_t from, size_t to)
+{
+    put_array(a, EACH, 1, state, from, to - from);
 }
 
 static void put_fence(const struct question *q, const struct text *text, const uint8_t *state, struct answer *a)
 {
     (void)q;
     put_cells(a, state, 0, 5);
-    put_asked(a, TEXT, text->run);
+    put_asked(a, TEXT, text->bytes.run);
     put_cells(a, state, 5, 6);
 }
 
 static void put_item(const struct question *q, const struct text *text, const uint8_t *state, struct answer *a)
 {
     put_cells(a, state, 0, 3);
-    put_asked(a, LENT, q->accepted);
+    put_asked(a, LENT, q->accepted.run);
     put_array(a, LIST, 1, state, 4, 3);
     put_cells(a, state, 7, 9);
-    put_asked(a, TEXT, text->run);
+    put_asked(a, TEXT, text->bytes.run);
     put_cells(a, state, 3, 4);
 }
 
@@ -111,32 +115,26 @@ static void put_cont(const struct question *q, const struct text *text, const ui
     put_array(a, CELLS, 1, state, OPEN, DEPTH);
     put_cells(a, state, PENDING_COUNT, PENDING_INDEX + 1);
     put_array(a, CELLS, 2, state, PENDING, 2 * DEPTH);
-    put_asked(a, TEXT, text->run);
+    put_asked(a, TEXT, text->bytes.run);
     put_cells(a, state, 5, 6);
 }
 
 static const uint32_t fence_limits[] = {255, 255, 255, 255, 255, UINT32_MAX};
 static const uint32_t item_limits[] = {255, 255, 255, UINT32_MAX, 255, 255, 255, UINT32_MAX, 1};
 
-/* Four bytes; all other cells may hold any number, which may be one that the scanner refuses. */
-static const uint32_t *cont_limits(void)
-{
-    static uint32_t limits[MOST_CELLS];
-    for (size_t k = 0; k < MOST_CELLS; k++)
-        limits[k] = k < 4 ? 255 : UINT32_MAX;
-    return limits;
-}
+/* Its other cells may hold any number, which may be one that the scanner refuses. */
+static const uint32_t cont_limits[] = {255, 255, 255, 255};
 
-static const struct scanner fence = {6, 5, fence_limits, fresh_fence, step_fence, false, {0, 1}, 2, put_fence};
-static const struct scanner marker = {9, 3, item_limits, fresh_marker, step_marker, true, {2, 0, 1}, 3, put_item};
-static const struct scanner numbered = {9, 3, item_limits, fresh_numbered, step_numbered, true, {3, 2, 0, 1}, 4, put_item};
-static const struct scanner cont = {MOST_CELLS, 5, NULL, fresh_cont, step_cont, false, {0, 1}, 2, put_cont};
+static const struct scanner fence = {6, 5, fence_limits, 6, fresh_fence, step_fence, false, {0, 1}, 2, put_fence};
+static const struct scanner marker = {9, 3, item_limits, 9, fresh_marker, step_marker, true, {2, 0, 1}, 3, put_item};
+static const struct scanner numbered = {9, 3, item_limits, 9, fresh_numbered, step_numbered, true, {3, 2, 0, 1}, 4, put_item};
+static const struct scanner cont = {MOST_CELLS, 5, cont_limits, 4, fresh_cont, step_cont, false, {0, 1}, 2, put_cont};
 
 /* The fresh state, written over a state of other cells. */
 static void make_fresh(const struct scanner *s, const struct question *q, uint8_t *state)
 {
     struct run given = {state, s->cells * NUMBER};
-    struct call call = {.enter = s->fresh, .of = q, .read = {q->accepted}, .reads = s->has_set, .work = A_STATE, .given = given};
+    struct call call = {.enter = s->fresh, .of = q, .read = {&q->accepted}, .reads = s->has_set, .work = A_STATE, .given = given};
     struct outcome got;
     memset(state, 77, given.len);
     run_call(&call, &got);
@@ -151,10 +149,12 @@ static void make_step(const struct scanner *s, const struct question *q, const s
     struct call call = call_of(q, text);
     call.enter = s->step;
     if (s->has_set)
-        call.read[call.reads++] = q->accepted;
+        call.read[call.reads++] = &q->accepted;
+    call.most_values = s->told;
     call.work = A_STATE;
     call.given = (struct run){state, s->cells * NUMBER};
-    call.limits = s->limits ? s->limits : cont_limits();
+    call.limits = s->limits;
+    call.limited = s->limited;
     run_call(&call, got);
     if (!got->refusal)
         memcpy(state, got->work.at, call.given.len);
@@ -184,8 +184,8 @@ static void ask_step(const struct question *q, const struct text *text, size_t p
     const struct scanner *s = q->form->scanner;
     uint8_t state[MOST_CELLS * NUMBER];
     struct outcome got;
-    for (size_t k = 0; k < s->cells; k++)
-        put_number(state + k * NUMBER, k == s->pos ? (uint32_t)place : q->state[k]);
+    memcpy(state, q->state, s->cells * NUMBER);
+    put_number(state + s->pos * NUMBER, (uint32_t)place);
     make_step(s, q, text, state, &got);
     if (got.refusal) {
         refuse(a, got.refusal);
@@ -208,7 +208,7 @@ static void ask_run(const struct question *q, const struct text *text, size_t pl
     clear(a, ALL);
     begin(a, LIST, s->told);
     /* Each item and each frame has a byte of the text of its own. */
-    for (size_t most = text->run.len + 1; most; most--) {
+    for (size_t most = text->bytes.run.len + 1; most; most--) {
         struct outcome got;
         make_step(s, q, text, state, &got);
         if (got.refusal) {
@@ -229,19 +229,26 @@ static void read_blanks(struct words *words, struct question *q)
     q->tab = next_byte(words, "the tab is a byte");
 }
 
+/* The first cells of a handmade state. */
+static void make_state(struct question *q, const uint32_t *cells, size_t count)
+{
+    for (size_t k = 0; k < count; k++)
+        put_number(q->state + k * NUMBER, cells[k]);
+}
+
 static void read_fence(struct words *words, struct question *q)
 {
     q->byte = next_byte(words, "the fence byte is a byte");
     q->min = next_byte(words, "the minimum is a byte");
     read_blanks(words, q);
     uint32_t cells[] = {q->byte, q->min, q->eol, q->sep, q->tab};
-    memcpy(q->state, cells, sizeof cells);
+    make_state(q, cells, sizeof cells / sizeof *cells);
 }
 
 static void read_item(struct words *words, struct question *q)
 {
     read_blanks(words, q);
-    q->accepted = next_bytes(words, "accepted bytes are a list");
+    q->accepted = keep_sealed(next_bytes(words, "accepted bytes are a list"));
 }
 
 static void read_item_step(struct words *words, struct question *q)
@@ -253,7 +260,7 @@ static void read_item_step(struct words *words, struct question *q)
     uint32_t nn = (uint32_t)next_number(words, "the needle count is a number", UINT32_MAX);
     uint32_t streaming = (uint32_t)next_number(words, "the streaming flag is 0 or 1", 255);
     uint32_t cells[] = {q->eol, q->sep, q->tab, 0, needles.at[0], needles.at[1], needles.at[2], nn, streaming};
-    memcpy(q->state, cells, sizeof cells);
+    make_state(q, cells, sizeof cells / sizeof *cells);
 }
 
 static void read_cont(struct words *words, struct question *q)
@@ -268,26 +275,32 @@ static void read_cont_fresh(struct words *words, struct question *q)
     q->nest = next_number(words, "the nest is a number", SIZE_MAX);
 }
 
-/* A list into an array of so many cells; the others stay 0. */
-static void read_cells(struct words *words, const char *what, size_t columns, uint32_t *cells, size_t size)
+/* A list into so many cells of a handmade state; the others stay 0. */
+static void read_cells(struct words *words, const char *what, size_t columns, struct question *q, size_t first, size_t size)
 {
     struct numbers list = next_list(words, what, columns);
     if (list.len > size)
         give_up("error", what);
     for (size_t i = 0; i < list.len; i++)
-        cells[i] = (uint32_t)list.at[i];
+        put_number(q->state + (first + i) * NUMBER, (uint32_t)list.at[i]);
+}
+
+static void read_cell(struct words *words, const char *what, struct question *q, size_t cell)
+{
+    put_number(q->state + cell * NUMBER, (uint32_t)next_number(words, what, UINT32_MAX));
 }
 
 static void read_cont_step(struct words *words, struct question *q)
 {
     read_cont(words, q);
-    uint32_t cells[] = {q->byte, q->eol, q->sep, q->tab, (uint32_t)next_number(words, "the cap is a number", UINT32_MAX)};
-    memcpy(q->state, cells, sizeof cells);
-    q->state[OPEN_COUNT] = (uint32_t)next_number(words, "the open count is a number", UINT32_MAX);
-    read_cells(words, "open cells are up to 32 numbers", 1, q->state + OPEN, DEPTH);
-    q->state[PENDING_COUNT] = (uint32_t)next_number(words, "the pending count is a number", UINT32_MAX);
-    q->state[PENDING_INDEX] = (uint32_t)next_number(words, "the pending index is a number", UINT32_MAX);
-    read_cells(words, "pending cells are up to 32 START:END", 2, q->state + PENDING, 2 * DEPTH);
+    uint32_t cells[] = {q->byte, q->eol, q->sep, q->tab};
+    make_state(q, cells, sizeof cells / sizeof *cells);
+    read_cell(words, "the cap is a number", q, CAP);
+    read_cell(words, "the open count is a number", q, OPEN_COUNT);
+    read_cells(words, "open cells are up to 32 numbers", 1, q, OPEN, DEPTH);
+    read_cell(words, "the pending count is a number", q, PENDING_COUNT);
+    read_cell(words, "the pending index is a number", q, PENDING_INDEX);
+    read_cells(words, "pending cells are up to 32 START:END", 2, q, PENDING, 2 * DEPTH);
 }
 
 const struct form scanner_forms[] = {

@@ -1,24 +1,66 @@
 #include "text.h"
 
+static struct placed sealed(uint8_t byte, size_t times, struct run tail)
+{
+    struct placed placed = {0};
+    for (int side = BEHIND; side < SIDES; side++)
+        placed.at[side] = lend_sealed(side, byte, times, tail);
+    placed.run = placed.at[BEHIND];
+    return placed;
+}
+
+static void unseal(struct placed *placed)
+{
+    for (int side = BEHIND; side < SIDES; side++)
+        unlend_sealed(side, placed->at[side]);
+    *placed = (struct placed){0};
+}
+
 struct text text_of(struct run run)
 {
-    struct text text = {.run = run, .size = run.len > PAGE ? LONG : SHORT};
-    for (int side = BEHIND; text.size == LONG && side <= BEFORE; side++)
-        text.sealed[side] = lend_sealed(side, 0, 0, run);
-    return text;
+    static struct rooms rooms;
+    if (run.len <= PAGE)
+        return (struct text){place_run(&rooms, run), SHORT};
+    return (struct text){sealed(0, 0, run), LONG};
 }
 
 struct text text_of_word(struct text_word word)
 {
     if (!word.times)
         return text_of(word.tail);
-    struct run run = lend_sealed(BEHIND, word.byte, word.times, word.tail);
-    return (struct text){.run = run, .size = HUGE, .sealed = {run}};
+    return (struct text){sealed(word.byte, word.times, word.tail), HUGE};
+}
+
+void check_text(const struct text *text)
+{
+    if (text->size == SHORT && !is_as_placed(&text->bytes))
+        give_up("changed", "the text");
 }
 
 void release(struct text *text)
 {
-    for (int side = BEHIND; side <= BEFORE; side++)
-        unlend_sealed(side, text->sealed[side]);
+    if (text->size != SHORT)
+        unseal(&text->bytes);
     *text = (struct text){0};
+}
+
+/* What is sealed, each piece pointing at the one before it. */
+struct piece {
+    struct piece *before;
+    struct placed placed;
+};
+static struct piece *pieces;
+
+struct placed keep_sealed(struct run run)
+{
+    struct piece *piece = keep(sizeof *piece);
+    *piece = (struct piece){pieces, sealed(0, 0, run)};
+    pieces = piece;
+    return piece->placed;
+}
+
+void give_back_sealed(void)
+{
+    for (; pieces; pieces = pieces->before)
+        unseal(&pieces->placed);
 }

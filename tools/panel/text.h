@@ -1,22 +1,26 @@
-/* A text that is asked about, and how it is lent. */
+/* A text that is asked about, and other bytes that a call only reads: how they are lent. */
 #ifndef TEXT_H
 #define TEXT_H
 
 #include "words.h"
 
-/* How often a text's questions are put to an entry, and how it is lent. A short text is copied for each call, and compared after it. A
- * long one lies sealed on both sides, since copying would take longer than asking. A huge one lies sealed against the page behind
- * it alone, and each of its questions is put once. */
+/* A short text is copied to where it is lent, and compared after its questions. A long one lies where nothing can be written. A huge
+ * one does too, and each of its questions is put with ample room alone. */
 enum size { SHORT, LONG, HUGE };
 
 struct text {
-    struct run run;
+    struct placed bytes;
     enum size size;
-    struct run sealed[2];
 };
 
 struct text text_of(struct run run);
 struct text text_of_word(struct text_word word);
+/* Ends the request where a short text has changed. */
+void check_text(const struct text *text);
 void release(struct text *text);
+
+/* Bytes that lie where nothing can be written, until the request is answered. */
+struct placed keep_sealed(struct run run);
+void give_back_sealed(void);
 
 #endif

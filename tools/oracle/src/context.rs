@@ -1,6 +1,7 @@
 //! Building, the parts it is made of, and the cursor.
 
 use crate::answer::{bytes, number, span, Answer, Head, Word};
+use crate::listing::{sheet, Item};
 use crate::question::{alone, at_place, of_text, Question, WITHIN};
 use crate::words::Words;
 use meon::engine::text_parser::standalone::common::find_line_end;
@@ -25,6 +26,15 @@ pub fn question(name: &str, words: &mut Words) -> Result<Option<Question>, Strin
         "context_cover" => {
             let grammar = Grammar::read(words)?;
             of_text(move |text| Answer::all(covered(&grammar.regions(text), text.len())))
+        }
+        "context_sheet" => {
+            let grammar = Grammar::read(words)?;
+            let (markers, delimiters) = (words.bytes("markers")?, words.bytes("delimiters")?);
+            of_text(move |text| {
+                let bounds = [grammar.eol, grammar.sep, grammar.tab];
+                let items = sheet(text, bounds, &markers, &delimiters, &grammar.regions(text));
+                Answer::all(items.iter().map(Item::five).collect())
+            })
         }
         "context_into" => {
             let cells = words.number("cells")?;

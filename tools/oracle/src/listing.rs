@@ -40,7 +40,7 @@ pub fn question(name: &str, words: &mut Words) -> Result<Option<Question>, Strin
 }
 
 /// "start, end, kind (0 marker, 1 numbered), accepted byte, number (0 for a marker)"
-struct Item {
+pub struct Item {
     content: Span,
     kind: u64,
     byte: u8,
@@ -48,7 +48,7 @@ struct Item {
 }
 
 impl Item {
-    fn five(&self) -> Vec<u64> {
+    pub fn five(&self) -> Vec<u64> {
         vec![
             self.content.start.into(),
             self.content.end.into(),
@@ -82,7 +82,7 @@ fn numbered(text: &[u8], [eol, sep, tab]: [u8; 3], accepted: &[u8]) -> Vec<Item>
 
 /// "the marker and numbered items, both scanned from place 0, whose content start isn't inside a region, by
 /// rising content start, the marker item first where two are equal"
-fn sheet(text: &[u8], bounds: [u8; 3], marks: &[u8], delimiters: &[u8], regions: &[Span]) -> Vec<Item> {
+pub fn sheet(text: &[u8], bounds: [u8; 3], marks: &[u8], delimiters: &[u8], regions: &[Span]) -> Vec<Item> {
     let mut items = markers(text, bounds, marks);
     items.extend(numbered(text, bounds, delimiters));
     items.retain(|item| {
