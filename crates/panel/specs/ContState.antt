@@ -8,7 +8,7 @@ use Rattle.common.specs.Rules.{tabulate}
 use Rattle.common.specs.declared.span.Span.{Span}
 use Rattle.cont.specs.declared.ContIter.{ContIter}
 use Rattle.cont.specs.Frames.{frame}
-use Rattle.panel.specs.Reply.{Laid}
+use Rattle.cells.specs.Reply.{Laid}
 
 -- the first four fields are bytes
 unfoldable pub contLimits : List ℕ

@@ -2,24 +2,20 @@
 use mathlib.Core.Path.{_≡_, refl, sym, ap, _∙_}
 use mathlib.Core.Bool.{Bool, true}
 use mathlib.Core.List.{List, [], _∷_, _++_}
-use Prim.Native.Nat.{ℕ, zero, suc, _+_, _*_, _≤_, _<_}
-use native.Mathlib.Numerals.{add-one}
+use Prim.Native.Nat.{ℕ, _+_, _*_, _≤_, _<_}
 use native.Mathlib.Omega.{arith}
 use lib.ListN.{length, getD, set, replicate, length-append}
 use Rattle.search.specs.Promise.{Gives}
 use Rattle.common.specs.Entry.{flatten, putAt}
 use Rattle.common.specs.EntryLaws.{length-flatten}
-use Rattle.common.specs.Rules.{tabulate}
-use Rattle.common.specs.TableLaws.{length-tabulate}
 use Rattle.common.specs.declared.span.Span.{Span}
 use Rattle.cont.specs.declared.ContIter.{ContIter}
 use Rattle.cont.specs.Frames.{frame}
-use Rattle.panel.specs.Bytes.{cells}
-use Rattle.panel.specs.State.{readable}
+use Rattle.cells.specs.Bytes.{cells, readable}
 use Rattle.panel.specs.ContState.{contLimits, single, spanPair, Spread, contCells, openFrom, pendingFrom, contFrom}
-use Rattle.panel.specs.ByteLaws.{put-append, put-all, Lays, lays-first, lays-next, lays-all}
-use Rattle.panel.specs.ReplyLaws.{laid-behind}
-use Rattle.panel.specs.CellLaws.{readable-long, byte-field}
+use Rattle.cells.specs.ByteLaws.{put-all, Lays, lays-first, lays-next, lays-all, Fills, fills-again, fills-all}
+use Rattle.cells.specs.ReplyLaws.{laid-behind}
+use Rattle.cells.specs.CellLaws.{readable-long, byte-field}
 
 -- ---- laying
 module _ {o out₀ : List ℕ} where
@@ -74,41 +70,7 @@ pub cont-room : (state next : List ℕ) (b : Bool) → length next ≡ 105 → b
 unfolding contLimits
 cont-room state next b h e g = omega (arith, readable-long contLimits state (sym (g .answer) ∙ e))
 
--- ---- reading: an array whose first i places are filled by a function
-module _ {B : Type 0} where
-  tabulate-snoc : (f : ℕ → B) (n a : ℕ) → tabulate f (suc n) a ≡ tabulate f n a ++ (f (a + n) ∷ [])
-  unfolding tabulate
-  tabulate-snoc f zero a =
-      let e : a + 0 ≡ a = omega arith in
-      rw e
-  tabulate-snoc f (suc n) a =
-      let e : suc a + n ≡ a + suc n = omega arith in
-      ap (λ (l : List B). f a ∷ l) (tabulate-snoc f n (suc a) ∙ ap (λ (k : ℕ). tabulate f n (suc a) ++ (f k ∷ [])) e)
-
-  pub record Fills (f : ℕ → B) (n : ℕ) (out₀ out : List B) (i : ℕ) : Type 0 where
-    pub within : i ≤ n
-    pub long : length out₀ ≡ n
-    pub list : out ≡ putAt 0 (tabulate f i 0) out₀
-
-  pub fills-first : (f : ℕ → B) (n : ℕ) (out : List B) → length out ≡ n → Fills f n out out 0
-  unfolding tabulate
-  fills-first f n out h = record { within = omega arith; long = h; list = refl }
-
-  pub fills-again : (f : ℕ → B) (n i : ℕ) (v : B) (out₀ out : List B) → i < n → v ≡ f i → Fills f n out₀ out i → Fills f n out₀ (set out i v) (i + 1)
-  fills-again f n i v out₀ out h e l =
-      let z : 0 + i ≡ i = omega arith in
-      let s : tabulate f (suc i) 0 ≡ tabulate f i 0 ++ (v ∷ []) = tabulate-snoc f i 0 ∙ rw (z, e) in
-      record {
-        within = omega arith;
-        long = l .long;
-        list = ap (λ (x : List B). set x i v) (l .list) ∙ rw (add-one i, s, put-append 0 (tabulate f i 0) (v ∷ []) out₀, length-tabulate f i 0, z);
-      }
-
-  pub fills-all : (f : ℕ → B) (n i : ℕ) (out₀ out : List B) → n ≤ i → Fills f n out₀ out i → out ≡ tabulate f n 0
-  fills-all f n i out₀ out h l =
-      let e : i ≡ n = omega arith in
-      l .list ∙ rw e (put-all (tabulate f n 0) out₀ (length-tabulate f n 0 ∙ sym (l .long)))
-
+-- ---- reading
 abbrev pub openCell : List ℕ → ℕ → ℕ
 openCell run i = getD (cells run) (i + 6) 0
 

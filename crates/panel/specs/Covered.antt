@@ -4,8 +4,8 @@ use mathlib.Core.List.{List, [], _∷_}
 use Prim.Native.Nat.{ℕ}
 use Rattle.common.specs.Refusals.{Outcome}
 use Rattle.context.specs.Cursor.{coverAnswer, coverNext}
-use Rattle.panel.specs.Bytes.{cells}
-use Rattle.panel.specs.Reply.{served}
+use Rattle.cells.specs.Bytes.{cells}
+use Rattle.cells.specs.Reply.{served}
 
 -- an answer's values behind an index; a refusal has none
 abbrev pub behind : ℕ → Outcome → Outcome

@@ -19,11 +19,11 @@ use Rattle.common.specs.declared.refusal.Found.{Found}
 use Rattle.common.specs.declared.refusal.Found.the-variants as found
 use Rattle.context.specs.Cursor.{after, passed, endAt, coverAnswer, coverNext}
 use Rattle.context.specs.CursorLaws.{Passes, passes-again, passes-found, passes-end, cover-refused, cover-past}
-use Rattle.panel.specs.Bytes.{cells}
-use Rattle.panel.specs.Reply.{Replied}
+use Rattle.cells.specs.Bytes.{cells}
+use Rattle.cells.specs.Reply.{Replied}
 use Rattle.panel.specs.Covered.{behind, covered}
-use Rattle.panel.specs.CellLaws.{length-cells}
-use Rattle.panel.specs.ReplyLaws.{reply-refused}
+use Rattle.cells.specs.CellLaws.{length-cells}
+use Rattle.cells.specs.ReplyLaws.{reply-refused}
 
 -- ---- one region, from a up to b
 module _ (a b place : ℕ) where

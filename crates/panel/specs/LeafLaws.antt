@@ -9,8 +9,8 @@ use Rattle.common.specs.declared.sets.Probe.{Probe}
 use Rattle.rules.specs.Columns.{searchBytes}
 use Rattle.rules.specs.declared.search_bytes.SearchBytes.{SearchBytes}
 use mathlib.Core.Bool.{Bool}
-use Rattle.panel.specs.Bytes.{asFlag}
-use Rattle.panel.specs.Reply.{Replied}
+use Rattle.cells.specs.Bytes.{asFlag}
+use Rattle.cells.specs.Reply.{Replied}
 use Rattle.panel.specs.Leaves.{probeValues, probed, searchValues, searched}
 
 pub probe-reply : (accepted : List ℕ) (set : List Bool) (p : Probe) (x : ℕ) (run run′ : List ℕ) (n : ℕ) → Gives (setOf accepted) set → Gives (probe set) p → Gives (asFlag (p .streaming)) x

@@ -6,7 +6,7 @@ use Rattle.common.specs.Sets.{setOf, probe}
 use Rattle.common.specs.declared.sets.Probe.{Probe}
 use Rattle.rules.specs.Columns.{searchBytes}
 use Rattle.rules.specs.declared.search_bytes.SearchBytes.{SearchBytes}
-use Rattle.panel.specs.Bytes.{asFlag}
+use Rattle.cells.specs.Bytes.{asFlag}
 
 -- a probe's values: the flag, the count, and the needles
 abbrev pub probeValues : Probe → List ℕ

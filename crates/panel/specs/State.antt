@@ -1,9 +1,9 @@
 -- States as byte runs, and what a scanner's entries return and leave. Assumes nothing.
 use mathlib.Core.Path.{_≡_}
-use mathlib.Core.Bool.{Bool, true, false, not, cond, _&&_}
+use mathlib.Core.Bool.{Bool, not, cond}
 use mathlib.Core.List.{List, [], _∷_}
 use Prim.Native.Nat.{ℕ, _*_}
-use lib.Dec.{eqb, leb}
+use lib.Dec.{eqb}
 use lib.ListN.{length, getD}
 use Rattle.common.specs.Entry.{flatten}
 use Rattle.common.specs.Refusals.{Outcome, refuse, tooLong}
@@ -13,20 +13,8 @@ use Rattle.block_marker.specs.declared.BlockMarkerIter.{BlockMarkerIter}
 use Rattle.block_marker.specs.Marker.{answer as markerTold, state as markerNext}
 use Rattle.block_numbered.specs.declared.BlockNumberedIter.{BlockNumberedIter}
 use Rattle.block_numbered.specs.Numbered.{answer as numberedTold, state as numberedNext}
-use Rattle.panel.specs.Bytes.{four, cells, asFlag}
-use Rattle.panel.specs.Reply.{served, fitted, Replied}
-
--- whether there is one number for each limit, and none is over its limit
-unfoldable pub within : List ℕ → List ℕ → Bool
-within [] [] = true
-within [] (x ∷ xs) = false
-within (m ∷ ms) [] = false
-within (m ∷ ms) (x ∷ xs) = leb x m && within ms xs
-
--- "a state run of the wrong length is refused with 2, a cell that is no byte/flag where the field is one likewise": whole cells, one for
--- each limit, a byte's limit 255, a flag's 1
-unfoldable pub readable : List ℕ → List ℕ → Bool
-readable limits run = eqb (length run) (length limits * 4) && within limits (cells run)
+use Rattle.cells.specs.Bytes.{four, cells, asFlag, readable}
+use Rattle.cells.specs.Reply.{served, fitted, Replied}
 
 -- ---- `new`: it writes the cells of a fresh state
 abbrev pub sized : List ℕ → List ℕ → Bool

@@ -17,12 +17,12 @@ use Rattle.block_marker.specs.declared.BlockMarkerIter.{BlockMarkerIter}
 use Rattle.block_marker.specs.Marker.{fresh as freshMarker}
 use Rattle.block_numbered.specs.declared.BlockNumberedIter.{BlockNumberedIter}
 use Rattle.block_numbered.specs.Numbered.{fresh as freshNumbered}
-use Rattle.panel.specs.Bytes.{four, cells, asFlag}
-use Rattle.panel.specs.Reply.{Laid, fitted, Replied}
-use Rattle.panel.specs.State.{readable, sized, Made, Moved, stepAnswer, fenceLimits, fenceFrom, markerLimits, markerCells, markerFrom, numberedCells, numberedFrom}
-use Rattle.panel.specs.ByteLaws.{length-four, put-over}
-use Rattle.panel.specs.ReplyLaws.{replied-unique, too-short, enough, reply-short, refused-by}
-use Rattle.panel.specs.CellLaws.{readable-long, byte-field}
+use Rattle.cells.specs.Bytes.{four, cells, asFlag, readable}
+use Rattle.cells.specs.Reply.{LaidIf, fitted, Replied}
+use Rattle.panel.specs.State.{sized, Made, Moved, stepAnswer, fenceLimits, fenceFrom, markerLimits, markerCells, markerFrom, numberedCells, numberedFrom}
+use Rattle.cells.specs.ByteLaws.{length-four, put-over}
+use Rattle.cells.specs.ReplyLaws.{replied-unique, laid-there, too-short, enough, reply-short, refused-by}
+use Rattle.cells.specs.CellLaws.{readable-long, byte-field}
 
 -- two results for the same arguments are one
 pub made-unique : {next run run′ run″ : List ℕ} {r r′ : ℕ} → Made next run run′ r → Made next run run″ r′ → (r ≡ r′) × (run′ ≡ run″)
@@ -34,17 +34,17 @@ moved-unique a b =
     (e .0, e .1, a .left ∙ sym (b .left))
 
 -- ---- a state that is written whole
-whole : (next run run′ : List ℕ) → length next * 4 ≡ length run → Laid 0 (flatten four next) run run′ → run′ ≡ flatten four next
+whole : (next run run′ : List ℕ) → length next * 4 ≡ length run → LaidIf 0 (flatten four next) run run′ → run′ ≡ flatten four next
 whole next run run′ h d =
     let n = length-four next in
-    d .list ∙ put-over (flatten four next) run (omega arith) ∙ rw (drop-of-length-le run {i = length (flatten four next)} (omega arith)) (append-nil (flatten four next))
+    laid-there 0 (flatten four next) run run′ (omega arith) d .list ∙ put-over (flatten four next) run (omega arith) ∙ rw (drop-of-length-le run {i = length (flatten four next)} (omega arith)) (append-nil (flatten four next))
 
 -- ---- `new`
 module _ (next run run′ : List ℕ) where
   pub made-not : (length run ≡ length next * 4 → ⊥) → Made next run run 2
   made-not h = record { number = simp (ne-eqb (length run) (length next * 4) h); left = simp (ne-eqb (length run) (length next * 4) h) }
 
-  pub made-whole : length run ≡ length next * 4 → Laid 0 (flatten four next) run run′ → Made next run run′ 0
+  pub made-whole : length run ≡ length next * 4 → LaidIf 0 (flatten four next) run run′ → Made next run run′ 0
   made-whole h d =
       let t : sized next run ≡ true = eq-eqb (length run) (length next * 4) h in
       record { number = simp t; left = whole next run run′ (sym h) d ∙ simp t }
@@ -67,7 +67,7 @@ module _ (vs next state run : List ℕ) (m : ℕ) (room : Gives (length run / 4)
   unfolding fitted
   moved-short h = record { reply = reply-short vs run m room h; left = simp (too-short vs run m room h) }
 
-  pub moved-values : (state′ run′ : List ℕ) (n : ℕ) → length vs < m → length next * 4 ≡ length state → Laid 0 (flatten four next) state state′ → Replied (given vs) run run′ n → Moved (given vs) next state state′ run run′ n
+  pub moved-values : (state′ run′ : List ℕ) (n : ℕ) → length vs < m → length next * 4 ≡ length state → LaidIf 0 (flatten four next) state state′ → Replied (given vs) run run′ n → Moved (given vs) next state state′ run run′ n
   unfolding fitted
   moved-values state′ run′ n h e d w = record { reply = w; left = whole next state state′ e d ∙ simp (enough vs run m room h) }
 

@@ -1,15 +1,14 @@
 // The state of the scanner of frames as a byte run: six cells, 32 for the open frames' starts, their count, 64 for the pending
 // frames' starts and ends, their count and index.
-use crate::cells::cell;
-use crate::cells::cells_fit;
+use cells::cell;
+use cells::cells_fit;
 use common::span::Span;
 use cont::ContIter;
 use search::byte_at;
 ghost use mathlib.Core.Path.{_≡_};
 ghost use mathlib.Core.Bool.{true};
 ghost use Rattle.search.specs.Promise.{Gives};
-ghost use Rattle.panel.specs.Bytes.{cells};
-ghost use Rattle.panel.specs.State.{readable};
+ghost use Rattle.cells.specs.Bytes.{cells, readable};
 ghost use Rattle.panel.specs.ContState.{single, spanPair, Spread, openFrom, pendingFrom, contLimits, contCells, contFrom};
 
 // Whether a run has the state's cells, and none is over its limit.

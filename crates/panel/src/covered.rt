@@ -1,6 +1,6 @@
 // The cursor's number form over a list in bytes.
-use crate::cells::cell;
-use crate::reply;
+use cells::cell;
+use cells::reply;
 use common::refusal::Found;
 use common::refusal::Refusal;
 use context::cursor::Cover;
@@ -8,8 +8,8 @@ use context::cursor::covering_end;
 ghost use Rattle.search.specs.Promise.{Steps};
 ghost use Rattle.common.specs.Refusals.{toldFound};
 ghost use Rattle.context.specs.Cursor.{coverAnswer, coverNext};
-ghost use Rattle.panel.specs.Bytes.{cells};
-ghost use Rattle.panel.specs.Reply.{Replied};
+ghost use Rattle.cells.specs.Bytes.{cells};
+ghost use Rattle.cells.specs.Reply.{Replied};
 ghost use Rattle.panel.specs.Covered.{covered};
 
 // The core's query on one region after the other, until one is not passed.

@@ -1,11 +1,11 @@
 // The leaves of common.rs, and the bytes searched for.
-use crate::reply;
+use cells::reply;
 use common::sets::byte_set;
 use common::sets::probe_matcher;
 use rules::search_bytes::search_bytes;
 ghost use Rattle.common.specs.Leaf.{findLineEnd, countEscape, nextInParagraph};
 ghost use Rattle.common.specs.Sets.{probe};
-ghost use Rattle.panel.specs.Reply.{Replied};
+ghost use Rattle.cells.specs.Reply.{Replied};
 ghost use Rattle.panel.specs.Leaves.{probed, searched};
 
 // The first line end at or after a place, else the text's length.

@@ -1,10 +1,10 @@
 // Each scanner's `new` and its step. A state is a lent run of cells of four bytes, one for each field in the order of the fields,
 // arrays cell by cell. `new` writes it; a step reads it, and on success alone writes the next state over it.
-use crate::cells::cells_fit;
 use crate::cont_state;
 use crate::states;
 use block_marker::BlockMarkerIter;
 use block_numbered::BlockNumberedIter;
+use cells::cells_fit;
 use common::sets::byte_set;
 use common::span::MAX_INPUT_LEN;
 use cont::ContIter;

@@ -1,13 +1,13 @@
 // States as byte runs: a cell of four bytes for each field, in the order of the fields, arrays cell by cell.
-use crate::cells::cell;
-use crate::reply::flag;
-use crate::reply::put_numbers;
-use crate::reply::room_of;
-use crate::reply::values;
 use block_marker::BlockMarkerIter;
 use block_marker::MarkerFound;
 use block_numbered::BlockNumberedIter;
 use block_numbered::NumberedFound;
+use cells::cell;
+use cells::reply::flag;
+use cells::reply::put_numbers;
+use cells::reply::room_of;
+use cells::reply::values;
 use common::sets::index;
 use common::span::SpanFound;
 use fence::FenceIter;
@@ -20,8 +20,8 @@ ghost use Rattle.search.specs.Promise.{Gives};
 ghost use Rattle.common.specs.Refusals.{given, toldSpan};
 ghost use Rattle.block_marker.specs.Marker.{told as toldMarker};
 ghost use Rattle.block_numbered.specs.Numbered.{told as toldNumbered};
-ghost use Rattle.panel.specs.Bytes.{cells};
-ghost use Rattle.panel.specs.State.{readable, Made, Moved, fenceLimits, fenceCells, fenceFrom, markerLimits, markerCells, markerFrom, numberedCells, numberedFrom};
+ghost use Rattle.cells.specs.Bytes.{cells, readable};
+ghost use Rattle.panel.specs.State.{Made, Moved, fenceLimits, fenceCells, fenceFrom, markerLimits, markerCells, markerFrom, numberedCells, numberedFrom};
 
 // Writes a fresh state; 2 where the run is not one cell for each number.
 pub(crate) fn made(all: &[usize], state: &mut [u8]) -> u32

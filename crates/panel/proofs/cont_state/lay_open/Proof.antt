@@ -1,7 +1,7 @@
 -- `lay_open` meets its contract: a loop that lays numbers. Assumes nothing.
 use borrow.Author.Needs.{needs}
 use Prim.Native.Nat.{_-_}
-use Rattle.panel.specs.ByteLaws.{Lays}
+use Rattle.cells.specs.ByteLaws.{Lays}
 use Rattle.panel.specs.ContState.{single}
 use Rattle.panel.specs.ContStateLaws.{open-first, open-again, open-all}
 use Rattle.panel.proofs.cont_state.lay_open.Statement.{statement}

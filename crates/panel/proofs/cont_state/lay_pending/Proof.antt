@@ -1,7 +1,7 @@
 -- `lay_pending` meets its contract: a loop that lays spans. Assumes nothing.
 use borrow.Author.Needs.{needs}
 use Prim.Native.Nat.{_-_}
-use Rattle.panel.specs.ByteLaws.{Lays}
+use Rattle.cells.specs.ByteLaws.{Lays}
 use Rattle.panel.specs.ContState.{spanPair}
 use Rattle.panel.specs.ContStateLaws.{pending-first, pending-again, pending-all}
 use Rattle.panel.proofs.cont_state.lay_pending.Statement.{statement}

@@ -1,7 +1,8 @@
 -- `read_open` meets its contract: a loop that fills an array. Assumes nothing.
 use borrow.Author.Needs.{needs}
 use Prim.Native.Nat.{_-_}
-use Rattle.panel.specs.ContStateLaws.{Fills, fills-first, openCell, read-open-again, read-open-all}
+use Rattle.cells.specs.ByteLaws.{Fills, fills-first}
+use Rattle.panel.specs.ContStateLaws.{openCell, read-open-again, read-open-all}
 use Rattle.panel.proofs.cont_state.read_open.Statement.{statement}
 use Rattle.panel.proofs.cont_state.read_open.Tie as tie
 

@@ -1,7 +1,8 @@
 -- `read_pending` meets its contract: a loop that fills an array. Assumes nothing.
 use borrow.Author.Needs.{needs}
 use Prim.Native.Nat.{_-_}
-use Rattle.panel.specs.ContStateLaws.{Fills, fills-first, pendingCell, read-pending-again, read-pending-all}
+use Rattle.cells.specs.ByteLaws.{Fills, fills-first}
+use Rattle.panel.specs.ContStateLaws.{pendingCell, read-pending-again, read-pending-all}
 use Rattle.panel.proofs.cont_state.read_pending.Statement.{statement}
 use Rattle.panel.proofs.cont_state.read_pending.Tie as tie
 

@@ -2,7 +2,7 @@
 use borrow.Author.Needs.{needs}
 use Prim.Native.Nat.{_-_}
 use Rattle.context.specs.CursorLaws.{Passes, passes-first}
-use Rattle.panel.specs.Bytes.{cells}
+use Rattle.cells.specs.Bytes.{cells}
 use Rattle.panel.specs.CoveredLaws.{query-full, query-again, query-here, query-end}
 use Rattle.panel.proofs.covered.query.Statement.{statement}
 use Rattle.panel.proofs.covered.query.Tie as tie

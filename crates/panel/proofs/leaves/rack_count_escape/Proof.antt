@@ -1,5 +1,5 @@
 -- `rack_count_escape` meets its contract. Assumes nothing.
-use Rattle.panel.specs.ReplyLaws.{replied}
+use Rattle.cells.specs.ReplyLaws.{replied}
 use borrow.Author.Needs.{needs}
 use Rattle.panel.proofs.leaves.rack_count_escape.Statement.{statement}
 use Rattle.panel.proofs.leaves.rack_count_escape.Tie as tie

@@ -1,5 +1,5 @@
 -- `rack_find_line_end` meets its contract. Assumes nothing.
-use Rattle.panel.specs.ReplyLaws.{replied}
+use Rattle.cells.specs.ReplyLaws.{replied}
 use borrow.Author.Needs.{needs}
 use Rattle.panel.proofs.leaves.rack_find_line_end.Statement.{statement}
 use Rattle.panel.proofs.leaves.rack_find_line_end.Tie as tie

@@ -1,5 +1,5 @@
 -- `rack_next_in_paragraph` meets its contract. Assumes nothing.
-use Rattle.panel.specs.ReplyLaws.{replied}
+use Rattle.cells.specs.ReplyLaws.{replied}
 use borrow.Author.Needs.{needs}
 use Rattle.panel.proofs.leaves.rack_next_in_paragraph.Statement.{statement}
 use Rattle.panel.proofs.leaves.rack_next_in_paragraph.Tie as tie

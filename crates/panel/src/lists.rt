@@ -1,0 +1,126 @@
+// Lists in bytes: regions by their rules, and the work sheet.
+use pour::building::build_columns;
+use pour::building::build_rules;
+use pour::sheeting::sheet_columns;
+ghost use Rattle.pour.specs.Building.{grammar, BuiltBytes, BuiltRules};
+ghost use Rattle.pour.specs.Sheeting.{SheetBytes};
+
+// Building by rules given as columns: fence bytes and minimums; symmetric bytes and counts; asymmetric openers, closers and counts. A
+// count column has four bytes for each byte of its byte column.
+#[no_mangle]
+pub extern "C" fn rack_build(
+    text: &[u8],
+    eol: u8,
+    escape: u8,
+    sep: u8,
+    tab: u8,
+    fences: &[u8],
+    mins: &[u8],
+    symmetric: &[u8],
+    times: &[u8],
+    openers: &[u8],
+    closers: &[u8],
+    counts: &[u8],
+    out: &mut [u8],
+    answer: &mut [u8],
+) -> u32
+    ensures { λ r. ⌜ BuiltBytes (grammar eol escape sep tab) (now (fences .entry)) (now (mins .entry)) (now (symmetric .entry)) (now (times .entry)) (now (openers .entry)) (now (closers .entry)) (now (counts .entry)) (now (text .entry)) (now (out .entry)) (now (out .exit)) (now (answer .entry)) (now (answer .exit)) r ⌝ }
+{
+    build_columns(
+        text,
+        eol,
+        escape,
+        sep,
+        tab,
+        fences,
+        mins,
+        symmetric,
+        times,
+        openers,
+        closers,
+        counts,
+        out,
+        answer,
+    )
+}
+
+// Building by fence rules of two bytes each, a byte and a minimum, and by the inline rules' columns. An odd number of bytes is refused as
+// columns that differ.
+#[no_mangle]
+pub extern "C" fn rack_build_rules(
+    text: &[u8],
+    eol: u8,
+    escape: u8,
+    sep: u8,
+    tab: u8,
+    rules: &[u8],
+    symmetric: &[u8],
+    times: &[u8],
+    openers: &[u8],
+    closers: &[u8],
+    counts: &[u8],
+    out: &mut [u8],
+    answer: &mut [u8],
+) -> u32
+    ensures { λ r. ⌜ BuiltRules (grammar eol escape sep tab) (now (rules .entry)) (now (symmetric .entry)) (now (times .entry)) (now (openers .entry)) (now (closers .entry)) (now (counts .entry)) (now (text .entry)) (now (out .entry)) (now (out .exit)) (now (answer .entry)) (now (answer .exit)) r ⌝ }
+{
+    build_rules(
+        text,
+        eol,
+        escape,
+        sep,
+        tab,
+        rules,
+        symmetric,
+        times,
+        openers,
+        closers,
+        counts,
+        out,
+        answer,
+    )
+}
+
+// The work sheet of a text by rules given as columns, as building takes them, and by the accepted marker and delimiter bytes: the items
+// whose content starts in none of the regions that building finds. Item k goes to bytes 20k to 20k + 19 of `out`, and the answer is how
+// many there are. A refusal (1 the text is too long, 6 columns differ, 3 too little room) changes nothing.
+#[no_mangle]
+pub extern "C" fn rack_sheet(
+    text: &[u8],
+    eol: u8,
+    escape: u8,
+    sep: u8,
+    tab: u8,
+    fences: &[u8],
+    mins: &[u8],
+    symmetric: &[u8],
+    times: &[u8],
+    openers: &[u8],
+    closers: &[u8],
+    counts: &[u8],
+    markers: &[u8],
+    delims: &[u8],
+    out: &mut [u8],
+    answer: &mut [u8],
+) -> u32
+    ensures { λ r. ⌜ SheetBytes (grammar eol escape sep tab) (now (fences .entry)) (now (mins .entry)) (now (symmetric .entry)) (now (times .entry)) (now (openers .entry)) (now (closers .entry)) (now (counts .entry)) (now (markers .entry)) (now (delims .entry)) (now (text .entry)) (now (out .entry)) (now (out .exit)) (now (answer .entry)) (now (answer .exit)) r ⌝ }
+{
+    sheet_columns(
+        text,
+        eol,
+        escape,
+        sep,
+        tab,
+        fences,
+        mins,
+        symmetric,
+        times,
+        openers,
+        closers,
+        counts,
+        markers,
+        delims,
+        out,
+        answer,
+    )
+}

@@ -1,0 +1,6 @@
+pub mod Building
+pub mod PourLaws
+pub mod Hiding
+pub mod HidingLaws
+pub mod Sheeting
+pub mod SheetingLaws
