@@ -6,9 +6,6 @@
 
 #include "../../include/rack.h"
 
-/* Room for the regions of a huge text, which has few. */
-enum { HUGE_ROOM = 64 };
-
 static uint32_t enter_build(const void *of, const struct lent *l)
 {
     const struct question *q = of;

@@ -3,9 +3,6 @@
 
 #include "../../include/rack.h"
 
-/* Room for the items of a huge text, which has few. */
-enum { HUGE_ROOM = 64 };
-
 static uint32_t enter_sheet(const void *of, const struct lent *l)
 {
     const struct question *q = of;

@@ -8,6 +8,9 @@
  * one does too, and each of its questions is put with ample room alone. */
 enum size { SHORT, LONG, HUGE };
 
+/* Room for the regions, or the items, of a huge text, which has few. */
+enum { HUGE_ROOM = 64 };
+
 struct text {
     struct placed bytes;
     enum size size;

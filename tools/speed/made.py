@@ -104,20 +104,20 @@ class Rust:
         found = re.search(r'^version *= *"(\d+)\.(\d+)', (self.memchr / 'Cargo.toml').read_text(), re.M)
         return tuple(map(int, found.groups()))
 
-    def program(self, folder, ours, has_sheet, is_x86):
+    def program(self, folder, ours, is_x86):
         """The program over both sides, with ours linked in; made where anything that it is made of has changed."""
         folder = WORK / folder
         made, stamp = folder / 'bench', folder / 'made_from'
         files = sorted(f for d in (self.source, self.memchr / 'src', SPEED / 'src') for f in d.rglob('*.rs'))
         sums = [hashlib.sha256(f.read_bytes()).hexdigest() for f in (*files, ours, pathlib.Path(__file__))]
-        key = repr((sums, self.compiler, has_sheet))
+        key = repr((sums, self.compiler))
         if not made.exists() or not stamp.exists() or stamp.read_text() != key:
             folder.mkdir(parents=True, exist_ok=True)
-            self.build(folder, ours, has_sheet, is_x86)
+            self.build(folder, ours, is_x86)
             stamp.write_text(key)
         return made
 
-    def build(self, folder, ours, has_sheet, is_x86):
+    def build(self, folder, ours, is_x86):
         flags = ['-Copt-level=3', '-Ccodegen-units=1', '--edition=2021', '-L', f'dependency={folder}']
         if is_x86 and not IS_X86:
             flags += ['--target', X86, '-Clinker=x86_64-linux-gnu-gcc']
@@ -132,8 +132,7 @@ class Rust:
             features += [f'--cfg=memchr_runtime_{word}' for word in ('simd', 'sse2', 'sse42', 'avx')]
         compiled('memchr', self.memchr / 'src/lib.rs', *features, *library, memchr)
         compiled('meon', self.copied(folder / 'copy'), '--extern', f'memchr={memchr}', *library, meon)
-        compiled('bench', SPEED / 'src/main.rs', '--extern', f'meon={meon}', '--check-cfg=cfg(sheet)',
-                 *(['--cfg=sheet'] if has_sheet else []), f'-Clink-arg={ours}', '-o', folder / 'bench')
+        compiled('bench', SPEED / 'src/main.rs', '--extern', f'meon={meon}', f'-Clink-arg={ours}', '-o', folder / 'bench')
 
     def copied(self, copy):
         """The root over copies of meon's files, which stand where they stand in meon, as tools/oracle/build has it."""

@@ -21,12 +21,6 @@ def tool(name):
     return found
 
 
-def symbols(archive):
-    """What an archive defines."""
-    said = subprocess.run([tool('nm'), '--defined-only', archive], stdout=subprocess.PIPE, text=True, check=True).stdout
-    return {line.split(maxsplit=2)[2] for line in said.splitlines() if len(line.split()) >= 3}
-
-
 def functions(archive):
     """Each function's instructions, and the functions that it calls."""
     said = subprocess.run([tool('objdump'), '-dr', '--no-show-raw-insn', archive], stdout=subprocess.PIPE, text=True, check=True)
@@ -44,12 +38,12 @@ def functions(archive):
 
 def under(name, calls):
     """The functions that one reaches, itself among them."""
-    reached, todo = set(), [name]
-    while todo:
-        at = todo.pop()
+    reached, ahead = set(), [name]
+    while ahead:
+        at = ahead.pop()
         if at in calls and at not in reached:
             reached.add(at)
-            todo += calls[at]
+            ahead += calls[at]
     return reached
 
 
@@ -57,7 +51,7 @@ def looked_at(archive, told):
     """Tells for each entry what its searches have; whether all have something."""
     code, calls = functions(archive)
     lost = []
-    for entry in (e for e in ENTRIES if e in code):
+    for entry in ENTRIES:  # one that the archive lacks has no compares
         found = [word for f in under(entry, calls) for word in code[f]]
         told(f'{entry}: vector compares: found {found.count(COMPARE)} ({COMPARE}), {found.count(LEAST)} ({LEAST})')
         if COMPARE not in found:

@@ -127,6 +127,5 @@ fn main() {
     bench.row("build, counted", Build::counted(text));
     bench.row("cursor, every place", Cursor::new(text, 1));
     bench.row("cursor, every 64th", Cursor::new(text, 64));
-    #[cfg(sheet)]
     bench.row("sheet", rows::Sheet::new(text));
 }

@@ -35,7 +35,6 @@ extern "C" {
         openers: Read, openers_len: usize, closers: Read, closers_len: usize, counts: Read, counts_len: usize,
         out: Lent, out_len: usize, answer: Lent, answer_len: usize,
     ) -> u32;
-    #[cfg(sheet)]
     pub fn rack_sheet(
         text: Read, text_len: usize, eol: u8, escape: u8, sep: u8, tab: u8,
         fences: Read, fences_len: usize, mins: Read, mins_len: usize,

@@ -191,21 +191,16 @@ impl Row for Cursor {
 }
 
 /// The work sheet. The Rust has none: its builder, cursor and item scanners are put together as a caller would.
-#[cfg(sheet)]
 pub struct Sheet {
     regions: usize,
     list: Vec<u32>,
 }
-
-#[cfg(sheet)]
 impl Sheet {
     pub fn new(text: &[u8]) -> Self {
         let items = markers(text).count() + numbered(text).count();
         Self { regions: context(text, 0).spans().len(), list: vec![0; 5 * items] }
     }
 }
-
-#[cfg(sheet)]
 impl Row for Sheet {
     fn ours(&mut self, text: &[u8], sink: &mut impl Sink) {
         let mut answer = [0u32; 2];
