@@ -21,6 +21,7 @@ use rules::rule_tables::columns_differ;
 use rules::rule_tables::rule_tables;
 ghost use Rattle.common.specs.Refusals.{told};
 ghost use Rattle.rules.specs.Columns.{columns};
+ghost use Rattle.rules.specs.Tables.{gramBy};
 ghost use Rattle.rules.specs.RuleTables.{gramOn};
 ghost use Rattle.amend.specs.Amended.{edit, listed, plainRegions, Amended};
 ghost use Rattle.amend.specs.Parts.{Judged, Ready, Roomy, Merged, Settled};
@@ -88,19 +89,110 @@ fn write(
     second: usize,
     text: &[u8],
     g: Grammar,
-    t: RuleTables,
+    needles: &[u8; Grammar::MAX_NEEDLES],
+    n: usize,
+    has: &[bool; 256],
+    least: &[u8; 256],
+    rows: &[usize; 256],
+    kind: &[u8; 256],
+    closer: &[u8; 256],
+    counts: &[u32; 256],
+    index: &[usize; 256],
     out: &mut [u32],
 ) -> usize
-    requires { ⌜ Roomy (gramOn g t) (now list) count before after first second (now text) (now out) ⌝ }
-    ensures { λ r. ⌜ Merged (gramOn g t) (now (list .entry)) count before after first second (now (text .entry)) (now (out .entry)) (now (out .exit)) r ⌝ }
+    requires { ⌜ Roomy (gramBy g (now needles) n (now has) (now least) (now rows) (now kind) (now closer) (now counts) (now index)) (now list) count before after first second (now text) (now out) ⌝ }
+    ensures { λ r. ⌜ Merged (gramBy g (now (needles .entry)) n (now (has .entry)) (now (least .entry)) (now (rows .entry)) (now (kind .entry)) (now (closer .entry)) (now (counts .entry)) (now (index .entry))) (now (list .entry)) count before after first second (now (text .entry)) (now (out .entry)) (now (out .exit)) r ⌝ }
 {
     let kept = copy_rows(list, 0, before, 0, 0, out, 0);
-    let own = write_own(text, first, g, t, out, kept);
+    let own = write_own(
+        text,
+        first,
+        g,
+        needles,
+        n,
+        has,
+        least,
+        rows,
+        kind,
+        closer,
+        counts,
+        index,
+        out,
+        kept,
+    );
     copy_rows(list, after, count, second, first + text.len(), out, own)
 }
 
 // The refusals that the replacement and the room decide, 8 before 3, for cuts that may be made in a text of `len` bytes; else the list
 // written. A counting pass over the replacement goes before, since nothing may be written where either refuses.
+fn settle_by(
+    list: &[u32],
+    count: usize,
+    first: usize,
+    second: usize,
+    len: usize,
+    text: &[u8],
+    g: Grammar,
+    needles: &[u8; Grammar::MAX_NEEDLES],
+    n: usize,
+    has: &[bool; 256],
+    least: &[u8; 256],
+    rows: &[usize; 256],
+    kind: &[u8; 256],
+    closer: &[u8; 256],
+    counts: &[u32; 256],
+    index: &[usize; 256],
+    out: &mut [u32],
+) -> Answer
+    requires { ⌜ Ready (now list) count first second len (now text) ⌝ }
+    ensures { λ r. ⌜ Settled (g .eol) len (plainRegions (gramBy g (now (needles .entry)) n (now (has .entry)) (now (least .entry)) (now (rows .entry)) (now (kind .entry)) (now (closer .entry)) (now (counts .entry)) (now (index .entry)))) (listed count (now (list .entry))) (edit first second (now (text .entry))) (now (out .entry)) (now (out .exit)) (told r) ⌝ }
+{
+    let own = survey(
+        text,
+        g,
+        needles,
+        n,
+        has,
+        least,
+        rows,
+        kind,
+        closer,
+        counts,
+        index,
+    );
+    let left_open = is_left_open(second < len, text, own.reaching, g.eol);
+    let before = starts_before(list, count, first);
+    let after = starts_before(list, count, second);
+    let total = before + own.count + (count - after);
+    if left_open {
+        return Answer::Refused(Refusal::ReplacementOpen);
+    }
+    if out.len() / 2 < total {
+        return Answer::Refused(Refusal::NoRoom);
+    }
+    Answer::Value(write(
+        list,
+        count,
+        before,
+        after,
+        first,
+        second,
+        text,
+        g,
+        needles,
+        n,
+        has,
+        least,
+        rows,
+        kind,
+        closer,
+        counts,
+        index,
+        out,
+    ))
+}
+
+// The same, by tables handed over whole.
 fn settle(
     list: &[u32],
     count: usize,
@@ -115,18 +207,33 @@ fn settle(
     requires { ⌜ Ready (now list) count first second len (now text) ⌝ }
     ensures { λ r. ⌜ Settled (g .eol) len (plainRegions (gramOn g t)) (listed count (now (list .entry))) (edit first second (now (text .entry))) (now (out .entry)) (now (out .exit)) (told r) ⌝ }
 {
-    let own = survey(text, g, t);
-    let left_open = is_left_open(second < len, text, own.reaching, g.eol);
-    let before = starts_before(list, count, first);
-    let after = starts_before(list, count, second);
-    let total = before + own.count + (count - after);
-    if left_open {
-        return Answer::Refused(Refusal::ReplacementOpen);
-    }
-    if out.len() / 2 < total {
-        return Answer::Refused(Refusal::NoRoom);
-    }
-    Answer::Value(write(list, count, before, after, first, second, text, g, t, out))
+    let needles = t.needles;
+    let has = t.has;
+    let least = t.least;
+    let rows = t.rows;
+    let kind = t.kind;
+    let closer = t.closer;
+    let counts = t.count;
+    let index = t.index;
+    settle_by(
+        list,
+        count,
+        first,
+        second,
+        len,
+        text,
+        g,
+        &needles,
+        t.searched,
+        &has,
+        &least,
+        &rows,
+        &kind,
+        &closer,
+        &counts,
+        &index,
+        out,
+    )
 }
 
 // Amends the list of an old text, whose first `count` regions it has, for the text in which the bytes from the first cut up to the

@@ -3,14 +3,12 @@ use crate::rows::put_moved;
 use common::grammar::Grammar;
 use region::Next;
 use region::next_region;
-use rules::rule_tables::RuleTables;
 ghost use mathlib.Core.Bool.{_||_};
 ghost use lib.Dec.{leb};
 ghost use Rattle.search.specs.Promise.{Gives};
 ghost use Rattle.region.specs.Region.{up};
 ghost use Rattle.region.specs.Regions.{regions};
 ghost use Rattle.rules.specs.Tables.{gramBy};
-ghost use Rattle.rules.specs.RuleTables.{gramOn};
 ghost use Rattle.amend.specs.Parts.{surveyed, Owns, Laid};
 
 // How many regions a text has, and whether one reaches its end.
@@ -30,18 +28,21 @@ fn reached(already: bool, end: usize, len: usize) -> bool
 }
 
 // The regions of a text, counted.
-pub(crate) fn survey(text: &[u8], g: Grammar, t: RuleTables) -> Counted
-    ensures { λ r. ⌜ Gives (surveyed (gramOn g t) (now (text .entry))) r ⌝ }
+pub(crate) fn survey(
+    text: &[u8],
+    g: Grammar,
+    needles: &[u8; Grammar::MAX_NEEDLES],
+    n: usize,
+    has: &[bool; 256],
+    least: &[u8; 256],
+    rows: &[usize; 256],
+    kind: &[u8; 256],
+    closer: &[u8; 256],
+    count: &[u32; 256],
+    index: &[usize; 256],
+) -> Counted
+    ensures { λ r. ⌜ Gives (surveyed (gramBy g (now (needles .entry)) n (now (has .entry)) (now (least .entry)) (now (rows .entry)) (now (kind .entry)) (now (closer .entry)) (now (count .entry)) (now (index .entry))) (now (text .entry))) r ⌝ }
 {
-    let needles = t.needles;
-    let has = t.has;
-    let least = t.least;
-    let rows = t.rows;
-    let kind = t.kind;
-    let closer = t.closer;
-    let count = t.count;
-    let index = t.index;
-    let n = t.searched;
     let mut found: usize = 0;
     let mut reaching = false;
     let mut q = 0;
@@ -50,15 +51,15 @@ pub(crate) fn survey(text: &[u8], g: Grammar, t: RuleTables) -> Counted
             text,
             q,
             g,
-            &needles,
+            needles,
             n,
-            &has,
-            &least,
-            &rows,
-            &kind,
-            &closer,
-            &count,
-            &index,
+            has,
+            least,
+            rows,
+            kind,
+            closer,
+            count,
+            index,
         ) {
             Next::Nothing => {
                 return Counted {
@@ -76,7 +77,7 @@ pub(crate) fn survey(text: &[u8], g: Grammar, t: RuleTables) -> Counted
 }
 
 // Writes the regions of a text, moved up by `by`, to row `row` of `out` and on. Answers the row after them.
-fn write_by(
+pub(crate) fn write_own(
     text: &[u8],
     by: usize,
     g: Grammar,
@@ -121,42 +122,4 @@ fn write_by(
             }
         }
     }
-}
-
-// The same, by tables handed over whole.
-pub(crate) fn write_own(
-    text: &[u8],
-    by: usize,
-    g: Grammar,
-    t: RuleTables,
-    out: &mut [u32],
-    row: usize,
-) -> usize
-    requires { ⌜ Owns (regions (gramOn g t) (now text)) (now text) by (now out) row ⌝ }
-    ensures { λ r. ⌜ Laid (up by (regions (gramOn g t) (now (text .entry)))) row (now (out .entry)) (now (out .exit)) r ⌝ }
-{
-    let needles = t.needles;
-    let has = t.has;
-    let least = t.least;
-    let rows = t.rows;
-    let kind = t.kind;
-    let closer = t.closer;
-    let count = t.count;
-    let index = t.index;
-    write_by(
-        text,
-        by,
-        g,
-        &needles,
-        t.searched,
-        &has,
-        &least,
-        &rows,
-        &kind,
-        &closer,
-        &count,
-        &index,
-        out,
-        row,
-    )
 }

@@ -125,13 +125,13 @@ module _ (t : ℕ → Bool) (s : List ℕ) where
   pub sought-near : (i e r : ℕ) → r < e → Stage t s i e r → Sought t s i r
   sought-near i e r l g = sought t s i r (g .before l)
 
-  -- an answer of the 32 bytes after a stage, and one beyond them
-  module _ (i e q m : ℕ) (past : e ≤ q) (g : Stage t s i e q) (h : Stage t s e (e + 32) (e + m)) where
-    pub sought-next : m < 32 → Sought t s i (e + m)
-    sought-next l = sought t s i (e + m) (g .after past ∙ h .before (omega arith))
+  -- an answer of the first 32 bytes, and one beyond them
+  module _ (i m : ℕ) (g : Stage t s i (i + 32) (i + m)) where
+    pub sought-block : m < 32 → Sought t s i (i + m)
+    sought-block l = sought t s i (i + m) (g .before (omega arith))
 
-    pub sought-beyond : (r : ℕ) → 32 ≤ m → Sought t s (e + 32) r → Sought t s i r
-    sought-beyond r l w = sought t s i r (g .after past ∙ h .after (omega arith) ∙ sym (w .here))
+    pub sought-beyond : (r : ℕ) → 32 ≤ m → Sought t s (i + 32) r → Sought t s i r
+    sought-beyond r l w = sought t s i r (g .after (omega arith) ∙ sym (w .here))
 
   -- a stage up to the text's end
   pub sought-last : (i r : ℕ) → Stage t s i (length s) r → Sought t s i r
@@ -158,4 +158,4 @@ module _ (t t′ : ℕ → Bool) (same : t ≡ t′) (s : List ℕ) where
   pub reaches-same : (i e k : ℕ) → Reaches t s i e k → Reaches t′ s i e k
   reaches-same i e k w = subst (λ (u : ℕ → Bool). Reaches u s i e k) same w
 
-pub ruleset sought-rules = (sought-past, sought-near, sought-next, sought-beyond, sought-last, sought-from)
+pub ruleset sought-rules = (sought-past, sought-near, sought-block, sought-beyond, sought-last, sought-from)

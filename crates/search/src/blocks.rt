@@ -214,7 +214,20 @@ fn far(src: &[u8], from: usize, t: Three) -> usize
     upto(src, j, len, t)
 }
 
-// The first of three at or after `from`, else the length. Eight bytes one by one come first: near hits are what dense notes consist of.
+// The first of three by the least place of one block, and beyond it.
+fn near(src: &[u8], from: usize, t: Three) -> usize
+    requires { ⌜ from + 32 ≤ length (now src) ⌝ }
+    ensures { λ r. ⌜ Sought (ofThree t) (now (src .entry)) from r ⌝ }
+{
+    let m = nearest_of_three(src, from, t);
+    if m < 32 {
+        return from + m as usize;
+    }
+    far(src, from + 32, t)
+}
+
+// The first of three at or after `from`, else the length. Two blocks whose least place is taken come first: near hits are what dense
+// notes consist of, and a byte tested alone costs as much as eight in a block.
 pub fn few(src: &[u8], from: usize, t: Three) -> usize
     ensures { λ r. ⌜ Sought (ofThree t) (now (src .entry)) from r ⌝ }
 {
@@ -222,17 +235,12 @@ pub fn few(src: &[u8], from: usize, t: Three) -> usize
     if len < from {
         return from;
     }
-    if len - from < 40 {
-        return upto(src, from, len, t);
+    if len - from < 64 {
+        return far(src, from, t);
     }
-    let end = from + 8;
-    let q = upto(src, from, end, t);
-    if q < end {
-        return q;
-    }
-    let m = nearest_of_three(src, end, t);
+    let m = nearest_of_three(src, from, t);
     if m < 32 {
-        return end + m as usize;
+        return from + m as usize;
     }
-    far(src, end + 32, t)
+    near(src, from + 32, t)
 }

@@ -8,10 +8,10 @@ use Rattle.amend.proofs.own.survey.Statement.{statement}
 use Rattle.amend.proofs.own.survey.Tie as tie
 
 abbrev Inv-loop : tie.InvT-loop
-Inv-loop text g needles has least rows kind closer count index n found₀ reaching₀ q₀ found reaching q = Surveying (gramBy g needles n has least rows kind closer count index) text found reaching q
+Inv-loop text g needles n has least rows kind closer count index found₀ reaching₀ q₀ found reaching q = Surveying (gramBy g needles n has least rows kind closer count index) text found reaching q
 
 abbrev μ-loop : tie.MeasureT-loop
-μ-loop text g needles has least rows kind closer count index n found₀ reaching₀ q₀ found reaching q = length text - q
+μ-loop text g needles n has least rows kind closer count index found₀ reaching₀ q₀ found reaching q = length text - q
 
 loop-holds : tie.Need-loop-holds Inv-loop μ-loop
 loop-holds c = search surveying-first

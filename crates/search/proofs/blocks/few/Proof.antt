@@ -7,20 +7,11 @@ use Rattle.search.proofs.blocks.few.Tie as tie
 returns : tie.Need-returns
 returns c = search sought-rules
 
-upto-requires : tie.Need-upto-requires
-upto-requires c κs = search needs
+far-requires : tie.Need-far-requires
+far-requires c κs = search needs
 
 returns-2 : tie.Need-returns-2
-returns-2 c = search sought-rules
-
-add-end : tie.Need-add-end
-add-end c = search needs
-
-upto-requires-2 : tie.Need-upto-requires-2
-upto-requires-2 c κs = search needs
-
-returns-3 : tie.Need-returns-3
-returns-3 c = search sought-rules
+returns-2 c = search needs
 
 nearest-of-three-requires : tie.Need-nearest-of-three-requires
 nearest-of-three-requires c κs = search needs
@@ -31,32 +22,29 @@ cast-result c = search needs
 add-result : tie.Need-add-result
 add-result c = search needs
 
+returns-3 : tie.Need-returns-3
+returns-3 c = search sought-rules
+
+add-near : tie.Need-add-near
+add-near c = search needs
+
+near-requires : tie.Need-near-requires
+near-requires c κs = search needs
+
 returns-4 : tie.Need-returns-4
 returns-4 c = search sought-rules
-
-add-far : tie.Need-add-far
-add-far c = search needs
-
-far-requires : tie.Need-far-requires
-far-requires c κs = search needs
-
-returns-5 : tie.Need-returns-5
-returns-5 c = search sought-rules
 
 pub few-spec : {M : Type 1} → statement M
 few-spec =
     tie.close
     (tie.spec
     returns
-    upto-requires
+    far-requires
     returns-2
-    add-end
-    upto-requires-2
-    returns-3
     nearest-of-three-requires
     cast-result
     add-result
-    returns-4
-    add-far
-    far-requires
-    returns-5)
+    returns-3
+    add-near
+    near-requires
+    returns-4)

@@ -1,11 +1,11 @@
--- `write_by` meets its contract: a loop of steps that writes. Assumes nothing.
+-- `write_own` meets its contract: a loop of steps that writes. Assumes nothing.
 use borrow.Author.Needs.{needs}
 use Prim.Native.Nat.{_-_}
 use lib.ListN.{length}
 use Rattle.rules.specs.Tables.{gramBy}
 use Rattle.amend.specs.OwnLaws.{Moving, moving-first, moving-same, moving-end, moving-less, moving-puts, moving-again}
-use Rattle.amend.proofs.own.write_by.Statement.{statement}
-use Rattle.amend.proofs.own.write_by.Tie as tie
+use Rattle.amend.proofs.own.write_own.Statement.{statement}
+use Rattle.amend.proofs.own.write_own.Tie as tie
 
 abbrev Inv-loop : tie.InvT-loop
 Inv-loop text by g needles n has least rows kind closer count index out₀ row at₀ q₀ out at q = Moving (gramBy g needles n has least rows kind closer count index) text by row out₀ out at q
@@ -40,8 +40,8 @@ loop-less c = search moving-less
 loop-again : tie.Need-loop-again Inv-loop μ-loop
 loop-again c = search moving-again
 
-pub write-by-spec : {M : Type 1} → statement M
-write-by-spec =
+pub write-own-spec : {M : Type 1} → statement M
+write-own-spec =
     tie.close
     (tie.spec
     Inv-loop

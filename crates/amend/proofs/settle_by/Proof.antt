@@ -1,8 +1,8 @@
--- `settle` meets its contract. Assumes nothing.
+-- `settle_by` meets its contract. Assumes nothing.
 use borrow.Author.Needs.{needs}
 use Rattle.amend.specs.SettleLaws.{settled-open, ready-orderly, starts-few, two-fit, three-fit, settled-full, roomy, settled-done}
-use Rattle.amend.proofs.settle.Statement.{statement}
-use Rattle.amend.proofs.settle.Tie as tie
+use Rattle.amend.proofs.settle_by.Statement.{statement}
+use Rattle.amend.proofs.settle_by.Tie as tie
 
 survey-requires : tie.Need-survey-requires
 survey-requires c κs = search needs
@@ -40,8 +40,8 @@ same-length c = search needs
 returns-3 : tie.Need-returns-3
 returns-3 c = search settled-done
 
-pub settle-spec : {M : Type 1} → statement M
-settle-spec =
+pub settle-by-spec : {M : Type 1} → statement M
+settle-by-spec =
     tie.close
     (tie.spec
     survey-requires
