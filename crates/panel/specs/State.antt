@@ -52,19 +52,22 @@ fenceFrom l = record { byte = getD l 0 0; min = getD l 1 0; eol = getD l 2 0; se
 abbrev pub markerLimits : List ℕ
 markerLimits = 255 ∷ 255 ∷ 255 ∷ 4294967295 ∷ 255 ∷ 255 ∷ 255 ∷ 4294967295 ∷ 1 ∷ []
 
+-- their cells: line end, separator, tab, place, three needles, the needles' count, and whether the scan streams
+abbrev pub itemCells : ℕ → ℕ → ℕ → ℕ → List ℕ → ℕ → Bool → List ℕ
+itemCells eol sep tab pos needles nn streaming = eol ∷ sep ∷ tab ∷ pos ∷ getD needles 0 0 ∷ getD needles 1 0 ∷ getD needles 2 0 ∷ nn ∷ asFlag streaming ∷ []
+
+-- what such cells make
+abbrev pub itemFrom : {G : Type 0} → (ℕ → ℕ → ℕ → ℕ → List ℕ → ℕ → Bool → G) → List ℕ → G
+itemFrom make l = make (getD l 0 0) (getD l 1 0) (getD l 2 0) (getD l 3 0) (getD l 4 0 ∷ getD l 5 0 ∷ getD l 6 0 ∷ []) (getD l 7 0) (eqb (getD l 8 0) 1)
+
+abbrev pub aMarker : ℕ → ℕ → ℕ → ℕ → List ℕ → ℕ → Bool → BlockMarkerIter
+aMarker eol sep tab pos needles nn streaming = record { eol = eol; sep = sep; tab = tab; pos = pos; needles = needles; nn = nn; streaming = streaming }
+
 abbrev pub markerCells : BlockMarkerIter → List ℕ
-markerCells g = g .eol ∷ g .sep ∷ g .tab ∷ g .pos ∷ getD (g .needles) 0 0 ∷ getD (g .needles) 1 0 ∷ getD (g .needles) 2 0 ∷ g .nn ∷ asFlag (g .streaming) ∷ []
+markerCells g = itemCells (g .eol) (g .sep) (g .tab) (g .pos) (g .needles) (g .nn) (g .streaming)
 
 unfoldable pub markerFrom : List ℕ → BlockMarkerIter
-markerFrom l = record {
-  eol = getD l 0 0;
-  sep = getD l 1 0;
-  tab = getD l 2 0;
-  pos = getD l 3 0;
-  needles = getD l 4 0 ∷ getD l 5 0 ∷ getD l 6 0 ∷ [];
-  nn = getD l 7 0;
-  streaming = eqb (getD l 8 0) 1;
-}
+markerFrom l = itemFrom aMarker l
 
 abbrev pub markerAnswer : List ℕ → BlockMarkerIter → List ℕ → Outcome
 markerAnswer accepted g s = markerTold g (setOf accepted) s
@@ -72,19 +75,14 @@ markerAnswer accepted g s = markerTold g (setOf accepted) s
 abbrev pub markerState : List ℕ → BlockMarkerIter → List ℕ → BlockMarkerIter
 markerState accepted g s = markerNext g (setOf accepted) s
 
+abbrev pub aNumbered : ℕ → ℕ → ℕ → ℕ → List ℕ → ℕ → Bool → BlockNumberedIter
+aNumbered eol sep tab pos needles nn streaming = record { eol = eol; sep = sep; tab = tab; pos = pos; needles = needles; nn = nn; streaming = streaming }
+
 abbrev pub numberedCells : BlockNumberedIter → List ℕ
-numberedCells g = g .eol ∷ g .sep ∷ g .tab ∷ g .pos ∷ getD (g .needles) 0 0 ∷ getD (g .needles) 1 0 ∷ getD (g .needles) 2 0 ∷ g .nn ∷ asFlag (g .streaming) ∷ []
+numberedCells g = itemCells (g .eol) (g .sep) (g .tab) (g .pos) (g .needles) (g .nn) (g .streaming)
 
 unfoldable pub numberedFrom : List ℕ → BlockNumberedIter
-numberedFrom l = record {
-  eol = getD l 0 0;
-  sep = getD l 1 0;
-  tab = getD l 2 0;
-  pos = getD l 3 0;
-  needles = getD l 4 0 ∷ getD l 5 0 ∷ getD l 6 0 ∷ [];
-  nn = getD l 7 0;
-  streaming = eqb (getD l 8 0) 1;
-}
+numberedFrom l = itemFrom aNumbered l
 
 abbrev pub numberedAnswer : List ℕ → BlockNumberedIter → List ℕ → Outcome
 numberedAnswer accepted g s = numberedTold g (setOf accepted) s

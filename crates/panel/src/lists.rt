@@ -1,9 +1,9 @@
 // Lists in bytes: regions by their rules, and the work sheet.
 use pour::building::build_columns;
 use pour::building::build_rules;
-use pour::sheeting::sheet_columns;
+use sheeting::sheet_columns;
 ghost use Rattle.pour.specs.Building.{grammar, BuiltBytes, BuiltRules};
-ghost use Rattle.pour.specs.Sheeting.{SheetBytes};
+ghost use Rattle.sheeting.specs.Sheeting.{SheetBytes};
 
 // Building by rules given as columns: fence bytes and minimums; symmetric bytes and counts; asymmetric openers, closers and counts. A
 // count column has four bytes for each byte of its byte column.

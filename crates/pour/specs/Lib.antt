@@ -1,6 +1,2 @@
 pub mod Building
 pub mod PourLaws
-pub mod Hiding
-pub mod HidingLaws
-pub mod Sheeting
-pub mod SheetingLaws

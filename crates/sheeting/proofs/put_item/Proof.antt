@@ -1,0 +1,54 @@
+-- `put_item` meets its contract. Assumes nothing.
+use borrow.Author.Needs.{needs}
+use Rattle.sheeting.specs.SheetingLaws.{laid-item}
+use Rattle.sheeting.proofs.put_item.Statement.{statement}
+use Rattle.sheeting.proofs.put_item.Tie as tie
+
+cast-put-numbers : tie.Need-cast-put-numbers
+cast-put-numbers c = search needs
+
+cast-t6 : tie.Need-cast-t6
+cast-t6 c = search needs
+
+cast-t7 : tie.Need-cast-t7
+cast-t7 c = search needs
+
+cast-t8 : tie.Need-cast-t8
+cast-t8 c = search needs
+
+cast-t9 : tie.Need-cast-t9
+cast-t9 c = search needs
+
+mul-put-numbers : tie.Need-mul-put-numbers
+mul-put-numbers c = search needs
+
+slice-aggregate-put-numbers : tie.Need-slice-aggregate-put-numbers
+slice-aggregate-put-numbers c = search needs
+
+put-numbers-requires : tie.Need-put-numbers-requires
+put-numbers-requires c κs = search needs
+
+add-result : tie.Need-add-result
+add-result c = search needs
+
+same-length : tie.Need-same-length
+same-length c = search needs
+
+returns : tie.Need-returns
+returns c = search laid-item
+
+pub put-item-spec : {M : Type 1} → statement M
+put-item-spec =
+    tie.close
+    (tie.spec
+    cast-put-numbers
+    cast-t6
+    cast-t7
+    cast-t8
+    cast-t9
+    mul-put-numbers
+    slice-aggregate-put-numbers
+    put-numbers-requires
+    add-result
+    same-length
+    returns)

@@ -1,0 +1,42 @@
+-- `sheet_columns` meets its contract. Assumes nothing.
+use borrow.Author.Needs.{needs}
+use Rattle.pour.specs.PourLaws.{build-long, columns-differ, columns-uneven, columns-built}
+use Rattle.sheeting.proofs.sheet_columns.Statement.{statement}
+use Rattle.sheeting.proofs.sheet_columns.Tie as tie
+
+returns : tie.Need-returns
+returns c = search build-long
+
+returns-2 : tie.Need-returns-2
+returns-2 c = search columns-differ
+
+is-uneven-requires : tie.Need-is-uneven-requires
+is-uneven-requires c κs = search needs
+
+returns-3 : tie.Need-returns-3
+returns-3 c = search columns-uneven
+
+by-columns-requires : tie.Need-by-columns-requires
+by-columns-requires c κs = search needs
+
+same-length : tie.Need-same-length
+same-length c = search needs
+
+same-length-2 : tie.Need-same-length-2
+same-length-2 c = search needs
+
+returns-4 : tie.Need-returns-4
+returns-4 c = search columns-built
+
+pub sheet-columns-spec : {M : Type 1} → statement M
+sheet-columns-spec =
+    tie.close
+    (tie.spec
+    returns
+    returns-2
+    is-uneven-requires
+    returns-3
+    by-columns-requires
+    same-length
+    same-length-2
+    returns-4)

@@ -1,0 +1,71 @@
+-- `write_items` meets its contract: a loop of turns that writes. Assumes nothing.
+use borrow.Author.Needs.{needs}
+use lib.ListN.{length}
+use Rattle.rules.specs.Tables.{gramBy}
+use Rattle.sheet.specs.Parts.{ahead}
+use Rattle.sheeting.specs.Sheeting.{left}
+use Rattle.sheeting.specs.SheetingLaws.{Writing, write-first, write-end, write-hidden, write-room, write-shown, write-long, less-hidden, less-shown}
+use Rattle.sheeting.proofs.write_items.Statement.{statement}
+use Rattle.sheeting.proofs.write_items.Tie as tie
+
+abbrev Inv-loop : tie.InvT-loop
+Inv-loop text markers delims g needles n has least rows kind closer count index out₀ w₀ found₀ out w found =
+    Writing (gramBy g needles n has least rows kind closer count index) markers delims text (left (gramBy g needles n has least rows kind closer count index) markers delims text w₀) out₀ w out found
+
+abbrev μ-loop : tie.MeasureT-loop
+μ-loop text markers delims g needles n has least rows kind closer count index out₀ w₀ found₀ out w found = length (ahead markers delims text (w .feed))
+
+loop-holds : tie.Need-loop-holds Inv-loop μ-loop
+loop-holds c = search write-first
+
+turn-requires : tie.Need-turn-requires Inv-loop μ-loop
+turn-requires c κs = search needs
+
+enum-told : tie.Need-enum-told Inv-loop μ-loop
+enum-told c = search needs
+
+same-length : tie.Need-same-length Inv-loop μ-loop
+same-length c = search write-long
+
+returns : tie.Need-returns Inv-loop μ-loop
+returns c = search write-end
+
+enum-told-2 : tie.Need-enum-told-2 Inv-loop μ-loop
+enum-told-2 c = search needs
+
+loop-less : tie.Need-loop-less Inv-loop μ-loop
+loop-less c = search less-hidden
+
+loop-again : tie.Need-loop-again Inv-loop μ-loop
+loop-again c = search write-hidden
+
+enum-known-seen : tie.Need-enum-known-seen Inv-loop μ-loop
+enum-known-seen c = search needs
+
+put-item-requires : tie.Need-put-item-requires Inv-loop μ-loop
+put-item-requires c κs = search write-room
+
+loop-less-2 : tie.Need-loop-less-2 Inv-loop μ-loop
+loop-less-2 c = search less-shown
+
+loop-again-2 : tie.Need-loop-again-2 Inv-loop μ-loop
+loop-again-2 c = search write-shown
+
+pub write-items-spec : {M : Type 1} → statement M
+write-items-spec =
+    tie.close
+    (tie.spec
+    Inv-loop
+    μ-loop
+    loop-holds
+    turn-requires
+    enum-told
+    same-length
+    returns
+    enum-told-2
+    loop-less
+    loop-again
+    enum-known-seen
+    put-item-requires
+    loop-less-2
+    loop-again-2)

@@ -1,0 +1,24 @@
+-- The regions of a text as they come: what one of them, and those behind it, hide of the places from one on. Assumes nothing.
+use mathlib.Core.Path.{_≡_}
+use mathlib.Core.Bool.{_||_}
+use mathlib.Core.List.{List, [], _∷_, map}
+use Prim.Native.Nat.{ℕ, _≤_}
+use lib.ListN.{length}
+use Rattle.region.specs.Region.{pair}
+use Rattle.rules.specs.Grammar.{Gram}
+use Rattle.region.specs.Regions.{regions}
+use Rattle.region.specs.NextLaws.{regionsFrom}
+use Rattle.context.specs.Cursor.{covers}
+use Rattle.sheet.specs.Sheet.{inside}
+use Rattle.sheeting.specs.declared.hiding.Hider.{Hider}
+
+-- a region, and a place to go on from: from `place` on the regions of the text hide what it hides, or what those from there on hide
+pub record Stands (g : Gram) (s : List ℕ) (place : ℕ) (h : Hider) : Type 0 where
+  pub apart : h .stop ≤ h .next
+  pub here : h .next ≤ length s
+  pub same : (p : ℕ) → place ≤ p → inside (map pair (regions g s)) p ≡ (covers p (h .start ∷ h .stop ∷ []) || inside (map pair (regionsFrom g s (h .next))) p)
+
+-- one that by itself tells whether the place is hidden
+pub record Passed (g : Gram) (s : List ℕ) (place : ℕ) (h : Hider) : Type 0 where
+  pub stands : Stands g s place h
+  pub hidden : inside (map pair (regions g s)) place ≡ covers place (h .start ∷ h .stop ∷ [])

@@ -1,0 +1,4 @@
+pub mod Hiding
+pub mod HidingLaws
+pub mod Sheeting
+pub mod SheetingLaws
