@@ -14,6 +14,7 @@ use Rattle.rules.specs.Grammar.{Gram}
 use Rattle.region.specs.Regions.{nextRegion, regions}
 use Rattle.region.specs.Views.{viewNext, placed}
 use Rattle.region.specs.NextLaws.{regionsFrom, from-start, next-none, next-some, next-ahead}
+use Rattle.region.specs.LoopLaws.{Counting, counting-first, counting-end, counting-next, counting-less}
 use Rattle.context.specs.Build.{Puts, Put}
 use Rattle.region.specs.declared.Region.{Region as Told}
 use Rattle.region.specs.declared.Next.{Next}
@@ -23,39 +24,36 @@ use Rattle.amend.specs.RowLaws.{Laying, laying-first, laying-put, laying
 
 -- ---- the loop that counts: n regions found before q, and whether one of them reaches the text's end
 pub record Surveying (g : Gram) (s : List ℕ) (n : ℕ) (reached : Bool) (q : ℕ) : Type 0 where
-  pub inside : q ≤ length s
-  pub few : n ≤ q
-  pub left : n + length (regionsFrom g s q) ≡ length (regions g s)
+  pub counting : Counting g s n q
   pub reach : reaches (length s) (regions g s) ≡ (reached || reaches (length s) (regionsFrom g s q))
 
 pub surveying-first : (g : Gram) (s : List ℕ) → Surveying g s 0 false 0
-surveying-first g s = record { inside = omega arith; few = omega arith; left = omega (arith, ap length (from-start g s)); reach = ap (reaches (length s)) (from-start g s) }
+surveying-first g s = record { counting = counting-first g s; reach = ap (reaches (length s)) (from-start g s) }
 
 module _ (g : Gram) (s : List ℕ) (n : ℕ) (y : Bool) (q : ℕ) (d : Next) (i : Surveying g s n y q) (t : Gives (placed (nextRegion g s q)) (viewNext d)) where
+  inside : q ≤ length s
+  inside = i .counting .here
+
   pub surveying-end : d ≡ step.Nothing → record { count = n; reaching = y } ≡ surveyed g s
   unfolding reaches
   surveying-end e =
-      let z = next-none g s q (i .inside) d t e in
-      let a : n ≡ length (regions g s) = omega (arith, i .left, ap length z) in
-      let b : y ≡ reaches (length s) (regions g s) = sym (i .reach ∙ ap (λ (l : List Caused). y || reaches (length s) l) z ∙ or-false y) in
+      let a = counting-end g s n q d (i .counting) t e in
+      let b : y ≡ reaches (length s) (regions g s) = sym (i .reach ∙ ap (λ (l : List Caused). y || reaches (length s) l) (next-none g s q inside d t e) ∙ or-false y) in
       rw (← a, ← b)
 
   module _ (r : Told) (m : ℕ) (e : d ≡ step.Region r m) where
     pub surveying-less : length s - m < length s - q
-    surveying-less = let w = next-ahead g s q (i .inside) d t r m e in omega arith
+    surveying-less = counting-less g s n q d (i .counting) t r m e
 
     pub surveying-again : (y′ : Bool) → Gives (y || leb (length s) (r .end)) y′ → Surveying g s (n + 1) y′ m
     unfolding reaches
     surveying-again y′ h =
-        let w = next-ahead g s q (i .inside) d t r m e in
-        let z = next-some g s q (i .inside) d t r m e in
+        let w = next-ahead g s q inside d t r m e in
         let starts : ltb (r .start) (length s) ≡ true = lt-ltb (r .start) (length s) (omega arith) in
         record {
-          inside = w .1;
-          few = omega (arith, i .few, w .0);
-          left = omega (arith, i .left, ap length z);
+          counting = counting-next g s n q d (i .counting) t r m e;
           reach =
-              i .reach ∙ ap (λ (l : List Caused). y || reaches (length s) l) z
+              i .reach ∙ ap (λ (l : List Caused). y || reaches (length s) l) (next-some g s q inside d t r m e)
               ∙ rw starts (sym (or-assoc y (leb (length s) (r .end)) (reaches (length s) (regionsFrom g s m))))
               ∙ ap (λ (x : Bool). x || reaches (length s) (regionsFrom g s m)) (sym (h .answer));
         }
