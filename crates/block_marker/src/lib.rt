@@ -15,11 +15,12 @@ use search::blank_end;
 use search::byte_at;
 use search::find_any_of;
 use search::find_byte;
+use search::is_one_of;
 use search::next_line;
 ghost use Prim.Native.Nat.{_≤_};
 ghost use lib.ListN.{length, take};
 ghost use Rattle.search.specs.Promise.{Gives, Steps};
-ghost use Rattle.search.specs.Search.{oneOf};
+ghost use Rattle.search.specs.Search.{oneOf, Sought};
 ghost use Rattle.common.specs.Items.{grammar, has};
 ghost use Rattle.common.specs.Turn.{firstTurn};
 ghost use Rattle.block_marker.specs.Marker.{fresh, at, streamTurn, lineTurn, turn, first, view, told, answer, state};
@@ -61,6 +62,19 @@ enum MarkerTurn {
     Found(u8, usize, usize, usize),
 }
 
+// The first needle at or after `q`. The place itself comes first: of lines that are items one after another the mark stands just where
+// the search for it begins.
+fn find_mark(src: &[u8], q: usize, needles: &[u8; 3], nn: usize) -> usize
+    ensures { λ r. ⌜ Sought (oneOf (take nn (now (needles .entry)))) (now (src .entry)) q r ⌝ }
+{
+    if q < src.len() {
+        if is_one_of(needles, nn, src[q]) {
+            return q;
+        }
+    }
+    find_any_of(needles, nn, src, q)
+}
+
 // One turn of the streaming scan. A failed hit rules its whole line out, since a later hit on that line would have this one before
 // it: on to the next line, instead of rejecting the line's hits one by one.
 fn stream_turn(
@@ -74,7 +88,7 @@ fn stream_turn(
 ) -> MarkerTurn
     ensures { λ r. ⌜ Gives (streamTurn (grammar eol sep tab (oneOf (take nn (now (needles .entry))))) (now (src .entry)) q) (view r) ⌝ }
 {
-    let p = find_any_of(needles, nn, src, q);
+    let p = find_mark(src, q, needles, nn);
     if p >= src.len() {
         return MarkerTurn::Stop(q);
     }

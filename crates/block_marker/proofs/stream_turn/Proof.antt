@@ -4,8 +4,8 @@ use borrow.Author.Needs.{needs}
 use Rattle.block_marker.proofs.stream_turn.Statement.{statement}
 use Rattle.block_marker.proofs.stream_turn.Tie as tie
 
-find-any-of-requires : tie.Need-find-any-of-requires
-find-any-of-requires c κs = search needs
+find-mark-requires : tie.Need-find-mark-requires
+find-mark-requires c κs = search needs
 
 returns : tie.Need-returns
 returns c = search stream-rules
@@ -56,7 +56,7 @@ pub stream-turn-spec : {M : Type 1} → statement M
 stream-turn-spec =
     tie.close
     (tie.spec
-    find-any-of-requires
+    find-mark-requires
     returns
     leads-line-requires
     add-blank-at
