@@ -1,6 +1,6 @@
 -- Laws of numbers read from a byte run, and of the loop that holds them to limits. Assumes nothing.
 use mathlib.Core.Path.{_≡_, refl, sym, _∙_}
-use mathlib.Core.Bool.{Bool, true, false, _&&_}
+use mathlib.Core.Bool.{Bool, true, false, _&&_, and-true, and-assoc}
 use mathlib.Core.List.{List, [], _∷_}
 use Prim.Native.Nat.{ℕ, zero, suc, _+_, _*_, _/_, _%_, _≤_, _<_}
 use native.Mathlib.Numerals.{add-one}
@@ -62,33 +62,34 @@ module _ (limits run : List ℕ) where
   unfolding readable
   readable-count h = rw (ne-eqb (length run) (length limits * 4) (λ e. h (omega arith)))
 
-  -- a loop that has held the first k cells to their limits
-  pub record Fitting (k : ℕ) : Type 0 where
+  -- a loop that has held the first k cells to their limits; `fit` says whether they keep to them
+  pub record Fitting (fit : Bool) (k : ℕ) : Type 0 where
     pub long : length run ≡ length limits * 4
     pub here : k ≤ length limits
-    pub same : within limits (cells run) ≡ within (drop k limits) (drop k (cells run))
+    pub same : within limits (cells run) ≡ (fit && within (drop k limits) (drop k (cells run)))
 
-  pub fitting-first : length run % 4 ≡ 0 → length run / 4 ≡ length limits → Fitting 0
+  pub fitting-first : length run % 4 ≡ 0 → length run / 4 ≡ length limits → Fitting true 0
   fitting-first h e = record { long = omega arith; here = omega arith; same = refl }
 
-  module _ (k : ℕ) (i : Fitting k) where
-    both-here : k < length limits → within limits (cells run) ≡ (leb (getD (cells run) k 0) (getD limits k 0) && within (drop (k + 1) limits) (drop (k + 1) (cells run)))
+  module _ (fit : Bool) (k : ℕ) (i : Fitting fit k) where
+    pub fitting-again : (x : ℕ) → k < length limits → Gives (getD (cells run) k 0) x → Fitting (fit && leb x (getD limits k 0)) (k + 1)
     unfolding within
-    both-here h = i .same ∙ rw (add-one k, drop-cons limits k 0 h, drop-cons (cells run) k 0 (omega (arith, length-cells run, i .long)))
+    fitting-again x h g =
+        let rest = within (drop (suc k) limits) (drop (suc k) (cells run)) in
+        record {
+          long = i .long;
+          here = omega arith;
+          same =
+              i .same ∙ rw (add-one k, drop-cons limits k 0 h, drop-cons (cells run) k 0 (omega (arith, length-cells run, i .long)), ← (g .answer))
+              (sym (and-assoc fit (leb x (getD limits k 0)) rest));
+        }
 
-    pub fitting-over : (x : ℕ) → getD limits k 0 < x → k < length limits → Gives (getD (cells run) k 0) x → false ≡ readable limits run
-    unfolding readable
-    fitting-over x o h g = rw (eq-eqb (length run) (length limits * 4) (i .long), both-here h, lt-leb (getD (cells run) k 0) (getD limits k 0) (omega (arith, g .answer)))
-
-    pub fitting-again : (x : ℕ) → k < length limits → Gives (getD (cells run) k 0) x → x ≤ getD limits k 0 → Fitting (k + 1)
-    fitting-again x h g o = record { long = i .long; here = omega arith; same = both-here h ∙ rw (le-leb (getD (cells run) k 0) (getD limits k 0) (omega (arith, g .answer))) }
-
-    pub fitting-end : length limits ≤ k → true ≡ readable limits run
+    pub fitting-end : length limits ≤ k → fit ≡ readable limits run
     unfolding readable within
     fitting-end h =
         let a : drop k limits ≡ [] = drop-of-length-le limits {i = k} h in
         let b : drop k (cells run) ≡ [] = drop-of-length-le (cells run) {i = k} (omega (arith, length-cells run, i .long)) in
-        rw (eq-eqb (length run) (length limits * 4) (i .long), i .same, a, b)
+        rw (eq-eqb (length run) (length limits * 4) (i .long), i .same, a, b) (sym (and-true fit))
 
   pub readable-long : readable limits run ≡ true → length run ≡ length limits * 4
   unfolding readable

@@ -22,7 +22,8 @@ pub fn cell(run: &[u8], k: usize) -> u32
     0
 }
 
-// Whether a run has one cell for each limit, and none is over its limit.
+// Whether a run has one cell for each limit, and none is over its limit. The loop ends at the last cell whatever it finds, so that a
+// compiler makes vector code of it.
 pub fn cells_fit(run: &[u8], limits: &[u32]) -> bool
     ensures { λ r. ⌜ Gives (readable (now (limits .entry)) (now (run .entry))) r ⌝ }
 {
@@ -32,13 +33,12 @@ pub fn cells_fit(run: &[u8], limits: &[u32]) -> bool
     if run.len() / 4 != limits.len() {
         return false;
     }
+    let mut fit = true;
     let mut k = 0;
     while k < limits.len() {
         let x = cell(run, k);
-        if limits[k] < x {
-            return false;
-        }
+        fit = fit & (x <= limits[k]);
         k += 1;
     }
-    true
+    fit
 }

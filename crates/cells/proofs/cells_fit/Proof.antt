@@ -2,15 +2,15 @@
 use borrow.Author.Needs.{needs}
 use Prim.Native.Nat.{_-_}
 use lib.ListN.{length}
-use Rattle.cells.specs.CellLaws.{readable-size, readable-count, Fitting, fitting-first, fitting-over, fitting-again, fitting-end}
+use Rattle.cells.specs.CellLaws.{readable-size, readable-count, Fitting, fitting-first, fitting-again, fitting-end}
 use Rattle.cells.proofs.cells_fit.Statement.{statement}
 use Rattle.cells.proofs.cells_fit.Tie as tie
 
 abbrev Inv-loop : tie.InvT-loop
-Inv-loop run limits k₀ k = Fitting limits run k
+Inv-loop run limits fit₀ k₀ fit k = Fitting limits run fit k
 
 abbrev μ-loop : tie.MeasureT-loop
-μ-loop run limits k₀ k = length limits - k
+μ-loop run limits fit₀ k₀ fit k = length limits - k
 
 returns : tie.Need-returns Inv-loop μ-loop
 returns c = search readable-size
@@ -24,14 +24,11 @@ loop-holds c = search fitting-first
 cell-requires : tie.Need-cell-requires Inv-loop μ-loop
 cell-requires c κs = search needs
 
-mul-if3 : tie.Need-mul-if3 Inv-loop μ-loop
-mul-if3 c = search needs
+mul-fit : tie.Need-mul-fit Inv-loop μ-loop
+mul-fit c = search needs
 
-shared-slice-read-if3 : tie.Need-shared-slice-read-if3 Inv-loop μ-loop
-shared-slice-read-if3 c = search needs
-
-returns-3 : tie.Need-returns-3 Inv-loop μ-loop
-returns-3 c = search fitting-over
+shared-slice-read-fit : tie.Need-shared-slice-read-fit Inv-loop μ-loop
+shared-slice-read-fit c = search needs
 
 add-k : tie.Need-add-k Inv-loop μ-loop
 add-k c = search needs
@@ -42,8 +39,8 @@ loop-less c = search needs
 loop-again : tie.Need-loop-again Inv-loop μ-loop
 loop-again c = search fitting-again
 
-returns-4 : tie.Need-returns-4 Inv-loop μ-loop
-returns-4 c = search fitting-end
+returns-3 : tie.Need-returns-3 Inv-loop μ-loop
+returns-3 c = search fitting-end
 
 pub cells-fit-spec : {M : Type 1} → statement M
 cells-fit-spec =
@@ -55,10 +52,9 @@ cells-fit-spec =
     returns-2
     loop-holds
     cell-requires
-    mul-if3
-    shared-slice-read-if3
-    returns-3
+    mul-fit
+    shared-slice-read-fit
     add-k
     loop-less
     loop-again
-    returns-4)
+    returns-3)
