@@ -183,7 +183,7 @@ fn by_filter(src: &[u8], from: usize, t: Three) -> usize
     upto(src, j, len, t)
 }
 
-// The first byte equal to `b` at or after `from`, else the length. Four blocks of sixteen come first, since most hits are near.
+// The first byte equal to `b` at or after `from`, else the length. Eight blocks of sixteen come first, since most hits are near.
 pub fn one(src: &[u8], from: usize, b: u8) -> usize
     ensures { λ r. ⌜ Sought (is b) (now (src .entry)) from r ⌝ }
 {
@@ -192,10 +192,10 @@ pub fn one(src: &[u8], from: usize, b: u8) -> usize
         return from;
     }
     let t = Three { a: b, b: b, c: b };
-    if len - from < 64 {
+    if len - from < 128 {
         return by_filter(src, from, t);
     }
-    let near = from + 64;
+    let near = from + 128;
     let i = pass(src, from, near, 16, t);
     if i < near {
         return upto(src, i, len, t);
