@@ -2,15 +2,13 @@
 use mathlib.Core.Bool.{Bool, cond, _&&_}
 use mathlib.Core.List.{List, [], _∷_}
 use Prim.Native.Nat.{ℕ, _+_}
-use lib.Dec.{ltb}
-use lib.ListN.{length, getD, take}
-use Rattle.search.specs.Promise.{Steps}
-use Rattle.search.specs.Search.{find, oneOf, holds, lineEnd, nextLine}
-use Rattle.common.specs.Sets.{probe}
+use lib.ListN.{length, getD}
+use Rattle.search.specs.Search.{holds, lineEnd, nextLine}
 use Rattle.common.specs.Refusals.{Outcome, given, refused, numberOf}
-use Rattle.common.specs.Turn.{Turn, go, stop, found, firstTurn, allFound, Step, yields, ends}
-use Rattle.common.specs.Items.{ItemGrammar, grammar, blank, has, leading, beyond, leads, itemFrom, itemsOf, readTurn, answerBy, stateBy}
-use Rattle.common.specs.declared.sets.Probe.{Probe}
+use Rattle.common.specs.Turn.{Turn, go, stop, found, Step}
+use Rattle.common.specs.Items.{ItemGrammar, blank, leading, beyond, leads, itemFrom, itemsOf, readTurn, hitTurn, stepFor}
+use Rattle.common.specs.Scanning.{Scanner, Keeps}
+use Rattle.common.specs.Scanning as scanning
 use Rattle.block_marker.specs.declared.BlockMarkerIter.{BlockMarkerIter}
 use Rattle.block_marker.specs.declared.MarkerItem.{MarkerItem}
 use Rattle.block_marker.specs.declared.MarkerFound.{MarkerFound}
@@ -42,56 +40,47 @@ streamHit g s p =
     (found (mark (getD s p 0) (p + 2) (lineEnd (g .eol) s (p + 2))) (nextLine (length s) (lineEnd (g .eol) s (p + 2))))
     (go (nextLine (length s) (lineEnd (g .eol) s p)))
 
-abbrev pub streamFrom : ItemGrammar → List ℕ → ℕ → ℕ → Turn MarkerItem
-streamFrom g s q p = cond (ltb p (length s)) (streamHit g s p) (stop q)
-
 -- one turn at q: the next accepted byte, and what it leads; where there is none the scan stays
 unfoldable pub streamTurn : ItemGrammar → List ℕ → ℕ → Turn MarkerItem
-streamTurn g s q = streamFrom g s q (find (g .accepts) s q)
+streamTurn g s q = hitTurn g (streamHit g s) s q
 
 -- ---- the line scan: one turn at q, taken for a line's start
 abbrev pub lineTurn : ItemGrammar → List ℕ → ℕ → Turn MarkerItem
 lineTurn g s q = readTurn g (markLine g) s q
 
 -- ---- the step
--- the state that a probe makes: "With up to three accepted bytes the streaming scan is used, else the line scan"
-abbrev pub probed : ℕ → ℕ → ℕ → Probe → BlockMarkerIter
-probed eol sep tab p = record { eol = eol; sep = sep; tab = tab; pos = 0; needles = p .needles; nn = p .nn; streaming = p .streaming }
-
--- a fresh state
-abbrev pub fresh : ℕ → ℕ → ℕ → List Bool → BlockMarkerIter
-fresh eol sep tab set = probed eol sep tab (probe set)
-
--- the state at another place
-abbrev pub at : BlockMarkerIter → ℕ → BlockMarkerIter
-at g q = record { eol = g .eol; sep = g .sep; tab = g .tab; pos = q; needles = g .needles; nn = g .nn; streaming = g .streaming }
-
--- what its streaming scan reads by: "a needle count over 3 acts as 3"
-abbrev pub byNeedles : BlockMarkerIter → ItemGrammar
-byNeedles g = grammar (g .eol) (g .sep) (g .tab) (oneOf (take (g .nn) (g .needles)))
-
--- what its line scan reads by
-abbrev pub bySet : BlockMarkerIter → List Bool → ItemGrammar
-bySet g set = grammar (g .eol) (g .sep) (g .tab) (has set)
-
--- the state's turn: "in a handmade state its flag decides"
-unfoldable pub turn : BlockMarkerIter → List Bool → List ℕ → ℕ → Turn MarkerItem
-turn g set s = cond (g .streaming) (streamTurn (byNeedles g) s) (lineTurn (bySet g set) s)
-
--- the first turn from the state's place that does not only go on
-unfoldable pub first : BlockMarkerIter → List Bool → List ℕ → Turn MarkerItem
-first g set s = firstTurn (turn g set s) (length s) (g .pos)
-
 -- an item's values: the start and end of its content, and the marker byte
 abbrev pub values : MarkerItem → List ℕ
 values i = i .span .start ∷ i .span .end ∷ i .marker ∷ []
 
--- what a step answers, and the state after it
-unfoldable pub answer : BlockMarkerIter → List Bool → List ℕ → Outcome
-answer g set s = answerBy values s (g .pos) (first g set s)
+-- the scanner, by the fields of its state, its two scans and its items' values
+abbrev pub scanner : Scanner BlockMarkerIter MarkerItem
+scanner = record {
+  fields = λ g. record { eol = g .eol; sep = g .sep; tab = g .tab; pos = g .pos; needles = g .needles; nn = g .nn; streaming = g .streaming };
+  made = λ f. record { eol = f .eol; sep = f .sep; tab = f .tab; pos = f .pos; needles = f .needles; nn = f .nn; streaming = f .streaming };
+  streams = streamTurn;
+  lines = lineTurn;
+  values = values;
+  back = λ l. mark (getD l 2 0) (getD l 0 0) (getD l 1 0);
+}
 
-unfoldable pub state : BlockMarkerIter → List Bool → List ℕ → BlockMarkerIter
-state g set s = stateBy at g s (g .pos) (first g set s)
+-- a fresh state, and a state at another place
+abbrev pub fresh : ℕ → ℕ → ℕ → List Bool → BlockMarkerIter
+fresh = scanning.fresh scanner
+
+abbrev pub at : BlockMarkerIter → ℕ → BlockMarkerIter
+at = scanning.at scanner
+
+-- a state's first turn from its place that does not only go on
+abbrev pub first : BlockMarkerIter → List Bool → List ℕ → Turn MarkerItem
+first = scanning.first scanner
+
+-- what a step answers, and the state after it
+abbrev pub answer : BlockMarkerIter → List Bool → List ℕ → Outcome
+answer = scanning.answer scanner
+
+abbrev pub state : BlockMarkerIter → List Bool → List ℕ → BlockMarkerIter
+state = scanning.state scanner
 
 -- ---- what the code's values stand for
 abbrev pub view : MarkerTurn → Turn MarkerItem
@@ -107,17 +96,12 @@ told (Refused r) = refused (numberOf r)
 -- ---- the run
 -- the promise of `next` for its result
 abbrev pub Kept : BlockMarkerIter → List Bool → List ℕ → MarkerStep → Type 0
-Kept g set s r = Steps (answer g set s) (state g set s) (told (r .found)) (r .next)
+Kept g set s r = Keeps scanner g set s (told (r .found)) (r .next)
 
 -- what a step yields, and the state after it
-abbrev pub yielded : MarkerFound → BlockMarkerIter → Step MarkerItem BlockMarkerIter
-yielded (Item i) g = yields i g
-yielded Nothing g = ends g
-yielded (Refused r) g = ends g
-
 abbrev pub stepped : MarkerStep → Step MarkerItem BlockMarkerIter
-stepped r = yielded (r .found) (r .next)
+stepped r = stepFor (scanner .back) (told (r .found) .values) (r .next)
 
 -- all items that a state's scan has before it
 abbrev pub items : BlockMarkerIter → List Bool → List ℕ → List MarkerItem
-items g set s = allFound (turn g set s) (length s) (g .pos)
+items = scanning.items scanner

@@ -15,7 +15,7 @@ use Rattle.search.specs.SearchLaws.{decide, clash, and-true, is-no, other-yes, 
 use Rattle.common.specs.Turn.{go, stop, found, allFound, None, Ahead, Adv, Covers}
 use Rattle.common.specs.TurnLaws.{collect-covers}
 use Rattle.common.specs.Items.{ItemGrammar, grammar, blank, Apart, leading, beyond, leads, itemFrom, lineFound, itemAt, itemsOf, readTurn}
-use Rattle.common.specs.ItemLaws.{both, other-true, leading-is, beyond-is, leading-beyond, marked, from-drop, marked-tests, Parted, marked-parted, parted-marked, AtMost, most-from, Walked, walked, walked-is, start-after, AtLine, at-start, line-size, line-length, no-line, on-line, line-rest, read-adv, read-items, blank-refused, accepted-blank, blank-inside, accepted-inside}
+use Rattle.common.specs.ItemLaws.{both, other-true, leading-is, beyond-is, leading-beyond, marked, from-drop, marked-tests, Parted, marked-parted, parted-marked, AtMost, most-from, Walked, walked, walked-is, start-after, AtLine, at-start, line-size, line-length, line-low, no-line, on-line, line-rest, read-adv, read-items, hit-adv, hit-covers, blank-refused, accepted-blank, blank-inside, accepted-inside}
 use Rattle.block_marker.specs.Marker.{mark, markLine, markers, streamHit, streamTurn, lineTurn}
 use Rattle.block_marker.specs.declared.MarkerItem.{MarkerItem}
 
@@ -129,11 +129,7 @@ module _ (g : ItemGrammar) (s : List ℕ) where
 
   pub stream-adv : Adv Lies (streamTurn g s) (length s)
   unfolding streamTurn
-  stream-adv = record {
-    ahead = λ q h.
-        both (Ahead Lies q (length s)) (ltb (find (g .accepts) s q) (length s)) _ _
-        (λ u. hit-ahead q (find (g .accepts) s q) (find-ge (g .accepts) s q) (ltb-true (find (g .accepts) s q) (length s) u)) (λ u. (omega arith, h));
-  }
+  stream-adv = hit-adv g (streamHit g s) s Lies hit-ahead
 
   pub mark-most : (q e n : ℕ) (l : List ℕ) → q + length l ≡ e → e ≤ n → AtMost (Lies q n) (markLine g q l)
   unfolding markLine
@@ -151,19 +147,11 @@ module _ (g : ItemGrammar) (s : List ℕ) where
     pub marks : Parted g s (lineEnd (g .eol) s a) p
 
   module _ (a : ℕ) (h : a ≤ length s) where
-    u : List ℕ
+    abbrev u : List ℕ
     u = take (lineEnd (g .eol) s a) s
-
-    u-size : length u ≡ lineEnd (g .eol) s a
-    unfolding u
-    u-size = line-length (g .eol) s a h
-
-    u-low : a ≤ length u
-    u-low = omega (arith, u-size, find-ge (is (g .eol)) s a)
 
     -- a place has nothing, or has its marker
     mark-cases : (itemAt g (markLine g) s a ≡ []) ⊎ ((p : ℕ) × Has a p)
-    unfolding u
     mark-cases = by (decide (lineStart (g .eol) s a)) (decide (marked g u p))
       where
         p : ℕ
@@ -171,10 +159,10 @@ module _ (g : ItemGrammar) (s : List ℕ) where
 
         by : (lineStart (g .eol) s a ≡ true) ⊎ (lineStart (g .eol) s a ≡ false) → (marked g u p ≡ true) ⊎ (marked g u p ≡ false) → (itemAt g (markLine g) s a ≡ []) ⊎ ((p : ℕ) × Has a p)
         by (inr b) c = inl (no-line g (markLine g) s a b)
-        by (inl b) (inr c) = inl (on-line g (markLine g) s a b ∙ mark-no g u a p u-low refl c)
+        by (inl b) (inr c) = inl (on-line g (markLine g) s a b ∙ mark-no g u a p (line-low (g .eol) s a h) refl c)
         by (inl b) (inl c) =
             let e = lineEnd (g .eol) s a in
-            let w = marked-parted g s e p u-size c in
+            let w = marked-parted g s e p (line-length (g .eol) s a h) c in
             let m = w .inside in
             inr (
               p,
@@ -182,7 +170,7 @@ module _ (g : ItemGrammar) (s : List ℕ) where
                 begins = b;
                 low = find-ge (other (blank g)) u a;
                 blanks = λ j i l. sym (ap (blank g) (getD-take e s j 0 (omega arith))) ∙ other-false (blank g) (getD u j 0) (find-before (other (blank g)) u a j i l);
-                solid = sym (ap (blank g) (getD-take e s p 0 (omega arith))) ∙ other-true (blank g) (getD u p 0) (find-at (other (blank g)) u a (omega (arith, u-size)));
+                solid = sym (ap (blank g) (getD-take e s p 0 (omega arith))) ∙ other-true (blank g) (getD u p 0) (find-at (other (blank g)) u a (omega (arith, line-length (g .eol) s a h)));
                 marks = w;
               },
             )
@@ -192,15 +180,14 @@ module _ (g : ItemGrammar) (s : List ℕ) where
     nothing n = ⊎-elim (λ e. e) (λ x. absurd (n (x .0) (x .1))) mark-cases
 
     pub has-mark : (p : ℕ) → Has a p → itemAt g (markLine g) s a ≡ mark (getD s p 0) (p + 2) (lineEnd (g .eol) s a) ∷ []
-    unfolding u
     has-mark p w =
         let e = lineEnd (g .eol) s a in
         let m = w .marks .inside in
         let x : getD u p 0 ≡ getD s p 0 = getD-take e s p 0 (omega arith) in
         let f : find (other (blank g)) u a ≡ p =
-        find-is (other (blank g)) u a p (w .low) (omega (arith, u-size)) (λ j i l. ap (other (blank g)) (getD-take e s j 0 (omega arith)) ∙ other-no (blank g) (getD s j 0) (w .blanks j i l))
+        find-is (other (blank g)) u a p (w .low) (omega (arith, line-length (g .eol) s a h)) (λ j i l. ap (other (blank g)) (getD-take e s j 0 (omega arith)) ∙ other-no (blank g) (getD s j 0) (w .blanks j i l))
         (ap (other (blank g)) x ∙ other-yes (blank g) (getD s p 0) (w .solid)) in
-        on-line g (markLine g) s a (w .begins) ∙ mark-yes g u a p u-low f (parted-marked g s e p u-size (w .marks)) ∙ rw (u-size, x)
+        on-line g (markLine g) s a (w .begins) ∙ mark-yes g u a p (line-low (g .eol) s a h) f (parted-marked g s e p (line-length (g .eol) s a h) (w .marks)) ∙ rw (line-length (g .eol) s a h, x)
 
 -- ---- the streaming scan answers for the places that it passes, where the bytes are apart
 module _ (g : ItemGrammar) (s : List ℕ) (apart : Apart g) where
@@ -252,9 +239,9 @@ module _ (g : ItemGrammar) (s : List ℕ) (apart : Apart g) where
               let m = ltb-false p a u in
               nothing g s a (omega arith) (λ r w. never a m (subst (Has g s a) (first-hit q p a r f y x m w) w))
 
-  hit-covers : (q p : ℕ) → q ≤ p → p < length s → find (g .accepts) s q ≡ p → AtLine (g .eol) s q → g .accepts (getD s p 0) ≡ true → Covers (itemAt g (markLine g) s) (AtLine (g .eol) s) (length s) q (streamHit g s p)
+  hit-answers : (q p : ℕ) → q ≤ p → p < length s → find (g .accepts) s q ≡ p → AtLine (g .eol) s q → g .accepts (getD s p 0) ≡ true → Covers (itemAt g (markLine g) s) (AtLine (g .eol) s) (length s) q (streamHit g s p)
   unfolding leads
-  hit-covers q p h l f i y =
+  hit-answers q p h l f i y =
       both (Covers (itemAt g (markLine g) s) (AtLine (g .eol) s) (length s) q) (lineStart (g .eol) s k && holds (blank g) s (p + 1)) _ _
       (λ u.
       let v = and-true (lineStart (g .eol) s k) (holds (blank g) s (p + 1)) u in
@@ -297,12 +284,9 @@ module _ (g : ItemGrammar) (s : List ℕ) (apart : Apart g) where
 
   pub stream-covers : (q : ℕ) → q ≤ length s → AtLine (g .eol) s q → Covers (itemAt g (markLine g) s) (AtLine (g .eol) s) (length s) q (streamTurn g s q)
   unfolding streamTurn
-  stream-covers q h i =
-      let p = find (g .accepts) s q in
-      both (Covers (itemAt g (markLine g) s) (AtLine (g .eol) s) (length s) q) (ltb p (length s)) _ _
-      (λ u. let l = ltb-true p (length s) u in hit-covers q p (find-ge (g .accepts) s q) l refl i (find-at (g .accepts) s q l))
-      (λ u. λ a x y. nothing g s a (omega arith) (λ r w.
-      let l = ltb-false p (length s) u in
+  stream-covers =
+      hit-covers g (streamHit g s) s (itemAt g (markLine g) s) (AtLine (g .eol) s) hit-answers
+      (λ q l a x y. nothing g s a (omega arith) (λ r w.
       let e = w .marks .inside in
       let m = find-le (is (g .eol)) s a (omega arith) in
       clash (w .marks .accepted) (find-before (g .accepts) s q r (omega (arith, w .low)) (omega arith))))

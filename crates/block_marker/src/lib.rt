@@ -23,7 +23,7 @@ ghost use Rattle.search.specs.Promise.{Gives, Steps};
 ghost use Rattle.search.specs.Search.{oneOf, Sought};
 ghost use Rattle.common.specs.Items.{grammar, has};
 ghost use Rattle.common.specs.Turn.{firstTurn};
-ghost use Rattle.block_marker.specs.Marker.{fresh, at, streamTurn, lineTurn, turn, first, view, told, answer, state};
+ghost use Rattle.block_marker.specs.Marker.{fresh, at, streamTurn, lineTurn, first, view, told, answer, state};
 
 // The fields of the Rust's iterator; the text and the set of accepted bytes are lent beside it.
 pub struct BlockMarkerIter {

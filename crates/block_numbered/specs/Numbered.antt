@@ -6,13 +6,12 @@ use Prim.Native.Nat.{ℕ, _+_, _-_, _*_}
 use lib.Dec.{ltb, leb}
 use lib.ListN.{length, getD, take, drop}
 use lib.Seq.{slice}
-use Rattle.search.specs.Promise.{Steps}
-use Rattle.search.specs.Search.{find, oneOf, holds, back, lineEnd, nextLine}
-use Rattle.common.specs.Sets.{probe}
+use Rattle.search.specs.Search.{holds, back, lineEnd, nextLine}
 use Rattle.common.specs.Refusals.{Outcome, given, refused, numberOf}
-use Rattle.common.specs.Turn.{Turn, go, stop, found, firstTurn, allFound, Step, yields, ends}
-use Rattle.common.specs.Items.{ItemGrammar, grammar, blank, has, Apart, leading, beyond, leads, itemFrom, itemsOf, readTurn, answerBy, stateBy}
-use Rattle.common.specs.declared.sets.Probe.{Probe}
+use Rattle.common.specs.Turn.{Turn, go, stop, found, Step}
+use Rattle.common.specs.Items.{ItemGrammar, blank, Apart, leading, beyond, leads, itemFrom, itemsOf, readTurn, hitTurn, stepFor}
+use Rattle.common.specs.Scanning.{Scanner, Keeps}
+use Rattle.common.specs.Scanning as scanning
 use Rattle.block_numbered.specs.declared.BlockNumberedIter.{BlockNumberedIter}
 use Rattle.block_numbered.specs.declared.NumberedItem.{NumberedItem}
 use Rattle.block_numbered.specs.declared.NumberedFound.{NumberedFound}
@@ -83,12 +82,9 @@ streamHit g s p n =
     (found (numbered (slice (p - n) p s) (getD s p 0) (p + 2) (lineEnd (g .eol) s (p + 2))) (nextLine (length s) (lineEnd (g .eol) s (p + 2))))
     (go (p + 1))
 
-abbrev pub streamFrom : ItemGrammar → List ℕ → ℕ → ℕ → Turn NumberedItem
-streamFrom g s q p = cond (ltb p (length s)) (streamHit g s p (back digit s p)) (stop q)
-
 -- one turn at q: the next accepted byte, and the digits that it ends; where there is none the scan stays
 unfoldable pub streamTurn : ItemGrammar → List ℕ → ℕ → Turn NumberedItem
-streamTurn g s q = streamFrom g s q (find (g .accepts) s q)
+streamTurn g s q = hitTurn g (λ p. streamHit g s p (back digit s p)) s q
 
 -- ---- the line scan: it reads nine digits at the most, and a tenth may be the delimiter
 -- the digits that it reads
@@ -107,49 +103,43 @@ abbrev pub lineTurn : ItemGrammar → List ℕ → ℕ → Turn NumberedItem
 lineTurn g s q = readTurn g (readLine g) s q
 
 -- ---- the step
--- the state that a probe makes: "With up to three accepted bytes the streaming scan is used, else the line scan"
-abbrev pub probed : ℕ → ℕ → ℕ → Probe → BlockNumberedIter
-probed eol sep tab p = record { eol = eol; sep = sep; tab = tab; pos = 0; needles = p .needles; nn = p .nn; streaming = p .streaming }
-
--- a fresh state
-abbrev pub fresh : ℕ → ℕ → ℕ → List Bool → BlockNumberedIter
-fresh eol sep tab set = probed eol sep tab (probe set)
-
--- the state at another place
-abbrev pub at : BlockNumberedIter → ℕ → BlockNumberedIter
-at g q = record { eol = g .eol; sep = g .sep; tab = g .tab; pos = q; needles = g .needles; nn = g .nn; streaming = g .streaming }
-
--- what its streaming scan reads by: "a needle count over 3 acts as 3"
-abbrev pub byNeedles : BlockNumberedIter → ItemGrammar
-byNeedles g = grammar (g .eol) (g .sep) (g .tab) (oneOf (take (g .nn) (g .needles)))
-
--- what its line scan reads by
-abbrev pub bySet : BlockNumberedIter → List Bool → ItemGrammar
-bySet g set = grammar (g .eol) (g .sep) (g .tab) (has set)
-
--- the state's turn: "in a handmade state its flag decides"
-unfoldable pub turn : BlockNumberedIter → List Bool → List ℕ → ℕ → Turn NumberedItem
-turn g set s = cond (g .streaming) (streamTurn (byNeedles g) s) (lineTurn (bySet g set) s)
-
--- the first turn from the state's place that does not only go on
-unfoldable pub first : BlockNumberedIter → List Bool → List ℕ → Turn NumberedItem
-first g set s = firstTurn (turn g set s) (length s) (g .pos)
-
--- an item's values: the start and end of its content, the delimiter byte and the number
+-- an item's values: the start and end of its content, the delimiter byte and the number; and the item of its parts
 abbrev pub values : NumberedItem → List ℕ
 values i = i .span .start ∷ i .span .end ∷ i .delimiter ∷ i .number ∷ []
 
--- what a step answers, and the state after it
-unfoldable pub answer : BlockNumberedIter → List Bool → List ℕ → Outcome
-answer g set s = answerBy values s (g .pos) (first g set s)
-
-unfoldable pub state : BlockNumberedIter → List Bool → List ℕ → BlockNumberedIter
-state g set s = stateBy at g s (g .pos) (first g set s)
-
--- ---- what the code's values stand for
 abbrev pub item : ℕ → ℕ → ℕ → ℕ → NumberedItem
 item number delimiter start end = record { number = number; delimiter = delimiter; span = record { start = start; end = end } }
 
+-- the scanner, by the fields of its state, its two scans and its items' values
+abbrev pub scanner : Scanner BlockNumberedIter NumberedItem
+scanner = record {
+  fields = λ g. record { eol = g .eol; sep = g .sep; tab = g .tab; pos = g .pos; needles = g .needles; nn = g .nn; streaming = g .streaming };
+  made = λ f. record { eol = f .eol; sep = f .sep; tab = f .tab; pos = f .pos; needles = f .needles; nn = f .nn; streaming = f .streaming };
+  streams = streamTurn;
+  lines = lineTurn;
+  values = values;
+  back = λ l. item (getD l 3 0) (getD l 2 0) (getD l 0 0) (getD l 1 0);
+}
+
+-- a fresh state, and a state at another place
+abbrev pub fresh : ℕ → ℕ → ℕ → List Bool → BlockNumberedIter
+fresh = scanning.fresh scanner
+
+abbrev pub at : BlockNumberedIter → ℕ → BlockNumberedIter
+at = scanning.at scanner
+
+-- a state's first turn from its place that does not only go on
+abbrev pub first : BlockNumberedIter → List Bool → List ℕ → Turn NumberedItem
+first = scanning.first scanner
+
+-- what a step answers, and the state after it
+abbrev pub answer : BlockNumberedIter → List Bool → List ℕ → Outcome
+answer = scanning.answer scanner
+
+abbrev pub state : BlockNumberedIter → List Bool → List ℕ → BlockNumberedIter
+state = scanning.state scanner
+
+-- ---- what the code's values stand for
 abbrev pub view : NumberedTurn → Turn NumberedItem
 view (Go n) = go n
 view (Stop v) = stop v
@@ -167,17 +157,12 @@ digitsAt from ds = record { number = decimal ds; end = from + length ds }
 -- ---- the run
 -- the promise of `next` for its result
 abbrev pub Kept : BlockNumberedIter → List Bool → List ℕ → NumberedStep → Type 0
-Kept g set s r = Steps (answer g set s) (state g set s) (told (r .found)) (r .next)
+Kept g set s r = Keeps scanner g set s (told (r .found)) (r .next)
 
 -- what a step yields, and the state after it
-abbrev pub yielded : NumberedFound → BlockNumberedIter → Step NumberedItem BlockNumberedIter
-yielded (Item i) g = yields i g
-yielded Nothing g = ends g
-yielded (Refused r) g = ends g
-
 abbrev pub stepped : NumberedStep → Step NumberedItem BlockNumberedIter
-stepped r = yielded (r .found) (r .next)
+stepped r = stepFor (scanner .back) (told (r .found) .values) (r .next)
 
 -- all items that a state's scan has before it
 abbrev pub items : BlockNumberedIter → List Bool → List ℕ → List NumberedItem
-items g set s = allFound (turn g set s) (length s) (g .pos)
+items = scanning.items scanner

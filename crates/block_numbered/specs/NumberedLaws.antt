@@ -15,7 +15,7 @@ use Rattle.search.specs.SearchLaws.{decide, clash, and-true, is-no, either-true
 use Rattle.common.specs.Turn.{go, stop, found, allFound, between, Ahead, Adv, Covers}
 use Rattle.common.specs.TurnLaws.{collect-covers}
 use Rattle.common.specs.Items.{ItemGrammar, grammar, blank, leading, beyond, leads, itemFrom, lineFound, itemAt, itemsOf, readTurn}
-use Rattle.common.specs.ItemLaws.{both, other-true, leading-is, beyond-is, leading-beyond, marked, from-drop, marked-tests, Parted, marked-parted, parted-marked, AtMost, most-from, Walked, walked, walked-is, start-after, line-size, line-length, no-line, on-line, line-rest, read-adv, read-items, blank-refused, accepted-blank, blank-inside, accepted-inside}
+use Rattle.common.specs.ItemLaws.{both, other-true, leading-is, beyond-is, leading-beyond, marked, from-drop, marked-tests, Parted, marked-parted, parted-marked, AtMost, most-from, Walked, walked, walked-is, start-after, line-size, line-length, line-low, no-line, on-line, line-rest, read-adv, read-items, hit-adv, hit-covers, blank-refused, accepted-blank, blank-inside, accepted-inside}
 use Rattle.block_numbered.specs.Numbered.{digit, decimal, oneToNine, few, numbered, item, numberThen, numberFrom, numberLine, numbers, DigitsApart, streamHit, streamTurn, readDigits, readFrom, readLine, lineTurn, digitsAt}
 use Rattle.block_numbered.specs.DigitLaws.{few-none, few-some, one-to-nine, nine-yes, digits-small, leading-few, leading-many, drop-leading}
 use Rattle.block_numbered.specs.declared.NumberedItem.{NumberedItem}
@@ -214,11 +214,7 @@ module _ (g : ItemGrammar) (s : List ℕ) where
 
   pub stream-adv : Adv Lies (streamTurn g s) (length s)
   unfolding streamTurn
-  stream-adv = record {
-    ahead = λ q h.
-        both (Ahead Lies q (length s)) (ltb (find (g .accepts) s q) (length s)) _ _
-        (λ u. hit-ahead q (find (g .accepts) s q) (find-ge (g .accepts) s q) (ltb-true (find (g .accepts) s q) (length s) u)) (λ u. (omega arith, h));
-  }
+  stream-adv = hit-adv g (λ p. streamHit g s p (back digit s p)) s Lies hit-ahead
 
   -- behind digits that write a small number
   then-most : (q e n k : ℕ) (ds l : List ℕ) → q ≤ k → k + length l ≡ e → e ≤ n → (oneToNine (length ds) ≡ true → decimal ds < 1000000000) → AtMost (Lies q n) (numberThen g ds k l)
@@ -278,19 +274,11 @@ module _ (g : ItemGrammar) (s : List ℕ) where
     pub marks : Parted g s (lineEnd (g .eol) s a) j
 
   module _ (a : ℕ) (h : a ≤ length s) where
-    u : List ℕ
+    abbrev u : List ℕ
     u = take (lineEnd (g .eol) s a) s
-
-    u-size : length u ≡ lineEnd (g .eol) s a
-    unfolding u
-    u-size = line-length (g .eol) s a h
-
-    u-low : a ≤ length u
-    u-low = omega (arith, u-size, find-ge (is (g .eol)) s a)
 
     -- a place has nothing, or has its digits and their delimiter
     number-cases : (itemAt g (numberLine g) s a ≡ []) ⊎ ((p : ℕ) × (j : ℕ) × Has a p j)
-    unfolding u
     number-cases = by (decide (lineStart (g .eol) s a)) (decide (oneToNine (j - p) && marked g u j))
       where
         p : ℕ
@@ -300,17 +288,17 @@ module _ (g : ItemGrammar) (s : List ℕ) where
         j = find (other digit) u p
 
         high : p ≤ length u
-        high = find-le (other (blank g)) u a u-low
+        high = find-le (other (blank g)) u a (line-low (g .eol) s a h)
 
         by : (lineStart (g .eol) s a ≡ true) ⊎ (lineStart (g .eol) s a ≡ false) → ((oneToNine (j - p) && marked g u j) ≡ true) ⊎ ((oneToNine (j - p) && marked g u j) ≡ false)
             → (itemAt g (numberLine g) s a ≡ []) ⊎ ((p : ℕ) × (j : ℕ) × Has a p j)
         by (inr b) c = inl (no-line g (numberLine g) s a b)
-        by (inl b) (inr c) = inl (on-line g (numberLine g) s a b ∙ number-search g u a p u-low refl j high refl ∙ simp c)
+        by (inl b) (inr c) = inl (on-line g (numberLine g) s a b ∙ number-search g u a p (line-low (g .eol) s a h) refl j high refl ∙ simp c)
         by (inl b) (inl c) =
             let e = lineEnd (g .eol) s a in
             let v = and-true (oneToNine (j - p)) (marked g u j) c in
             let o = one-to-nine (j - p) (v .0) in
-            let w = marked-parted g s e j u-size (v .1) in
+            let w = marked-parted g s e j (line-length (g .eol) s a h) (v .1) in
             let m = w .inside in
             inr (
               p,
@@ -319,11 +307,11 @@ module _ (g : ItemGrammar) (s : List ℕ) where
                 begins = b;
                 low = find-ge (other (blank g)) u a;
                 blanks = λ i x l. sym (ap (blank g) (getD-take e s i 0 (omega arith))) ∙ other-false (blank g) (getD u i 0) (find-before (other (blank g)) u a i x l);
-                solid = sym (ap (blank g) (getD-take e s p 0 (omega arith))) ∙ other-true (blank g) (getD u p 0) (find-at (other (blank g)) u a (omega (arith, u-size)));
+                solid = sym (ap (blank g) (getD-take e s p 0 (omega arith))) ∙ other-true (blank g) (getD u p 0) (find-at (other (blank g)) u a (omega (arith, line-length (g .eol) s a h)));
                 some = omega arith;
                 most = o .1;
                 digits = λ i x l. sym (ap digit (getD-take e s i 0 (omega arith))) ∙ other-false digit (getD u i 0) (find-before (other digit) u p i x l);
-                ended = sym (ap digit (getD-take e s j 0 (omega arith))) ∙ other-true digit (getD u j 0) (find-at (other digit) u p (omega (arith, u-size)));
+                ended = sym (ap digit (getD-take e s j 0 (omega arith))) ∙ other-true digit (getD u j 0) (find-at (other digit) u p (omega (arith, line-length (g .eol) s a h)));
                 marks = w;
               },
             )
@@ -333,7 +321,6 @@ module _ (g : ItemGrammar) (s : List ℕ) where
     nothing n = ⊎-elim (λ e. e) (λ x. absurd (n (x .0) (x .1) (x .2))) number-cases
 
     pub has-number : (p j : ℕ) → Has a p j → itemAt g (numberLine g) s a ≡ numbered (slice p j s) (getD s j 0) (j + 2) (lineEnd (g .eol) s a) ∷ []
-    unfolding u
     has-number p j w =
         let e = lineEnd (g .eol) s a in
         let m = w .marks .inside in
@@ -341,15 +328,15 @@ module _ (g : ItemGrammar) (s : List ℕ) where
         let x : getD u p 0 ≡ getD s p 0 = getD-take e s p 0 (omega arith) in
         let y : getD u j 0 ≡ getD s j 0 = getD-take e s j 0 (omega arith) in
         let f : find (other (blank g)) u a ≡ p =
-        find-is (other (blank g)) u a p (w .low) (omega (arith, u-size)) (λ i b l. ap (other (blank g)) (getD-take e s i 0 (omega arith)) ∙ other-no (blank g) (getD s i 0) (w .blanks i b l))
+        find-is (other (blank g)) u a p (w .low) (omega (arith, line-length (g .eol) s a h)) (λ i b l. ap (other (blank g)) (getD-take e s i 0 (omega arith)) ∙ other-no (blank g) (getD s i 0) (w .blanks i b l))
         (ap (other (blank g)) x ∙ other-yes (blank g) (getD s p 0) (w .solid)) in
         let k : find (other digit) u p ≡ j =
-        find-is (other digit) u p j (omega arith) (omega (arith, u-size)) (λ i b l. ap (other digit) (getD-take e s i 0 (omega arith)) ∙ other-no digit (getD s i 0) (w .digits i b l))
+        find-is (other digit) u p j (omega arith) (omega (arith, line-length (g .eol) s a h)) (λ i b l. ap (other digit) (getD-take e s i 0 (omega arith)) ∙ other-no digit (getD s i 0) (w .digits i b l))
         (ap (other digit) y ∙ other-yes digit (getD s j 0) (w .ended)) in
         let c : slice p j u ≡ slice p j s = ap (drop p) (take-take j e s (omega arith)) in
         on-line g (numberLine g) s a (w .begins)
-        ∙ number-search g u a p u-low f j (omega (arith, u-size)) k
-        ∙ rw (nine-yes (j - p) (omega arith) (w .most), parted-marked g s e j u-size (w .marks), c, y, u-size)
+        ∙ number-search g u a p (line-low (g .eol) s a h) f j (omega (arith, line-length (g .eol) s a h)) k
+        ∙ rw (nine-yes (j - p) (omega arith) (w .most), parted-marked g s e j (line-length (g .eol) s a h) (w .marks), c, y, line-length (g .eol) s a h)
 
 -- ---- the streaming scan answers for the places that it passes, where the bytes are apart
 module _ (g : ItemGrammar) (s : List ℕ) (c : DigitsApart g) where
@@ -453,9 +440,9 @@ module _ (g : ItemGrammar) (s : List ℕ) (c : DigitsApart g) where
     λ a x z. nothing g s a (omega arith) (λ r j w. never a r (omega arith) (subst (Has g s a r) (first-hit q p a r j f y x (omega arith) w) w)),
   )
 
-  hit-covers : (q p : ℕ) → q ≤ p → p < length s → find (g .accepts) s q ≡ p → Past q → g .accepts (getD s p 0) ≡ true → Covers (itemAt g (numberLine g) s) Past (length s) q (streamHit g s p (back digit s p))
+  hit-answers : (q p : ℕ) → q ≤ p → p < length s → find (g .accepts) s q ≡ p → Past q → g .accepts (getD s p 0) ≡ true → Covers (itemAt g (numberLine g) s) Past (length s) q (streamHit g s p (back digit s p))
   unfolding leads
-  hit-covers q p h l f i y =
+  hit-answers q p h l f i y =
       both (Covers (itemAt g (numberLine g) s) Past (length s) q) (oneToNine n && (lineStart (g .eol) s b && holds (blank g) s (p + 1))) _ _
       (λ u.
       let v = and-true (oneToNine n) (lineStart (g .eol) s b && holds (blank g) s (p + 1)) u in
@@ -515,12 +502,9 @@ module _ (g : ItemGrammar) (s : List ℕ) (c : DigitsApart g) where
 
   stream-covers : (q : ℕ) → q ≤ length s → Past q → Covers (itemAt g (numberLine g) s) Past (length s) q (streamTurn g s q)
   unfolding streamTurn
-  stream-covers q h i =
-      let p = find (g .accepts) s q in
-      both (Covers (itemAt g (numberLine g) s) Past (length s) q) (ltb p (length s)) _ _
-      (λ u. let l = ltb-true p (length s) u in hit-covers q p (find-ge (g .accepts) s q) l refl i (find-at (g .accepts) s q l))
-      (λ u. λ a x y. nothing g s a (omega arith) (λ r j w.
-      let l = ltb-false p (length s) u in
+  stream-covers =
+      hit-covers g (λ p. streamHit g s p (back digit s p)) s (itemAt g (numberLine g) s) Past hit-answers
+      (λ q l a x y. nothing g s a (omega arith) (λ r j w.
       let e = w .marks .inside in
       let m = find-le (is (g .eol)) s a (omega arith) in
       clash (w .marks .accepted) (find-before (g .accepts) s q j (omega (arith, w .low, w .some)) (omega arith))))

@@ -24,7 +24,7 @@ ghost use Rattle.search.specs.Promise.{Gives, Steps};
 ghost use Rattle.search.specs.Search.{oneOf, back};
 ghost use Rattle.common.specs.Items.{grammar, has};
 ghost use Rattle.common.specs.Turn.{firstTurn};
-ghost use Rattle.block_numbered.specs.Numbered.{digit, few, readDigits, digitsAt, fresh, at, streamTurn, lineTurn, turn, first, view, told, answer, state};
+ghost use Rattle.block_numbered.specs.Numbered.{digit, few, readDigits, digitsAt, fresh, at, streamTurn, lineTurn, first, view, told, answer, state};
 
 // The fields of the Rust's iterator; the text and the set of accepted delimiters are lent beside it.
 pub struct BlockNumberedIter {

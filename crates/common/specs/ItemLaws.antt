@@ -12,16 +12,12 @@ use lib.Seq.{drop-cons, getD-take, slice, slice-empty, slice-cons, length-slice}
 use borrow.Author.Tests.{eqb-true, eq-eqb, lt-ltb, le-ltb, ltb-true, ltb-false}
 use Rattle.search.specs.Promise.{Gives, Steps}
 use Rattle.search.specs.Search.{is, either, oneOf, other, holds, find, Sought, back, lineStart, lineEnd, nextLine}
-use Rattle.search.specs.SearchLaws.{decide, clash, and-true, is-true, either-true, other-yes, other-no, holds-in, holds-true, find-ge, find-le, find-end, find-here, find-next, back-le, back-run, back-stop, start-zero, line-one, line-next}
+use Rattle.search.specs.SearchLaws.{decide, clash, and-true, is-true, either-true, other-yes, other-no, holds-in, holds-true, find-ge, find-le, find-at, find-end, find-here, find-next, back-le, back-run, back-stop, start-zero, line-one, line-next}
 use Rattle.common.specs.Sets.{acceptedFrom, accepted, probeOf, probe}
-use Rattle.common.specs.Refusals.{Outcome, given, refused, numberOf}
-use Rattle.common.specs.RefusalLaws.{answer-unique, found-unique}
+use Rattle.common.specs.Refusals.{Outcome, refused}
 use Rattle.common.specs.Turn.{Turn, found, allFound, None, Ahead, Adv, Covers}
 use Rattle.common.specs.TurnLaws.{collect-covers}
-use Rattle.common.specs.Items.{ItemGrammar, blank, has, Apart, lineBytes, leading, beyond, leads, itemFrom, lineFound, itemAt, itemsOf, readTurn, said, placeOf, answerBy, stateBy}
-use Rattle.common.specs.declared.refusal.Refusal.{Refusal}
-use Rattle.common.specs.declared.refusal.Answer.the-variants as answer
-use Rattle.common.specs.declared.refusal.Found.the-variants as told
+use Rattle.common.specs.Items.{ItemGrammar, blank, has, Apart, lineBytes, leading, beyond, leads, itemFrom, lineFound, itemAt, itemsOf, readTurn, hitTurn, said, placeOf, answerBy, stateBy}
 
 -- a property of what a test picks, by cases
 pub both : {A : Type 0} (P : A → Type 0) (t : Bool) (a b : A) → (t ≡ true → P a) → (t ≡ false → P b) → P (cond t a b)
@@ -233,6 +229,9 @@ line-size eol s q e w h = let z : min e (length s) ≡ e = omega (arith, w .high
 pub line-length : (eol : ℕ) (s : List ℕ) (a : ℕ) → a ≤ length s → length (take (lineEnd eol s a) s) ≡ lineEnd eol s a
 line-length eol s a h = let z : min (lineEnd eol s a) (length s) ≡ lineEnd eol s a = omega (arith, find-le (is eol) s a h) in length-take (lineEnd eol s a) s ∙ z
 
+pub line-low : (eol : ℕ) (s : List ℕ) (a : ℕ) → a ≤ length s → a ≤ length (take (lineEnd eol s a) s)
+line-low eol s a h = omega (arith, line-length eol s a h, find-ge (is eol) s a)
+
 -- ---- the items of lines, where a line has one or none
 module _ {A : Type 0} where
   -- a list of one thing, which has P, or of none
@@ -310,6 +309,24 @@ module _ {A : Type 0} (g : ItemGrammar) (line : ℕ → List ℕ → List A) (s 
     pub read-items : allFound (readTurn g line s) (length s) 0 ≡ itemsOf g line s
     unfolding itemsOf
     read-items = collect-covers (readTurn g line s) (itemAt g line s) (AtLine (g .eol) s) (length s) read-covers (suc (length s)) 0 (omega arith) (omega arith) (at-start (g .eol) s)
+
+-- ---- a streaming scan, by what each hit makes
+module _ {A : Type 0} (g : ItemGrammar) (hit : ℕ → Turn A) (s : List ℕ) where
+  pub hit-adv : (Lies : ℕ → ℕ → A → Type 0) → ((q p : ℕ) → q ≤ p → p < length s → Ahead Lies q (length s) (hit p)) → Adv Lies (hitTurn g hit s) (length s)
+  hit-adv Lies ahead = record {
+    ahead = λ q h.
+        both (Ahead Lies q (length s)) (ltb (find (g .accepts) s q) (length s)) _ _
+        (λ u. ahead q (find (g .accepts) s q) (find-ge (g .accepts) s q) (ltb-true (find (g .accepts) s q) (length s) u)) (λ u. (omega arith, h));
+  }
+
+  -- it answers for the places that it passes, if each hit does, and none is left where there is no hit
+  pub hit-covers : (at : ℕ → List A) (Inv : ℕ → Type 0)
+      → ((q p : ℕ) → q ≤ p → p < length s → find (g .accepts) s q ≡ p → Inv q → g .accepts (getD s p 0) ≡ true → Covers at Inv (length s) q (hit p))
+      → ((q : ℕ) → length s ≤ find (g .accepts) s q → None at q (length s)) → (q : ℕ) → q ≤ length s → Inv q → Covers at Inv (length s) q (hitTurn g hit s q)
+  hit-covers at Inv hits none q h i =
+      let p = find (g .accepts) s q in
+      both (Covers at Inv (length s) q) (ltb p (length s)) _ _
+      (λ u. let l = ltb-true p (length s) u in hits q p (find-ge (g .accepts) s q) l refl i (find-at (g .accepts) s q l)) (λ u. none q (ltb-false p (length s) u))
 
 -- ---- bytes that are apart
 module _ (g : ItemGrammar) (apart : Apart g) where
@@ -404,15 +421,3 @@ module _ {A S : Type 0} (values : A → List ℕ) (at : S → ℕ → S) (g : S)
     step-seen view d e o r f w u v =
         let x : view e ≡ t = sym (ap view f) ∙ w .answer in
         record { answer = u ∙ ap (said values) x ∙ served-answer; next = v .answer ∙ ap (λ (y : Turn A). at g (placeOf y)) x ∙ served-state }
-
--- ---- the numbers of refusals
-pub number-same : (r r′ : Refusal) → numberOf r ≡ numberOf r′ → r ≡ r′
-number-same r r′ e =
-    let x : answer.Refused r ≡ answer.Refused r′ = answer-unique {o = refused (numberOf r′)} (record { answer = ap refused e }) (record { answer = refl }) in
-    cc
-
-pub number-some : (r : Refusal) → numberOf r ≡ 0 → ⊥
-number-some r e =
-    let x : told.Refused r ≡ told.Nothing = found-unique {o = given []} (record { answer = ap refused e }) (record { answer = refl }) in
-    let z : _≡_ {A = ℕ} 0 1 = cc in
-    omega arith

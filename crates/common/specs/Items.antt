@@ -6,10 +6,10 @@ use Prim.Native.Nat.{ℕ, _+_, _-_}
 use lib.Dec.{ltb}
 use lib.ListN.{length}
 use lib.Seq.{slice}
-use Rattle.search.specs.Search.{either, back, lineStart, lineEnd, nextLine}
+use Rattle.search.specs.Search.{either, find, back, lineStart, lineEnd, nextLine}
 use Rattle.common.specs.Rules.{entry}
 use Rattle.common.specs.Refusals.{Outcome, given, refuse, tooLong, past}
-use Rattle.common.specs.Turn.{Turn, go, stop, found, between}
+use Rattle.common.specs.Turn.{Turn, go, stop, found, between, Step, yields, ends}
 
 -- what lines of items are read by: line end, separator, tab, and the test of accepted bytes
 pub record ItemGrammar : Type 0 where
@@ -83,6 +83,10 @@ module _ {A : Type 0} (g : ItemGrammar) (line : ℕ → List ℕ → List A) (s 
   unfoldable pub readTurn : ℕ → Turn A
   readTurn q = cond (ltb q (length s)) (lineFound (line q (lineBytes g s q)) (nextLine (length s) (lineEnd (g .eol) s q))) (stop q)
 
+-- one turn of a streaming scan at q: what `hit` makes of the next accepted byte's place; where there is none the scan stays
+abbrev pub hitTurn : {A : Type 0} → ItemGrammar → (ℕ → Turn A) → List ℕ → ℕ → Turn A
+hitTurn g hit s q = cond (ltb (find (g .accepts) s q) (length s)) (hit (find (g .accepts) s q)) (stop q)
+
 -- ---- a scanner's step, by its scan's answer
 module _ {A : Type 0} where
   -- what the answer says, by the values of a thing found
@@ -104,3 +108,8 @@ module _ {A : Type 0} where
   -- the state after it: a refusal hands the state back as it was
   abbrev pub stateBy : {S : Type 0} → (S → ℕ → S) → S → List ℕ → ℕ → Turn A → S
   stateBy at g s p t = cond (tooLong s || past s p) g (at g (placeOf t))
+
+-- the step that an answer's values make, with the state after it, where `back` is the thing of such values: no values are the end
+abbrev pub stepFor : {A S : Type 0} → (List ℕ → A) → List ℕ → S → Step A S
+stepFor back [] g = ends g
+stepFor back (x ∷ l) g = yields (back (x ∷ l)) g

@@ -19,3 +19,5 @@ pub mod Entry
 pub mod EntryLaws
 pub mod Items
 pub mod ItemLaws
+pub mod Scanning
+pub mod ScanningLaws

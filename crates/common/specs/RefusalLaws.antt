@@ -7,7 +7,7 @@ use lib.Dec.{eqb}
 use lib.ListN.{getD}
 use borrow.Author.Tests.{lt-ltb, le-ltb, eq-eqb, ne-eqb}
 use Rattle.search.specs.Promise.{Gives, gives-unique}
-use Rattle.common.specs.Refusals.{Outcome, given, refused, refuse, numberOf, told, toldFound, toldSpan}
+use Rattle.common.specs.Refusals.{Outcome, given, refused, refuse, numberOf, refusalOf, read, unlessNone, told, toldFound, toldSpan}
 use Rattle.common.specs.declared.refusal.Refusal.{Refusal}
 use Rattle.common.specs.declared.refusal.Refusal.the-variants.{TextTooLong, PlaceOutside, NoRoom, CutsOutOfOrder, ListMisshapen, ColumnsDiffer, NotAtJoint, ReplacementOpen, LineEndMark}
 use Rattle.common.specs.declared.refusal.Answer.{Answer}
@@ -36,49 +36,37 @@ given-one a b e = rw e
 pub ruleset refuse-rules = (given-one, refuse-now, refuse-on, lt-ltb, le-ltb, eq-eqb, ne-eqb, not-yes, not-no)
 
 -- ---- an outcome is of one answer: the answer is read back from it
-refusalOf : ℕ → Refusal
-refusalOf n =
-    getD (TextTooLong ∷ TextTooLong ∷ PlaceOutside ∷ NoRoom ∷ CutsOutOfOrder ∷ ListMisshapen ∷ ColumnsDiffer ∷ NotAtJoint ∷ ReplacementOpen ∷ LineEndMark ∷ []) n LineEndMark
-
-number-back : (r : Refusal) → refusalOf (numberOf r) ≡ r
+-- a refusal is that of its number, and its number is not 0
+number-is : (r : Refusal) → (refusalOf (numberOf r) ≡ r) × (eqb (numberOf r) 0 ≡ false)
 unfolding refusalOf
-number-back TextTooLong = refl
-number-back PlaceOutside = refl
-number-back NoRoom = refl
-number-back CutsOutOfOrder = refl
-number-back ListMisshapen = refl
-number-back ColumnsDiffer = refl
-number-back NotAtJoint = refl
-number-back ReplacementOpen = refl
-number-back LineEndMark = refl
+number-is TextTooLong = (refl, refl)
+number-is PlaceOutside = (refl, refl)
+number-is NoRoom = (refl, refl)
+number-is CutsOutOfOrder = (refl, refl)
+number-is ListMisshapen = (refl, refl)
+number-is ColumnsDiffer = (refl, refl)
+number-is NotAtJoint = (refl, refl)
+number-is ReplacementOpen = (refl, refl)
+number-is LineEndMark = (refl, refl)
 
 pub number-some : (r : Refusal) → eqb (numberOf r) 0 ≡ false
-number-some TextTooLong = refl
-number-some PlaceOutside = refl
-number-some NoRoom = refl
-number-some CutsOutOfOrder = refl
-number-some ListMisshapen = refl
-number-some ColumnsDiffer = refl
-number-some NotAtJoint = refl
-number-some ReplacementOpen = refl
-number-some LineEndMark = refl
+number-some r = number-is r .1
 
--- served by its values, or refused by its number
-read : {A : Type 0} → (List ℕ → A) → (Refusal → A) → Outcome → A
-read f g o = elim (eqb (o .number) 0) [ true ↦ f (o .values) | false ↦ g (refusalOf (o .number)) ]
-
-read-refused : {A : Type 0} (f : List ℕ → A) (g : Refusal → A) (r : Refusal) → read f g (refused (numberOf r)) ≡ g r
+pub read-refused : {A : Type 0} (f : List ℕ → A) (g : Refusal → A) (r : Refusal) → read f g (refused (numberOf r)) ≡ g r
 unfolding read
-read-refused f g r = rw (number-some r, read) (ap g (number-back r))
+read-refused f g r = rw (number-some r, read) (ap g (number-is r .0))
 
-foundAt : List ℕ → Found
-foundAt [] = found.Nothing
-foundAt (q ∷ l) = found.At q
+-- two answers of one outcome are equal, where `back` reads an answer back from what it says
+pub told-unique : {A : Type 0} (told : A → Outcome) (back : Outcome → A) → ((r : A) → back (told r) ≡ r) → {o : Outcome} {r r′ : A} → Gives o (told r) → Gives o (told r′) → r ≡ r′
+told-unique told back same {o} {r} {r′} g g′ = sym (same r) ∙ ap back (gives-unique g g′) ∙ same r′
 
 answer-back : (r : Answer) → read (λ l. answer.Value (getD l 0 0)) answer.Refused (told r) ≡ r
 unfolding read
 answer-back (answer.Value v) = refl
 answer-back (answer.Refused r) = read-refused (λ l. answer.Value (getD l 0 0)) answer.Refused r
+
+foundAt : List ℕ → Found
+foundAt = unlessNone found.Nothing (λ l. found.At (getD l 0 0))
 
 found-back : (r : Found) → read foundAt found.Refused (toldFound r) ≡ r
 unfolding read foundAt
@@ -87,8 +75,7 @@ found-back found.Nothing = refl
 found-back (found.Refused r) = read-refused foundAt found.Refused r
 
 spanAt : List ℕ → SpanFound
-spanAt [] = spanned.Nothing
-spanAt (a ∷ l) = spanned.At (record { start = a; end = getD l 0 0 })
+spanAt = unlessNone spanned.Nothing (λ l. spanned.At (record { start = getD l 0 0; end = getD l 1 0 }))
 
 span-back : (r : SpanFound) → read spanAt spanned.Refused (toldSpan r) ≡ r
 unfolding read spanAt
@@ -96,12 +83,11 @@ span-back (spanned.At s) = refl
 span-back spanned.Nothing = refl
 span-back (spanned.Refused r) = read-refused spanAt spanned.Refused r
 
--- two answers of one outcome are equal
 pub answer-unique : {o : Outcome} {r r′ : Answer} → Gives o (told r) → Gives o (told r′) → r ≡ r′
-answer-unique {o} {r} {r′} g g′ = sym (answer-back r) ∙ ap (read (λ l. answer.Value (getD l 0 0)) answer.Refused) (gives-unique g g′) ∙ answer-back r′
+answer-unique = told-unique told (read (λ l. answer.Value (getD l 0 0)) answer.Refused) answer-back
 
 pub found-unique : {o : Outcome} {r r′ : Found} → Gives o (toldFound r) → Gives o (toldFound r′) → r ≡ r′
-found-unique {o} {r} {r′} g g′ = sym (found-back r) ∙ ap (read foundAt found.Refused) (gives-unique g g′) ∙ found-back r′
+found-unique = told-unique toldFound (read foundAt found.Refused) found-back
 
 pub span-unique : {o : Outcome} {r r′ : SpanFound} → Gives o (toldSpan r) → Gives o (toldSpan r′) → r ≡ r′
-span-unique {o} {r} {r′} g g′ = sym (span-back r) ∙ ap (read spanAt spanned.Refused) (gives-unique g g′) ∙ span-back r′
+span-unique = told-unique toldSpan (read spanAt spanned.Refused) span-back

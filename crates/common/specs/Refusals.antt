@@ -3,7 +3,7 @@ use mathlib.Core.Bool.{Bool, true, false, not}
 use mathlib.Core.List.{List, [], _∷_}
 use Prim.Native.Nat.{ℕ}
 use lib.Dec.{eqb, ltb}
-use lib.ListN.{length}
+use lib.ListN.{length, getD}
 use Rattle.common.specs.declared.refusal.Refusal.{Refusal}
 use Rattle.common.specs.declared.refusal.Refusal.the-variants.{TextTooLong, PlaceOutside, NoRoom, CutsOutOfOrder, ListMisshapen, ColumnsDiffer, NotAtJoint, ReplacementOpen, LineEndMark}
 use Rattle.common.specs.declared.refusal.Answer.{Answer}
@@ -55,6 +55,21 @@ abbrev pub toldSpan : SpanFound → Outcome
 toldSpan (spanned.At s) = given (s .start ∷ s .end ∷ [])
 toldSpan spanned.Nothing = given []
 toldSpan (spanned.Refused r) = refused (numberOf r)
+
+-- ---- what says an outcome, read back from it
+-- the refusal of a number
+unfoldable pub refusalOf : ℕ → Refusal
+refusalOf n =
+    getD (TextTooLong ∷ TextTooLong ∷ PlaceOutside ∷ NoRoom ∷ CutsOutOfOrder ∷ ListMisshapen ∷ ColumnsDiffer ∷ NotAtJoint ∷ ReplacementOpen ∷ LineEndMark ∷ []) n LineEndMark
+
+-- served by its values, or refused by its number
+unfoldable pub read : {A : Type 0} → (List ℕ → A) → (Refusal → A) → Outcome → A
+read f g o = elim (eqb (o .number) 0) [ true ↦ f (o .values) | false ↦ g (refusalOf (o .number)) ]
+
+-- one answer where there are no values, else by the values
+abbrev pub unlessNone : {A : Type 0} → A → (List ℕ → A) → List ℕ → A
+unlessNone a f [] = a
+unlessNone a f (x ∷ l) = f (x ∷ l)
 
 -- ---- what is refused, in the page's words
 -- "a text, a replacement or an edited text is too long"

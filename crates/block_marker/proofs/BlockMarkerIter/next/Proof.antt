@@ -1,14 +1,17 @@
 -- `next` meets its contract. Assumes nothing.
-use Rattle.block_marker.specs.MarkerRun.{next-long, next-past, next-told, start-fits, end-fits}
+use native.Mathlib.Omega.{arith}
+use Rattle.common.specs.ScanningLaws.{next-long, next-past, next-told, found-fits}
+use Rattle.block_marker.specs.Marker.{scanner, view}
+use Rattle.block_marker.specs.MarkerRun.{lawful}
 use borrow.Author.Needs.{needs}
 use Rattle.block_marker.proofs.BlockMarkerIter.next.Statement.{statement}
 use Rattle.block_marker.proofs.BlockMarkerIter.next.Tie as tie
 
 returns : tie.Need-returns
-returns c = search next-long
+returns c = search (next-long scanner)
 
 returns-2 : tie.Need-returns-2
-returns-2 c = search next-past
+returns-2 c = search (next-past scanner)
 
 first-requires : tie.Need-first-requires
 first-requires c κs = search needs
@@ -17,10 +20,10 @@ enum-known-marker : tie.Need-enum-known-marker
 enum-known-marker c = search needs
 
 cast-t19 : tie.Need-cast-t19
-cast-t19 c = search start-fits
+cast-t19 c = search (found-fits lawful view (λ i. i .span .start) (λ q n i v. omega arith))
 
 cast-t20 : tie.Need-cast-t20
-cast-t20 c = search end-fits
+cast-t20 c = search (found-fits lawful view (λ i. i .span .end) (λ q n i v. omega arith))
 
 at-requires : tie.Need-at-requires
 at-requires c κs = search needs
@@ -38,13 +41,13 @@ at-requires-3 : tie.Need-at-requires-3
 at-requires-3 c κs = search needs
 
 returns-3 : tie.Need-returns-3
-returns-3 c = search next-told
+returns-3 c = search (next-told scanner view)
 
 returns-4 : tie.Need-returns-4
-returns-4 c = search next-told
+returns-4 c = search (next-told scanner view)
 
 returns-5 : tie.Need-returns-5
-returns-5 c = search next-told
+returns-5 c = search (next-told scanner view)
 
 pub next-spec : {M : Type 1} → statement M
 next-spec =

@@ -1,0 +1,154 @@
+-- Laws of scanners of items that lead a line: the ways out of a scanner's functions, and that stepping a state until none comes yields all items. Assumes nothing.
+use mathlib.Core.Path.{_≡_, refl, sym, ap, subst, _∙_}
+use mathlib.Core.Bool.{Bool, true, false}
+use mathlib.Core.List.{List, _∷_}
+use Prim.Native.Nat.{ℕ, suc, _≤_, _<_}
+use native.Mathlib.Omega.{arith}
+use mir.Val.{Fits}
+use mir.Syntax.{w32}
+use lib.Dec.{leb}
+use lib.ListN.{length, take}
+use lib.Seq.{take-all}
+use borrow.Author.Tests.{leb-true}
+use Rattle.search.specs.Promise.{Gives, Steps}
+use Rattle.common.specs.Sets.{probe, accepted}
+use Rattle.common.specs.Refusals.{Outcome, refused}
+use Rattle.common.specs.RefusalLaws.{told-unique}
+use Rattle.common.specs.Turn.{Turn, go, stop, found, thenCollect, firstTurn, allFound, Adv, Leads, Has, stepOf, thenDrain, drain}
+use Rattle.common.specs.TurnLaws.{by-turn, by-last, last-fits, collect-scan, scan-ends, drain-answers, answers-take}
+use Rattle.common.specs.Items.{ItemGrammar, grammar, has, said, placeOf, stepFor}
+use Rattle.common.specs.ItemLaws.{both, needle-set, step-long, step-past, step-served, step-seen}
+use Rattle.common.specs.Scanning.{Fields, moved, probed, byNeedles, bySet, Scanner, fresh, at, turnBy, turn, first, answer, state, Keeps, items, Lawful}
+use Rattle.common.specs.declared.sets.Probe.{Probe}
+
+-- ---- the ways out of `new`, `first` and `next`
+module _ {S A : Type 0} (c : Scanner S A) where
+  pub fresh-told : (eol sep tab : ℕ) (set : List Bool) (p : Probe) → Gives (probe set) p → Gives (fresh c eol sep tab set) (c .made (probed eol sep tab p))
+  fresh-told eol sep tab set p g = record { answer = ap (λ (p : Probe). c .made (probed eol sep tab p)) (g .answer) }
+
+  module _ (g : S) (set : List Bool) (s : List ℕ) where
+    pub first-stream : (t : Turn A) → c .fields g .streaming ≡ true → Gives (firstTurn (c .streams (byNeedles (c .fields g)) s) (length s) (c .fields g .pos)) t → Gives (first c g set s) t
+    unfolding first turn
+    first-stream t e w = record { answer = rw e (w .answer) }
+
+    pub first-line : (t : Turn A) → c .fields g .streaming ≡ false → Gives (firstTurn (c .lines (bySet (c .fields g) set) s) (length s) (c .fields g .pos)) t → Gives (first c g set s) t
+    unfolding first turn
+    first-line t e w = record { answer = rw e (w .answer) }
+
+    pub next-long : 4294967295 < length s → Keeps c g set s (refused 1) g
+    unfolding answer state
+    next-long h = step-long (c .values) (at c) g s (c .fields g .pos) (first c g set s) h
+
+    pub next-past : length s < c .fields g .pos → length s ≤ 4294967295 → Keeps c g set s (refused 2) g
+    unfolding answer state
+    next-past l h = step-past (c .values) (at c) g s (c .fields g .pos) (first c g set s) l h
+
+  -- by what a `match` told of the code's value d of the scan's answer; `view` says which answer such a value stands for
+  pub next-told : {D : Type 0} (view : D → Turn A) (g : S) (set : List Bool) (s : List ℕ) → c .fields g .pos ≤ length s → length s ≤ 4294967295
+      → (d e : D) (o : Outcome) (n : S) → d ≡ e → Gives (first c g set s) (view d) → o ≡ said (c .values) (view e) → Gives (at c g (placeOf (view e))) n → Keeps c g set s o n
+  unfolding answer state
+  next-told view g set s l h = step-seen (c .values) (at c) g s (c .fields g .pos) (first c g set s) l h view
+
+-- two results that keep one promise of a step are equal, where `back` reads an answer back from what it says, and `make` makes a result
+pub step-unique : {F S R : Type 0} (told : F → Outcome) (back : Outcome → F) → ((f : F) → back (told f) ≡ f) → (make : F → S → R) → {o : Outcome} {g : S} {f f′ : F} {n n′ : S}
+    → Steps o g (told f) n → Steps o g (told f′) n′ → make f n ≡ make f′ n′
+step-unique {F} told back same make {o} {g} {f} {f′} {n} {n′} w w′ =
+    let x : f ≡ f′ = told-unique told back same (record { answer = w .answer }) (record { answer = w′ .answer }) in
+    let y : n ≡ n′ = w .next ∙ sym (w′ .next) in
+    ap (λ (f : F). make f n) x ∙ ap (make f′) y
+
+module _ {S A : Type 0} {c : Scanner S A} {Lies : ℕ → ℕ → A → Type 0} (w : Lawful c Lies) where
+  -- ---- every turn moves on within the text
+  pub turn-adv : (g : S) (set : List Bool) (s : List ℕ) → Adv Lies (turn c g set s) (length s)
+  unfolding turn
+  turn-adv g set s =
+      both (λ t. Adv Lies t (length s)) (c .fields g .streaming) _ _ (λ e. w .streams-on (byNeedles (c .fields g)) s) (λ e. w .lines-on (bySet (c .fields g) set) s)
+
+  -- so a value of what is found that lies there fits 32 bits
+  pub found-fits : {D : Type 0} (view : D → Turn A) (value : A → ℕ) → ((q n : ℕ) (a : A) → Lies q n a → value a ≤ n) → (g : S) (set : List Bool) (s : List ℕ) (d e : D) (x : ℕ)
+      → d ≡ e → Gives (first c g set s) (view d) → c .fields g .pos ≤ length s → length s ≤ 4294967295 → Has (λ a n. value a ≡ x) (view e) → Fits w32 x
+  unfolding first
+  found-fits view value lies g set s d e x f u h l m = last-fits Lies view value (u .answer) f m (turn-adv g set s) lies h l
+
+  -- ---- a state at another place
+  of-at : (g : S) (q : ℕ) → c .fields (at c g q) ≡ moved (c .fields g) q
+  of-at g q = w .of-made (moved (c .fields g) q)
+
+  at-at : (g : S) (q : ℕ) → at c (at c g q) ≡ at c g
+  at-at g q = ap (λ (f : Fields). λ (n : ℕ). c .made (moved f n)) (of-at g q)
+
+  module _ (set : List Bool) (s : List ℕ) where
+    first-at : (g : S) (q : ℕ) → first c (at c g q) set s ≡ firstTurn (turn c g set s) (length s) q
+    unfolding first turn
+    first-at g q = ap (λ (f : Fields). firstTurn (turnBy c set s f) (length s) (f .pos)) (of-at g q)
+
+    items-at : (g : S) (q : ℕ) → items c (at c g q) set s ≡ allFound (turn c g set s) (length s) q
+    unfolding turn
+    items-at g q = ap (λ (f : Fields). allFound (turnBy c set s f) (length s) (f .pos)) (of-at g q)
+
+  -- ---- a step, by what its answer says and the state after it
+  said-step : (at : ℕ → S) (t : Turn A) → stepFor (c .back) (said (c .values) t .values) (at (placeOf t)) ≡ stepOf at t
+  said-step at (go n) = refl
+  said-step at (stop v) = refl
+  said-step at (found a n) = w .reads a (at n)
+
+  module _ (set : List Bool) (s : List ℕ) (short : length s ≤ 4294967295) where
+    served : (g : S) (o : Outcome) (n : S) → c .fields g .pos ≤ length s → Keeps c g set s o n → (o ≡ said (c .values) (first c g set s)) × (n ≡ at c g (placeOf (first c g set s)))
+    unfolding answer state
+    served g o n h kept = step-served (c .values) (at c) g s (c .fields g .pos) (first c g set s) h short kept
+
+    step : (g : S) (o : Outcome) (n : S) → c .fields g .pos ≤ length s → Keeps c g set s o n → stepFor (c .back) (o .values) n ≡ stepOf (at c g) (first c g set s)
+    step g o n h kept =
+        let v = served g o n h kept in
+        ap (λ (o : Outcome). stepFor (c .back) (o .values) n) (v .0) ∙ ap (stepFor (c .back) (said (c .values) (first c g set s) .values)) (v .1) ∙ said-step (at c g) (first c g set s)
+
+    -- the items that a state's scan has before it are what a step yields, and those that the state after it has
+    pub step-items : (g : S) (o : Outcome) (n : S) → c .fields g .pos ≤ length s → Keeps c g set s o n → items c g set s ≡ thenDrain (λ k. items c k set s) (stepFor (c .back) (o .values) n)
+    unfolding first
+    step-items g o n h kept =
+        let adv = turn-adv g set s in
+        collect-scan adv (suc (length s)) (c .fields g .pos) h (omega arith)
+        ∙ by-last adv (λ t. thenCollect (allFound (turn c g set s) (length s)) t ≡ thenDrain (λ k. items c k set s) (stepOf (at c g) t)) (c .fields g .pos) h (λ v. refl)
+        (λ a m i. ap (λ (l : List A). a ∷ l) (sym (items-at set s g m)))
+        ∙ sym (ap (thenDrain (λ k. items c k set s)) (step g o n h kept))
+
+    -- and that state stands within the text
+    pub step-inside : (g : S) (o : Outcome) (n : S) → c .fields g .pos ≤ length s → Keeps c g set s o n → c .fields n .pos ≤ length s
+    unfolding first
+    step-inside g o n h kept =
+        rw (served g o n h kept .1, of-at g (placeOf (first c g set s)))
+        (scan-ends (turn c g set s) (λ q. q ≤ length s) (λ t. placeOf t ≤ length s)
+        (λ q i. by-turn (turn-adv g set s) (Leads (λ q. q ≤ length s) (λ t. placeOf t ≤ length s)) q i (λ n m j. j) (λ v m j. j) (λ a n m j w. j)) (λ q i. i) (suc (length s)) (c .fields g .pos) h)
+
+    -- ---- the run, of every function that keeps the promise of a step: `says` is what its answer says, `next` the state after it
+    module _ (g : S) (says : S → Outcome) (next : S → S) (keeps : (q : ℕ) → q ≤ length s → Keeps c (at c g q) set s (says (at c g q)) (next (at c g q))) where
+      -- the first n steps yield the first n of the items that the state's scan has before it
+      pub run : (n : ℕ) → c .fields g .pos ≤ length s → drain (λ k. stepFor (c .back) (says k .values) (next k)) n g ≡ take n (items c g set s)
+      run n h =
+          let adv = turn-adv g set s in
+          ap (drain (λ k. stepFor (c .back) (says k .values) (next k)) n) (sym (w .made-of g))
+          ∙ drain-answers adv (λ k. stepFor (c .back) (says k .values) (next k)) (at c g) each n (c .fields g .pos) h
+          ∙ answers-take adv n (c .fields g .pos) h
+        where
+          each : (q : ℕ) → q ≤ length s → stepFor (c .back) (says (at c g q) .values) (next (at c g q)) ≡ stepOf (at c g) (firstTurn (turn c g set s) (length s) q)
+          each q i =
+              step (at c g q) (says (at c g q)) (next (at c g q)) (rw (of-at g q) i) (keeps q i)
+              ∙ ap (λ (a : ℕ → S). stepOf a (first c (at c g q) set s)) (at-at g q)
+              ∙ ap (stepOf (at c g)) (first-at set s g q)
+
+      -- enough steps yield them all
+      pub run-all : (n : ℕ) → c .fields g .pos ≤ length s → length (items c g set s) ≤ n → drain (λ k. stepFor (c .back) (says k .values) (next k)) n g ≡ items c g set s
+      run-all n h l = run n h ∙ take-all n (items c g set s) l
+
+  -- ---- a fresh state, by what both scans find from place 0
+  module _ (set : List Bool) (s : List ℕ) (eol sep tab : ℕ) (size : length set ≡ 256) (all : List A)
+      (streamed : length (accepted set) ≤ 3 → allFound (c .streams (grammar eol sep tab (has set)) s) (length s) 0 ≡ all) where
+    -- by the needles of at most three accepted bytes
+    pub fresh-streamed : length (accepted set) ≤ 3 → allFound (c .streams (byNeedles (probed eol sep tab (probe set))) s) (length s) 0 ≡ all
+    fresh-streamed h = ap (λ (t : ℕ → Bool). allFound (c .streams (grammar eol sep tab t) s) (length s) 0) (needle-set set (omega arith) h) ∙ streamed h
+
+    pub fresh-items : allFound (c .lines (grammar eol sep tab (has set)) s) (length s) 0 ≡ all → items c (fresh c eol sep tab set) set s ≡ all
+    unfolding turn
+    fresh-items lined =
+        ap (λ (f : Fields). allFound (turnBy c set s f) (length s) (f .pos)) (w .of-made (probed eol sep tab (probe set)))
+        ∙ both (λ t. allFound t (length s) 0 ≡ all) (leb (length (accepted set)) 3) _ _ (λ e. fresh-streamed (leb-true (length (accepted set)) 3 e)) (λ e. lined)
