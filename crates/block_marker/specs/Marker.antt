@@ -64,16 +64,9 @@ scanner = record {
   back = λ l. mark (getD l 2 0) (getD l 0 0) (getD l 1 0);
 }
 
--- a fresh state, and a state at another place
+-- a fresh state
 abbrev pub fresh : ℕ → ℕ → ℕ → List Bool → BlockMarkerIter
 fresh = scanning.fresh scanner
-
-abbrev pub at : BlockMarkerIter → ℕ → BlockMarkerIter
-at = scanning.at scanner
-
--- a state's first turn from its place that does not only go on
-abbrev pub first : BlockMarkerIter → List Bool → List ℕ → Turn MarkerItem
-first = scanning.first scanner
 
 -- what a step answers, and the state after it
 abbrev pub answer : BlockMarkerIter → List Bool → List ℕ → Outcome

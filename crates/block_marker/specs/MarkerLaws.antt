@@ -11,11 +11,11 @@ use lib.Seq.{getD-take, slice, length-slice}
 use borrow.Author.Tests.{lt-ltb, le-ltb, ltb-true, ltb-false}
 use Rattle.search.specs.Promise.{Gives}
 use Rattle.search.specs.Search.{is, either, other, holds, find, Sought, back, lineStart, lineEnd, nextLine}
-use Rattle.search.specs.SearchLaws.{decide, clash, and-true, is-no, other-yes, other-no, other-false, holds-in, holds-true, find-ge, find-le, find-before, find-at, find-is, find-over, line-next}
+use Rattle.search.specs.SearchLaws.{decide, clash, and-true, is-no, holds-in, holds-true, find-ge, find-le, find-before, find-over, line-next}
 use Rattle.common.specs.Turn.{go, stop, found, allFound, None, Ahead, Adv, Covers}
 use Rattle.common.specs.TurnLaws.{collect-covers}
 use Rattle.common.specs.Items.{ItemGrammar, grammar, blank, Apart, leading, beyond, leads, itemFrom, lineFound, itemAt, itemsOf, readTurn}
-use Rattle.common.specs.ItemLaws.{both, other-true, leading-is, beyond-is, leading-beyond, marked, from-drop, marked-tests, Parted, marked-parted, parted-marked, AtMost, most-from, Walked, walked, walked-is, start-after, AtLine, at-start, line-size, line-length, line-low, no-line, on-line, line-rest, read-adv, read-items, hit-adv, hit-covers, blank-refused, accepted-blank, blank-inside, accepted-inside}
+use Rattle.common.specs.ItemLaws.{both, leading-is, beyond-is, leading-beyond, marked, from-drop, marked-tests, Parted, marked-parted, parted-marked, AtMost, most-from, Walked, walked, walked-is, start-after, AtLine, at-start, line-size, line-length, line-low, Led, led, led-find, led-walked, no-line, on-line, line-rest, read-adv, read-items, hit-adv, hit-covers, blank-refused, accepted-blank, blank-inside, accepted-inside}
 use Rattle.block_marker.specs.Marker.{mark, markLine, markers, streamHit, streamTurn, lineTurn}
 use Rattle.block_marker.specs.declared.MarkerItem.{MarkerItem}
 
@@ -140,10 +140,7 @@ module _ (g : ItemGrammar) (s : List ℕ) where
 
   -- ---- a line begins at a and has its marker at p
   pub record Has (a p : ℕ) : Type 0 where
-    pub begins : lineStart (g .eol) s a ≡ true
-    pub low : a ≤ p
-    pub blanks : (j : ℕ) → a ≤ j → j < p → blank g (getD s j 0) ≡ true
-    pub solid : blank g (getD s p 0) ≡ false
+    pub leads : Led g s a p
     pub marks : Parted g s (lineEnd (g .eol) s a) p
 
   module _ (a : ℕ) (h : a ≤ length s) where
@@ -167,10 +164,7 @@ module _ (g : ItemGrammar) (s : List ℕ) where
             inr (
               p,
               record {
-                begins = b;
-                low = find-ge (other (blank g)) u a;
-                blanks = λ j i l. sym (ap (blank g) (getD-take e s j 0 (omega arith))) ∙ other-false (blank g) (getD u j 0) (find-before (other (blank g)) u a j i l);
-                solid = sym (ap (blank g) (getD-take e s p 0 (omega arith))) ∙ other-true (blank g) (getD u p 0) (find-at (other (blank g)) u a (omega (arith, line-length (g .eol) s a h)));
+                leads = led g s a h p (omega arith) b refl;
                 marks = w;
               },
             )
@@ -184,10 +178,8 @@ module _ (g : ItemGrammar) (s : List ℕ) where
         let e = lineEnd (g .eol) s a in
         let m = w .marks .inside in
         let x : getD u p 0 ≡ getD s p 0 = getD-take e s p 0 (omega arith) in
-        let f : find (other (blank g)) u a ≡ p =
-        find-is (other (blank g)) u a p (w .low) (omega (arith, line-length (g .eol) s a h)) (λ j i l. ap (other (blank g)) (getD-take e s j 0 (omega arith)) ∙ other-no (blank g) (getD s j 0) (w .blanks j i l))
-        (ap (other (blank g)) x ∙ other-yes (blank g) (getD s p 0) (w .solid)) in
-        on-line g (markLine g) s a (w .begins) ∙ mark-yes g u a p (line-low (g .eol) s a h) f (parted-marked g s e p (line-length (g .eol) s a h) (w .marks)) ∙ rw (line-length (g .eol) s a h, x)
+        let f : find (other (blank g)) u a ≡ p = led-find g s a h p (omega arith) (w .leads) in
+        on-line g (markLine g) s a (w .leads .begins) ∙ mark-yes g u a p (line-low (g .eol) s a h) f (parted-marked g s e p (line-length (g .eol) s a h) (w .marks)) ∙ rw (line-length (g .eol) s a h, x)
 
 -- ---- the streaming scan answers for the places that it passes, where the bytes are apart
 module _ (g : ItemGrammar) (s : List ℕ) (apart : Apart g) where
@@ -196,17 +188,13 @@ module _ (g : ItemGrammar) (s : List ℕ) (apart : Apart g) where
   first-hit q p a r f y h l w = by (decide (ltb r p)) (decide (ltb p r))
     where
       by : (ltb r p ≡ true) ⊎ (ltb r p ≡ false) → (ltb p r ≡ true) ⊎ (ltb p r ≡ false) → r ≡ p
-      by (inl u) v = let m = ltb-true r p u in absurd (clash (w .marks .accepted) (find-before (g .accepts) s q r (omega (arith, w .low)) (omega arith)))
-      by (inr u) (inl v) = let m = ltb-true p r v in absurd (clash y (blank-refused g apart (getD s p 0) (w .blanks p l m)))
+      by (inl u) v = let m = ltb-true r p u in absurd (clash (w .marks .accepted) (find-before (g .accepts) s q r (omega (arith, w .leads .low)) (omega arith)))
+      by (inr u) (inl v) = let m = ltb-true p r v in absurd (clash y (blank-refused g apart (getD s p 0) (w .leads .blanks p l m)))
       by (inr u) (inr v) = omega (arith, ltb-false r p u, ltb-false p r v)
 
   -- and the line begins where the blanks before it do
   first-line : (p a k : ℕ) → Walked (blank g) s p k → Has g s a p → a ≡ k
-  first-line p a k b w = walked-is (blank g) s p a k (record {
-    low = w .low;
-    all = w .blanks;
-    last = λ j e. ⊎-elim (λ u. absurd (blank-inside g apart (getD s j 0) u (start-after (g .eol) s a j (w .begins) e))) (λ u. u) (decide (blank g (getD s j 0)));
-  }) b
+  first-line p a k b w = walked-is (blank g) s p a k (led-walked g apart s a p (w .leads)) b
 
   -- an accepted byte p, with blanks back to where a line begins and one behind it, is the marker of that line
   leads-line : (p k : ℕ) → Walked (blank g) s p k → lineStart (g .eol) s k ≡ true → p + 1 < length s → g .accepts (getD s p 0) ≡ true → blank g (getD s (p + 1) 0) ≡ true
@@ -215,7 +203,7 @@ module _ (g : ItemGrammar) (s : List ℕ) (apart : Apart g) where
       let low = b .low in
       let e : lineEnd (g .eol) s k ≡ lineEnd (g .eol) s (p + 2) = find-over (is (g .eol)) s k (p + 2) (omega arith) (omega arith) (λ j h m. is-no (g .eol) (getD s j 0) (inner j h m)) in
       let f = find-ge (is (g .eol)) s (p + 2) in
-      (record { begins = st; low = low; blanks = b .all; solid = accepted-blank g apart (getD s p 0) y; marks = record { inside = omega arith; accepted = y; parted = sp } }, e)
+      (record { leads = record { begins = st; low = low; blanks = b .all; solid = accepted-blank g apart (getD s p 0) y }; marks = record { inside = omega arith; accepted = y; parted = sp } }, e)
     where
       inner : (j : ℕ) → k ≤ j → j < p + 2 → getD s j 0 ≡ g .eol → ⊥
       inner j h m f = side (decide (ltb j p)) (decide (ltb p j))
@@ -272,8 +260,8 @@ module _ (g : ItemGrammar) (s : List ℕ) (apart : Apart g) where
       tests : (a : ℕ) → Has g s a p → (lineStart (g .eol) s k && holds (blank g) s (p + 1)) ≡ true
       tests a w =
           let e = first-line p a k b w in
-          let m : p + 1 < length s = omega (arith, w .marks .inside, w .low, find-le (is (g .eol)) s a (omega (arith, w .low))) in
-          rw (← e, w .begins) (holds-in (blank g) s (p + 1) m ∙ w .marks .parted)
+          let m : p + 1 < length s = omega (arith, w .marks .inside, w .leads .low, find-le (is (g .eol)) s a (omega (arith, w .leads .low))) in
+          rw (← e, w .leads .begins) (holds-in (blank g) s (p + 1) m ∙ w .marks .parted)
 
       ahead : (ltb k q ≡ true) ⊎ (ltb k q ≡ false) → q ≤ k
       ahead (inl u) =
@@ -289,7 +277,7 @@ module _ (g : ItemGrammar) (s : List ℕ) (apart : Apart g) where
       (λ q l a x y. nothing g s a (omega arith) (λ r w.
       let e = w .marks .inside in
       let m = find-le (is (g .eol)) s a (omega arith) in
-      clash (w .marks .accepted) (find-before (g .accepts) s q r (omega (arith, w .low)) (omega arith))))
+      clash (w .marks .accepted) (find-before (g .accepts) s q r (omega (arith, w .leads .low)) (omega arith))))
 
 -- ---- both scans find the items of the lines, from the text's start
 -- the line scan by every grammar

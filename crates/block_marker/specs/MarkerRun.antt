@@ -6,13 +6,13 @@ use Prim.Native.Nat.{ℕ, _≤_}
 use native.Mathlib.Omega.{arith}
 use lib.ListN.{length, take}
 use Rattle.common.specs.Sets.{probe, accepted}
-use Rattle.common.specs.Refusals.{Outcome, read, unlessNone}
+use Rattle.common.specs.Refusals.{read, unlessNone}
 use Rattle.common.specs.RefusalLaws.{read-refused}
 use Rattle.common.specs.Turn.{allFound, drain}
 use Rattle.common.specs.Items.{grammar, has, Apart}
-use Rattle.common.specs.Scanning.{probed, byNeedles, Lawful}
+use Rattle.common.specs.Scanning.{at, probed, byNeedles, foundBy, Lawful}
 use Rattle.common.specs.ScanningLaws as scanning
-use Rattle.block_marker.specs.Marker.{markers, streamTurn, lineTurn, scanner, fresh, at, told, Kept, stepped, items}
+use Rattle.block_marker.specs.Marker.{markers, streamTurn, lineTurn, scanner, fresh, told, Kept, stepped, items}
 use Rattle.block_marker.specs.MarkerLaws.{Lies, stream-adv, line-adv, lined-items, streamed-items}
 use Rattle.block_marker.specs.declared.BlockMarkerIter.{BlockMarkerIter}
 use Rattle.block_marker.specs.declared.MarkerFound.{MarkerFound}
@@ -23,18 +23,15 @@ pub lawful : Lawful scanner Lies
 lawful = record { of-made = λ f. refl; made-of = λ g. refl; reads = λ a n. refl; streams-on = stream-adv; lines-on = line-adv }
 
 -- ---- one answer: it is read back from what it says
-foundOf : Outcome → MarkerFound
-foundOf = read (unlessNone Nothing (λ l. Item (scanner .back l))) Refused
-
-found-back : (r : MarkerFound) → foundOf (told r) ≡ r
-unfolding foundOf read
+found-back : (r : MarkerFound) → foundBy scanner Item Nothing Refused (told r) ≡ r
+unfolding read
 found-back (Item i) = refl
 found-back Nothing = refl
 found-back (Refused r) = read-refused (unlessNone Nothing (λ l. Item (scanner .back l))) Refused r
 
 -- two answers that keep the promise of a step are equal, and so are the states after it
 pub next-unique : (g : BlockMarkerIter) (set : List Bool) (s : List ℕ) (r r′ : MarkerStep) → Kept g set s r → Kept g set s r′ → r ≡ r′
-next-unique g set s r r′ = scanning.step-unique told foundOf found-back (λ f n. record { found = f; next = n })
+next-unique g set s r r′ = scanning.step-unique told (foundBy scanner Item Nothing Refused) found-back (λ f n. record { found = f; next = n })
 
 -- ---- a fresh state
 module _ (set : List Bool) (s : List ℕ) (eol sep tab : ℕ) (size : length set ≡ 256) (apart : length (accepted set) ≤ 3 → Apart (grammar eol sep tab (has set))) where
@@ -51,7 +48,7 @@ module _ (set : List Bool) (s : List ℕ) (eol sep tab : ℕ) (size : length set
   fresh-items = scanning.fresh-items lawful set s eol sep tab size (markers (grammar eol sep tab (has set)) s) streamed (lined-items (grammar eol sep tab (has set)) s)
 
   -- stepping it yields them one by one, and none when there is none left
-  pub fresh-run : length s ≤ 4294967295 → (next : BlockMarkerIter → MarkerStep) → ((q : ℕ) → q ≤ length s → Kept (at (fresh eol sep tab set) q) set s (next (at (fresh eol sep tab set) q)))
+  pub fresh-run : length s ≤ 4294967295 → (next : BlockMarkerIter → MarkerStep) → ((q : ℕ) → q ≤ length s → Kept (at scanner (fresh eol sep tab set) q) set s (next (at scanner (fresh eol sep tab set) q)))
       → (n : ℕ) → drain (λ k. stepped (next k)) n (fresh eol sep tab set) ≡ take n (markers (grammar eol sep tab (has set)) s)
   fresh-run short next keeps n =
       scanning.run lawful set s short (fresh eol sep tab set) (λ k. told (next k .found)) (λ k. next k .next) keeps n (omega arith) ∙ ap (take n) fresh-items

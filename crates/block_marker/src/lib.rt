@@ -22,8 +22,9 @@ ghost use lib.ListN.{length, take};
 ghost use Rattle.search.specs.Promise.{Gives, Steps};
 ghost use Rattle.search.specs.Search.{oneOf, Sought};
 ghost use Rattle.common.specs.Items.{grammar, has};
+ghost use Rattle.common.specs.Scanning.{at, first};
 ghost use Rattle.common.specs.Turn.{firstTurn};
-ghost use Rattle.block_marker.specs.Marker.{fresh, at, streamTurn, lineTurn, first, view, told, answer, state};
+ghost use Rattle.block_marker.specs.Marker.{streamTurn, lineTurn, scanner, fresh, view, told, answer, state};
 
 // The fields of the Rust's iterator; the text and the set of accepted bytes are lent beside it.
 pub struct BlockMarkerIter {
@@ -202,7 +203,7 @@ impl BlockMarkerIter {
     }
 
     fn at(self, pos: usize) -> Self
-        ensures { λ r. ⌜ Gives (at self pos) r ⌝ }
+        ensures { λ r. ⌜ Gives (at scanner self pos) r ⌝ }
     {
         let mut moved = self;
         moved.pos = pos;
@@ -212,7 +213,7 @@ impl BlockMarkerIter {
     // The first item at or after the state's place, by the scan that its flag says.
     fn first(self, src: &[u8], matches: &[bool; 256]) -> MarkerTurn
         requires { ⌜ self .pos ≤ length (now src) ⌝ }
-        ensures { λ r. ⌜ Gives (first self (now (matches .entry)) (now (src .entry))) (view r) ⌝ }
+        ensures { λ r. ⌜ Gives (first scanner self (now (matches .entry)) (now (src .entry))) (view r) ⌝ }
     {
         if self.streaming {
             let needles = self.needles;

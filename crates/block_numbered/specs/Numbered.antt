@@ -121,16 +121,9 @@ scanner = record {
   back = λ l. item (getD l 3 0) (getD l 2 0) (getD l 0 0) (getD l 1 0);
 }
 
--- a fresh state, and a state at another place
+-- a fresh state
 abbrev pub fresh : ℕ → ℕ → ℕ → List Bool → BlockNumberedIter
 fresh = scanning.fresh scanner
-
-abbrev pub at : BlockNumberedIter → ℕ → BlockNumberedIter
-at = scanning.at scanner
-
--- a state's first turn from its place that does not only go on
-abbrev pub first : BlockNumberedIter → List Bool → List ℕ → Turn NumberedItem
-first = scanning.first scanner
 
 -- what a step answers, and the state after it
 abbrev pub answer : BlockNumberedIter → List Bool → List ℕ → Outcome

@@ -15,7 +15,7 @@ use Rattle.search.specs.SearchLaws.{decide, clash, and-true, is-no, either-true
 use Rattle.common.specs.Turn.{go, stop, found, allFound, between, Ahead, Adv, Covers}
 use Rattle.common.specs.TurnLaws.{collect-covers}
 use Rattle.common.specs.Items.{ItemGrammar, grammar, blank, leading, beyond, leads, itemFrom, lineFound, itemAt, itemsOf, readTurn}
-use Rattle.common.specs.ItemLaws.{both, other-true, leading-is, beyond-is, leading-beyond, marked, from-drop, marked-tests, Parted, marked-parted, parted-marked, AtMost, most-from, Walked, walked, walked-is, start-after, line-size, line-length, line-low, no-line, on-line, line-rest, read-adv, read-items, hit-adv, hit-covers, blank-refused, accepted-blank, blank-inside, accepted-inside}
+use Rattle.common.specs.ItemLaws.{both, other-true, leading-is, beyond-is, leading-beyond, marked, from-drop, marked-tests, Parted, marked-parted, parted-marked, AtMost, most-from, Walked, walked, walked-is, start-after, line-size, line-length, line-low, Led, led, led-find, led-walked, no-line, on-line, line-rest, read-adv, read-items, hit-adv, hit-covers, blank-refused, accepted-blank, blank-inside, accepted-inside}
 use Rattle.block_numbered.specs.Numbered.{digit, decimal, oneToNine, few, numbered, item, numberThen, numberFrom, numberLine, numbers, DigitsApart, streamHit, streamTurn, readDigits, readFrom, readLine, lineTurn, digitsAt}
 use Rattle.block_numbered.specs.DigitLaws.{few-none, few-some, one-to-nine, nine-yes, digits-small, leading-few, leading-many, drop-leading}
 use Rattle.block_numbered.specs.declared.NumberedItem.{NumberedItem}
@@ -263,10 +263,7 @@ module _ (g : ItemGrammar) (s : List ℕ) where
 
   -- ---- a line begins at a, has its digits from p up to j, and its delimiter at j
   pub record Has (a p j : ℕ) : Type 0 where
-    pub begins : lineStart (g .eol) s a ≡ true
-    pub low : a ≤ p
-    pub blanks : (i : ℕ) → a ≤ i → i < p → blank g (getD s i 0) ≡ true
-    pub solid : blank g (getD s p 0) ≡ false
+    pub leads : Led g s a p
     pub some : p < j
     pub most : j - p ≤ 9
     pub digits : (i : ℕ) → p ≤ i → i < j → digit (getD s i 0) ≡ true
@@ -304,10 +301,7 @@ module _ (g : ItemGrammar) (s : List ℕ) where
               p,
               j,
               record {
-                begins = b;
-                low = find-ge (other (blank g)) u a;
-                blanks = λ i x l. sym (ap (blank g) (getD-take e s i 0 (omega arith))) ∙ other-false (blank g) (getD u i 0) (find-before (other (blank g)) u a i x l);
-                solid = sym (ap (blank g) (getD-take e s p 0 (omega arith))) ∙ other-true (blank g) (getD u p 0) (find-at (other (blank g)) u a (omega (arith, line-length (g .eol) s a h)));
+                leads = led g s a h p (omega arith) b refl;
                 some = omega arith;
                 most = o .1;
                 digits = λ i x l. sym (ap digit (getD-take e s i 0 (omega arith))) ∙ other-false digit (getD u i 0) (find-before (other digit) u p i x l);
@@ -325,16 +319,13 @@ module _ (g : ItemGrammar) (s : List ℕ) where
         let e = lineEnd (g .eol) s a in
         let m = w .marks .inside in
         let o = w .some in
-        let x : getD u p 0 ≡ getD s p 0 = getD-take e s p 0 (omega arith) in
         let y : getD u j 0 ≡ getD s j 0 = getD-take e s j 0 (omega arith) in
-        let f : find (other (blank g)) u a ≡ p =
-        find-is (other (blank g)) u a p (w .low) (omega (arith, line-length (g .eol) s a h)) (λ i b l. ap (other (blank g)) (getD-take e s i 0 (omega arith)) ∙ other-no (blank g) (getD s i 0) (w .blanks i b l))
-        (ap (other (blank g)) x ∙ other-yes (blank g) (getD s p 0) (w .solid)) in
+        let f : find (other (blank g)) u a ≡ p = led-find g s a h p (omega arith) (w .leads) in
         let k : find (other digit) u p ≡ j =
         find-is (other digit) u p j (omega arith) (omega (arith, line-length (g .eol) s a h)) (λ i b l. ap (other digit) (getD-take e s i 0 (omega arith)) ∙ other-no digit (getD s i 0) (w .digits i b l))
         (ap (other digit) y ∙ other-yes digit (getD s j 0) (w .ended)) in
         let c : slice p j u ≡ slice p j s = ap (drop p) (take-take j e s (omega arith)) in
-        on-line g (numberLine g) s a (w .begins)
+        on-line g (numberLine g) s a (w .leads .begins)
         ∙ number-search g u a p (line-low (g .eol) s a h) f j (omega (arith, line-length (g .eol) s a h)) k
         ∙ rw (nine-yes (j - p) (omega arith) (w .most), parted-marked g s e j (line-length (g .eol) s a h) (w .marks), c, y, line-length (g .eol) s a h)
 
@@ -355,14 +346,14 @@ module _ (g : ItemGrammar) (s : List ℕ) (c : DigitsApart g) where
   -- before an item's delimiter nothing on its line is accepted
   line-refused : (a p j k : ℕ) → Has g s a p j → a ≤ k → k < j → g .accepts (getD s k 0) ≡ false
   line-refused a p j k w h l =
-      ⊎-elim (λ (v : ltb k p ≡ true). blank-refused g (c .apart) (getD s k 0) (w .blanks k h (ltb-true k p v))) (λ v. c .not-digit (getD s k 0) (w .digits k (ltb-false k p v) l)) (decide (ltb k p))
+      ⊎-elim (λ (v : ltb k p ≡ true). blank-refused g (c .apart) (getD s k 0) (w .leads .blanks k h (ltb-true k p v))) (λ v. c .not-digit (getD s k 0) (w .digits k (ltb-false k p v) l)) (decide (ltb k p))
 
   -- the delimiter of a line that begins between q and the first accepted byte h from q on is that byte
   first-hit : (q h a p j : ℕ) → find (g .accepts) s q ≡ h → g .accepts (getD s h 0) ≡ true → q ≤ a → a ≤ h → Has g s a p j → j ≡ h
   first-hit q h a p j f y l m w = by (decide (ltb j h)) (decide (ltb h j))
     where
       by : (ltb j h ≡ true) ⊎ (ltb j h ≡ false) → (ltb h j ≡ true) ⊎ (ltb h j ≡ false) → j ≡ h
-      by (inl u) v = let x = ltb-true j h u in absurd (clash (w .marks .accepted) (find-before (g .accepts) s q j (omega (arith, w .low, w .some)) (omega arith)))
+      by (inl u) v = let x = ltb-true j h u in absurd (clash (w .marks .accepted) (find-before (g .accepts) s q j (omega (arith, w .leads .low, w .some)) (omega arith)))
       by (inr u) (inl v) = absurd (clash y (line-refused a p j h w m (ltb-true h j v)))
       by (inr u) (inr v) = omega (arith, ltb-false j h u, ltb-false h j v)
 
@@ -371,23 +362,16 @@ module _ (g : ItemGrammar) (s : List ℕ) (c : DigitsApart g) where
   before-digits a p j i w e = by (decide (ltb i a))
     where
       by : (ltb i a ≡ true) ⊎ (ltb i a ≡ false) → digit (getD s i 0) ≡ false
-      by (inl u) = let n : suc i ≡ a = omega (arith, ltb-true i a u, w .low) in ap digit (start-after (g .eol) s a i (w .begins) n) ∙ c .eol-digit
-      by (inr u) = blank-digit (getD s i 0) (w .blanks i (ltb-false i a u) (omega arith))
+      by (inl u) = let n : suc i ≡ a = omega (arith, ltb-true i a u, w .leads .low) in ap digit (start-after (g .eol) s a i (w .leads .begins) n) ∙ c .eol-digit
+      by (inr u) = blank-digit (getD s i 0) (w .leads .blanks i (ltb-false i a u) (omega arith))
 
   back-digits : (a p j : ℕ) → Has g s a p j → Walked digit s j p
   back-digits a p j w = record { low = omega (arith, w .some); all = w .digits; last = λ i e. before-digits a p j i w e }
 
-  back-blanks : (a p j : ℕ) → Has g s a p j → Walked (blank g) s p a
-  back-blanks a p j w = record {
-    low = w .low;
-    all = w .blanks;
-    last = λ i e. ⊎-elim (λ u. absurd (blank-inside g (c .apart) (getD s i 0) u (start-after (g .eol) s a i (w .begins) e))) (λ u. u) (decide (blank g (getD s i 0)));
-  }
-
   walked-to : (a r p : ℕ) → p < length s → Has g s a r p → (r ≡ p - back digit s p) × (a ≡ r - back (blank g) s r)
   walked-to a r p l w =
       let e : r ≡ p - back digit s p = walked-is digit s p r (p - back digit s p) (back-digits a r p w) (walked digit s p (omega arith)) in
-      (e, walked-is (blank g) s r a (r - back (blank g) s r) (back-blanks a r p w) (walked (blank g) s r (omega arith)))
+      (e, walked-is (blank g) s r a (r - back (blank g) s r) (led-walked g (c .apart) s a r (w .leads)) (walked (blank g) s r (omega arith)))
 
   -- and what it walks back over, where its tests hold, is an item's
   stands : (p k a : ℕ) → p + 1 < length s → g .accepts (getD s p 0) ≡ true → blank g (getD s (p + 1) 0) ≡ true → k < p → p - k ≤ 9 → ((i : ℕ) → k ≤ i → i < p → digit (getD s i 0) ≡ true)
@@ -397,10 +381,7 @@ module _ (g : ItemGrammar) (s : List ℕ) (c : DigitsApart g) where
       let e : lineEnd (g .eol) s a ≡ lineEnd (g .eol) s (p + 2) = find-over (is (g .eol)) s a (p + 2) (omega arith) (omega arith) (λ j x m. is-no (g .eol) (getD s j 0) (inner j x m)) in
       let f = find-ge (is (g .eol)) s (p + 2) in (
         record {
-          begins = st;
-          low = low;
-          blanks = b .all;
-          solid = digit-blank (getD s k 0) (ds k (omega arith) lt);
+          leads = record { begins = st; low = low; blanks = b .all; solid = digit-blank (getD s k 0) (ds k (omega arith) lt) };
           some = lt;
           most = most;
           digits = ds;
@@ -489,7 +470,7 @@ module _ (g : ItemGrammar) (s : List ℕ) (c : DigitsApart g) where
           let e : b ≡ a = sym (d .1 ∙ ap (λ (j : ℕ). j - back (blank g) s j) (d .0)) in
           let m : p + 1 < length s = omega (arith, w .marks .inside, find-le (is (g .eol)) s a (omega arith)) in
           let o : oneToNine n ≡ true = nine-yes n (omega (arith, w .some)) (omega (arith, w .most, back-le digit s p)) in
-          rw (o, e, w .begins) (holds-in (blank g) s (p + 1) m ∙ w .marks .parted)
+          rw (o, e, w .leads .begins) (holds-in (blank g) s (p + 1) m ∙ w .marks .parted)
 
       ahead : k < p → (ltb b q ≡ true) ⊎ (ltb b q ≡ false) → q ≤ b
       ahead lt (inl u) =
@@ -507,7 +488,7 @@ module _ (g : ItemGrammar) (s : List ℕ) (c : DigitsApart g) where
       (λ q l a x y. nothing g s a (omega arith) (λ r j w.
       let e = w .marks .inside in
       let m = find-le (is (g .eol)) s a (omega arith) in
-      clash (w .marks .accepted) (find-before (g .accepts) s q j (omega (arith, w .low, w .some)) (omega arith))))
+      clash (w .marks .accepted) (find-before (g .accepts) s q j (omega (arith, w .leads .low, w .some)) (omega arith))))
 
   -- ---- both scans find the items of the lines, from the text's start
   -- the streaming scan by every grammar whose bytes are apart

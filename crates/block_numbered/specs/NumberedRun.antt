@@ -6,14 +6,14 @@ use Prim.Native.Nat.{ℕ, suc, _≤_, _<_}
 use native.Mathlib.Omega.{arith}
 use lib.ListN.{length, take}
 use Rattle.common.specs.Sets.{probe, accepted}
-use Rattle.common.specs.Refusals.{Outcome, read, unlessNone}
+use Rattle.common.specs.Refusals.{read, unlessNone}
 use Rattle.common.specs.RefusalLaws.{read-refused}
 use Rattle.common.specs.Turn.{allFound, Each, drain}
 use Rattle.common.specs.TurnLaws.{collect-each}
 use Rattle.common.specs.Items.{grammar, has}
-use Rattle.common.specs.Scanning.{probed, byNeedles, Lawful}
+use Rattle.common.specs.Scanning.{at, probed, byNeedles, foundBy, Lawful}
 use Rattle.common.specs.ScanningLaws as scanning
-use Rattle.block_numbered.specs.Numbered.{digit, numbers, DigitsApart, streamTurn, lineTurn, scanner, fresh, at, told, Kept, stepped, items}
+use Rattle.block_numbered.specs.Numbered.{digit, numbers, DigitsApart, streamTurn, lineTurn, scanner, fresh, told, Kept, stepped, items}
 use Rattle.block_numbered.specs.NumberedLaws.{Lies, stream-adv, line-adv, lined-items, streamed-items}
 use Rattle.block_numbered.specs.declared.BlockNumberedIter.{BlockNumberedIter}
 use Rattle.block_numbered.specs.declared.NumberedFound.{NumberedFound}
@@ -24,18 +24,15 @@ pub lawful : Lawful scanner Lies
 lawful = record { of-made = λ f. refl; made-of = λ g. refl; reads = λ a n. refl; streams-on = stream-adv; lines-on = line-adv }
 
 -- ---- one answer: it is read back from what it says
-foundOf : Outcome → NumberedFound
-foundOf = read (unlessNone Nothing (λ l. Item (scanner .back l))) Refused
-
-found-back : (r : NumberedFound) → foundOf (told r) ≡ r
-unfolding foundOf read
+found-back : (r : NumberedFound) → foundBy scanner Item Nothing Refused (told r) ≡ r
+unfolding read
 found-back (Item i) = refl
 found-back Nothing = refl
 found-back (Refused r) = read-refused (unlessNone Nothing (λ l. Item (scanner .back l))) Refused r
 
 -- two answers that keep the promise of a step are equal, and so are the states after it
 pub next-unique : (g : BlockNumberedIter) (set : List Bool) (s : List ℕ) (r r′ : NumberedStep) → Kept g set s r → Kept g set s r′ → r ≡ r′
-next-unique g set s r r′ = scanning.step-unique told foundOf found-back (λ f n. record { found = f; next = n })
+next-unique g set s r r′ = scanning.step-unique told (foundBy scanner Item Nothing Refused) found-back (λ f n. record { found = f; next = n })
 
 -- ---- an item's number is below 10^9: of all that a state has before it
 pub items-small : (g : BlockNumberedIter) (set : List Bool) (s : List ℕ) → g .pos ≤ length s → Each (λ i. i .number < 1000000000) (items g set s)
@@ -58,6 +55,6 @@ module _ (set : List Bool) (s : List ℕ) (eol sep tab : ℕ) (size : length set
 
   -- stepping it yields them one by one, and none when there is none left
   pub fresh-run : ((x : ℕ) → digit x ≡ true → has set x ≡ false) → length s ≤ 4294967295 → (next : BlockNumberedIter → NumberedStep)
-      → ((q : ℕ) → q ≤ length s → Kept (at (fresh eol sep tab set) q) set s (next (at (fresh eol sep tab set) q))) → (n : ℕ) → drain (λ k. stepped (next k)) n (fresh eol sep tab set) ≡ take n (numbers (grammar eol sep tab (has set)) s)
+      → ((q : ℕ) → q ≤ length s → Kept (at scanner (fresh eol sep tab set) q) set s (next (at scanner (fresh eol sep tab set) q))) → (n : ℕ) → drain (λ k. stepped (next k)) n (fresh eol sep tab set) ≡ take n (numbers (grammar eol sep tab (has set)) s)
   fresh-run none short next keeps n =
       scanning.run lawful set s short (fresh eol sep tab set) (λ k. told (next k .found)) (λ k. next k .next) keeps n (omega arith) ∙ ap (take n) (fresh-items none)

@@ -23,8 +23,9 @@ ghost use lib.ListN.{length, take, drop};
 ghost use Rattle.search.specs.Promise.{Gives, Steps};
 ghost use Rattle.search.specs.Search.{oneOf, back};
 ghost use Rattle.common.specs.Items.{grammar, has};
+ghost use Rattle.common.specs.Scanning.{at, first};
 ghost use Rattle.common.specs.Turn.{firstTurn};
-ghost use Rattle.block_numbered.specs.Numbered.{digit, few, readDigits, digitsAt, fresh, at, streamTurn, lineTurn, first, view, told, answer, state};
+ghost use Rattle.block_numbered.specs.Numbered.{digit, few, readDigits, digitsAt, streamTurn, lineTurn, scanner, fresh, view, told, answer, state};
 
 // The fields of the Rust's iterator; the text and the set of accepted delimiters are lent beside it.
 pub struct BlockNumberedIter {
@@ -289,7 +290,7 @@ impl BlockNumberedIter {
     }
 
     fn at(self, pos: usize) -> Self
-        ensures { λ r. ⌜ Gives (at self pos) r ⌝ }
+        ensures { λ r. ⌜ Gives (at scanner self pos) r ⌝ }
     {
         let mut moved = self;
         moved.pos = pos;
@@ -299,7 +300,7 @@ impl BlockNumberedIter {
     // The first item at or after the state's place, by the scan that its flag says.
     fn first(self, src: &[u8], matches: &[bool; 256]) -> NumberedTurn
         requires { ⌜ self .pos ≤ length (now src) ⌝ }
-        ensures { λ r. ⌜ Gives (first self (now (matches .entry)) (now (src .entry))) (view r) ⌝ }
+        ensures { λ r. ⌜ Gives (first scanner self (now (matches .entry)) (now (src .entry))) (view r) ⌝ }
     {
         if self.streaming {
             let needles = self.needles;

@@ -12,7 +12,7 @@ use lib.Seq.{drop-cons, getD-take, slice, slice-empty, slice-cons, length-slice}
 use borrow.Author.Tests.{eqb-true, eq-eqb, lt-ltb, le-ltb, ltb-true, ltb-false}
 use Rattle.search.specs.Promise.{Gives, Steps}
 use Rattle.search.specs.Search.{is, either, oneOf, other, holds, find, Sought, back, lineStart, lineEnd, nextLine}
-use Rattle.search.specs.SearchLaws.{decide, clash, and-true, is-true, either-true, other-yes, other-no, holds-in, holds-true, find-ge, find-le, find-at, find-end, find-here, find-next, back-le, back-run, back-stop, start-zero, line-one, line-next}
+use Rattle.search.specs.SearchLaws.{decide, clash, and-true, is-true, either-true, other-yes, other-no, other-false, holds-in, holds-true, find-ge, find-le, find-at, find-before, find-is, find-end, find-here, find-next, back-le, back-run, back-stop, start-zero, line-one, line-next}
 use Rattle.common.specs.Sets.{acceptedFrom, accepted, probeOf, probe}
 use Rattle.common.specs.Refusals.{Outcome, refused}
 use Rattle.common.specs.Turn.{Turn, found, allFound, None, Ahead, Adv, Covers}
@@ -232,6 +232,35 @@ line-length eol s a h = let z : min (lineEnd eol s a) (length s) ≡ lineEnd eol
 pub line-low : (eol : ℕ) (s : List ℕ) (a : ℕ) → a ≤ length s → a ≤ length (take (lineEnd eol s a) s)
 line-low eol s a h = omega (arith, line-length eol s a h, find-ge (is eol) s a)
 
+-- ---- the first byte of a line that is no separator or tab
+-- a line begins at a, and p is that byte
+pub record Led (g : ItemGrammar) (s : List ℕ) (a p : ℕ) : Type 0 where
+  pub begins : lineStart (g .eol) s a ≡ true
+  pub low : a ≤ p
+  pub blanks : (j : ℕ) → a ≤ j → j < p → blank g (getD s j 0) ≡ true
+  pub solid : blank g (getD s p 0) ≡ false
+
+-- it is what a search up to the line's end finds
+module _ (g : ItemGrammar) (s : List ℕ) (a : ℕ) (h : a ≤ length s) (p : ℕ) (l : p < lineEnd (g .eol) s a) where
+  abbrev front : List ℕ
+  front = take (lineEnd (g .eol) s a) s
+
+  pub led : lineStart (g .eol) s a ≡ true → find (other (blank g)) front a ≡ p → Led g s a p
+  led b f = record {
+    begins = b;
+    low = omega (arith, find-ge (other (blank g)) front a);
+    blanks = λ j i m. sym (ap (blank g) (getD-take (lineEnd (g .eol) s a) s j 0 (omega arith))) ∙ other-false (blank g) (getD front j 0) (find-before (other (blank g)) front a j i (omega arith));
+    solid =
+        sym (ap (blank g) (getD-take (lineEnd (g .eol) s a) s p 0 l))
+        ∙ other-true (blank g) (getD front p 0) (rw f at (find-at (other (blank g)) front a (omega (arith, line-length (g .eol) s a h))));
+  }
+
+  pub led-find : Led g s a p → find (other (blank g)) front a ≡ p
+  led-find w =
+      find-is (other (blank g)) front a p (w .low) (omega (arith, line-length (g .eol) s a h))
+      (λ j i m. ap (other (blank g)) (getD-take (lineEnd (g .eol) s a) s j 0 (omega arith)) ∙ other-no (blank g) (getD s j 0) (w .blanks j i m))
+      (ap (other (blank g)) (getD-take (lineEnd (g .eol) s a) s p 0 l) ∙ other-yes (blank g) (getD s p 0) (w .solid))
+
 -- ---- the items of lines, where a line has one or none
 module _ {A : Type 0} where
   -- a list of one thing, which has P, or of none
@@ -341,6 +370,14 @@ module _ (g : ItemGrammar) (apart : Apart g) where
 
   pub accepted-inside : (x : ℕ) → g .accepts x ≡ true → x ≡ g .eol → ⊥
   accepted-inside x e f = clash e (ap (g .accepts) f ∙ apart .not-eol)
+
+  -- a walk back over separators and tabs ends where the line begins
+  pub led-walked : (s : List ℕ) (a p : ℕ) → Led g s a p → Walked (blank g) s p a
+  led-walked s a p w = record {
+    low = w .low;
+    all = w .blanks;
+    last = λ j e. ⊎-elim (λ u. absurd (blank-inside (getD s j 0) u (start-after (g .eol) s a j (w .begins) e))) (λ u. u) (decide (blank g (getD s j 0)));
+  }
 
 -- ---- the needles of a set
 or-cases : (a b : Bool) → (a || b) ≡ true → (a ≡ true) ⊎ (b ≡ true)

@@ -8,7 +8,7 @@ use lib.ListN.{length}
 use lib.Seq.{slice}
 use Rattle.search.specs.Search.{either, find, back, lineStart, lineEnd, nextLine}
 use Rattle.common.specs.Rules.{entry}
-use Rattle.common.specs.Refusals.{Outcome, given, refuse, tooLong, past}
+use Rattle.common.specs.Refusals.{Outcome, given, refuse, unlessNone, tooLong, past}
 use Rattle.common.specs.Turn.{Turn, go, stop, found, between, Step, yields, ends}
 
 -- what lines of items are read by: line end, separator, tab, and the test of accepted bytes
@@ -111,5 +111,4 @@ module _ {A : Type 0} where
 
 -- the step that an answer's values make, with the state after it, where `back` is the thing of such values: no values are the end
 abbrev pub stepFor : {A S : Type 0} → (List ℕ → A) → List ℕ → S → Step A S
-stepFor back [] g = ends g
-stepFor back (x ∷ l) g = yields (back (x ∷ l)) g
+stepFor back l g = unlessNone (ends g) (λ l. yields (back l) g) l

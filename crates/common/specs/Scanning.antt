@@ -7,9 +7,10 @@ use lib.ListN.{length, take}
 use Rattle.search.specs.Promise.{Steps}
 use Rattle.search.specs.Search.{oneOf}
 use Rattle.common.specs.Sets.{probe}
-use Rattle.common.specs.Refusals.{Outcome}
+use Rattle.common.specs.Refusals.{Outcome, read, unlessNone}
 use Rattle.common.specs.Turn.{Turn, firstTurn, allFound, Adv, yields}
 use Rattle.common.specs.Items.{ItemGrammar, grammar, has, answerBy, stateBy, stepFor}
+use Rattle.common.specs.declared.refusal.Refusal.{Refusal}
 use Rattle.common.specs.declared.sets.Probe.{Probe}
 
 -- ---- the fields of a state
@@ -80,6 +81,10 @@ module _ {S A : Type 0} (c : Scanner S A) where
   -- the promise of a step for what its answer says and the state after it
   abbrev pub Keeps : S → List Bool → List ℕ → Outcome → S → Type 0
   Keeps g set s o n = Steps (answer g set s) (state g set s) o n
+
+  -- what the code has for an answer, by what it has for an item, for none and for a refusal
+  abbrev pub foundBy : {F : Type 0} → (A → F) → F → (Refusal → F) → Outcome → F
+  foundBy item none denied = read (unlessNone none (λ l. item (c .back l))) denied
 
   -- all items that a state's scan has before it
   abbrev pub items : S → List Bool → List ℕ → List A

@@ -1,5 +1,5 @@
 -- Laws of scanners of items that lead a line: the ways out of a scanner's functions, and that stepping a state until none comes yields all items. Assumes nothing.
-use mathlib.Core.Path.{_≡_, refl, sym, ap, subst, _∙_}
+use mathlib.Core.Path.{_≡_, refl, sym, ap, _∙_}
 use mathlib.Core.Bool.{Bool, true, false}
 use mathlib.Core.List.{List, _∷_}
 use Prim.Native.Nat.{ℕ, suc, _≤_, _<_}
@@ -16,7 +16,7 @@ use Rattle.common.specs.Refusals.{Outcome, refused}
 use Rattle.common.specs.RefusalLaws.{told-unique}
 use Rattle.common.specs.Turn.{Turn, go, stop, found, thenCollect, firstTurn, allFound, Adv, Leads, Has, stepOf, thenDrain, drain}
 use Rattle.common.specs.TurnLaws.{by-turn, by-last, last-fits, collect-scan, scan-ends, drain-answers, answers-take}
-use Rattle.common.specs.Items.{ItemGrammar, grammar, has, said, placeOf, stepFor}
+use Rattle.common.specs.Items.{grammar, has, said, placeOf, stepFor}
 use Rattle.common.specs.ItemLaws.{both, needle-set, step-long, step-past, step-served, step-seen}
 use Rattle.common.specs.Scanning.{Fields, moved, probed, byNeedles, bySet, Scanner, fresh, at, turnBy, turn, first, answer, state, Keeps, items, Lawful}
 use Rattle.common.specs.declared.sets.Probe.{Probe}
