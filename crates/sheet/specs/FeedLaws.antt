@@ -8,28 +8,26 @@ use native.Mathlib.Omega.{arith}
 use lib.Dec.{ltb}
 use lib.ListN.{length}
 use borrow.Author.Tests.{lt-ltb, le-ltb}
-use Rattle.search.specs.Promise.{Gives}
+use Rattle.search.specs.Promise.{Gives, Steps}
 use Rattle.search.specs.SearchLaws.{decide}
 use Rattle.common.specs.Refusals.{Outcome}
-use Rattle.common.specs.Turn.{Turn, go, stop, found, thenDrain}
-use Rattle.common.specs.Items.{said}
+use Rattle.common.specs.Turn.{found, thenDrain}
+use Rattle.common.specs.Items.{stepFor}
+use Rattle.common.specs.Scanning.{Scanner, answer, state, Keeps, items, Lawful}
+use Rattle.common.specs.ScanningLaws.{step-items, step-inside}
 use Rattle.common.specs.declared.grammar.Grammar.{Grammar}
 use Rattle.block_marker.specs.Marker as marker
 use Rattle.block_marker.specs.MarkerRun as marker-run
 use Rattle.block_marker.specs.declared.BlockMarkerIter.{BlockMarkerIter}
-use Rattle.block_marker.specs.declared.MarkerItem.{MarkerItem}
 use Rattle.block_marker.specs.declared.MarkerFound.{MarkerFound}
-use Rattle.block_marker.specs.declared.MarkerFound.the-variants as mark
 use Rattle.block_marker.specs.declared.MarkerStep.{MarkerStep}
 use Rattle.block_numbered.specs.Numbered as numbered
 use Rattle.block_numbered.specs.NumberedRun as numbered-run
 use Rattle.block_numbered.specs.declared.BlockNumberedIter.{BlockNumberedIter}
-use Rattle.block_numbered.specs.declared.NumberedItem.{NumberedItem}
 use Rattle.block_numbered.specs.declared.NumberedFound.{NumberedFound}
-use Rattle.block_numbered.specs.declared.NumberedFound.the-variants as number
 use Rattle.block_numbered.specs.declared.NumberedStep.{NumberedStep}
 use Rattle.sheet.specs.Sheet.{marked, counted, markItems, numberedItems, merge}
-use Rattle.sheet.specs.Feeds.{markHead, numberHead, marksAfter, numbersAfter, begun, picked, takenBy, taken}
+use Rattle.sheet.specs.Feeds.{headBy, markHead, numberHead, marksAfter, numbersAfter, begun, picked, takenBy, taken}
 use Rattle.sheet.specs.Parts.{marksOf, numbersOf, headed, Led, Within, ahead, Took, Started}
 use Rattle.sheet.specs.declared.item.SheetItem.{SheetItem}
 use Rattle.sheet.specs.declared.feed.Head.{Head}
@@ -42,113 +40,45 @@ use Rattle.sheet.specs.declared.feed.Feed.{Feed}
 use Rattle.sheet.specs.declared.feed.Taken.{Taken}
 
 -- ---- one scanner's next item
--- the head that a step's answer makes
-abbrev markOf : MarkerFound → Head
-markOf (mark.Item i) = head.Item (marked i)
-markOf mark.Nothing = head.End
-markOf (mark.Refused r) = head.End
+-- the ways out of the functions that move one scanner on: f is the step's answer, e what a `match` told that it is
+moved : {F S R : Type 0} (told : F → Outcome) (head : List ℕ → Head) (make : Head → S → R) {o : Outcome} {g : S} (f e : F) (h : Head) (n : S) → f ≡ e → Steps o g (told f) n → h ≡ head (told e .values)
+    → Gives (make (head (o .values)) g) (make h n)
+moved {F} told head make {o} f e h n m kept x =
+    let y : h ≡ head (o .values) = x ∙ ap (λ (f : F). head (told f .values)) (sym m) ∙ ap (λ (o : Outcome). head (o .values)) (kept .answer) in
+    record { answer = ap (λ (k : Head). make k n) y ∙ ap (make (head (o .values))) (kept .next) }
 
-abbrev numberOf : NumberedFound → Head
-numberOf (number.Item i) = head.Item (counted i)
-numberOf number.Nothing = head.End
-numberOf (number.Refused r) = head.End
+-- within a text that is not too long, what was before a state is the head of its step, and what is before the state after it
+module _ {S A : Type 0} {c : Scanner S A} {Lies : ℕ → ℕ → A → Type 0} (w : Lawful c Lies) (shown : A → SheetItem) (set : List Bool) (s : List ℕ) (short : length s ≤ 4294967295) where
+  yields-head : (v : List ℕ) (n : S) → map shown (thenDrain (λ k. items c k set s) (stepFor (c .back) v n)) ≡ headed (headBy (λ l. shown (c .back l)) v) (map shown (items c n set s))
+  yields-head [] n = refl
+  yields-head (x ∷ l) n = refl
 
-mark-told : (f : MarkerFound) → markOf f ≡ markHead (marker.told f .values)
-mark-told (mark.Item i) = refl
-mark-told mark.Nothing = refl
-mark-told (mark.Refused r) = refl
-
-number-told : (f : NumberedFound) → numberOf f ≡ numberHead (numbered.told f .values)
-number-told (number.Item i) = refl
-number-told number.Nothing = refl
-number-told (number.Refused r) = refl
-
--- the answer of a step that is served
-markAs : Turn MarkerItem → MarkerFound
-markAs (go n) = mark.Nothing
-markAs (stop v) = mark.Nothing
-markAs (found i n) = mark.Item i
-
-numberAs : Turn NumberedItem → NumberedFound
-numberAs (go n) = number.Nothing
-numberAs (stop v) = number.Nothing
-numberAs (found i n) = number.Item i
-
-mark-as : (t : Turn MarkerItem) → marker.told (markAs t) ≡ said marker.values t
-unfolding markAs
-mark-as (go n) = refl
-mark-as (stop v) = refl
-mark-as (found i n) = refl
-
-number-as : (t : Turn NumberedItem) → numbered.told (numberAs t) ≡ said numbered.values t
-unfolding numberAs
-number-as (go n) = refl
-number-as (stop v) = refl
-number-as (found i n) = refl
+  scanner-led : (g : S) → c .fields g .pos ≤ length s
+      → Led (map shown (items c g set s)) (length s) (headBy (λ l. shown (c .back l)) (answer c g set s .values)) (map shown (items c (state c g set s) set s)) (c .fields (state c g set s) .pos)
+  scanner-led g l =
+      let o = answer c g set s in
+      let n = state c g set s in
+      let kept : Keeps c g set s o n = record { answer = refl; next = refl } in
+      record { same = ap (map shown) (step-items w set s short g o n l kept) ∙ yields-head (o .values) n; inside = step-inside w set s short g o n l kept }
 
 module _ (set : List Bool) (s : List ℕ) where
-  -- the ways out of the functions that move one scanner on
-  pub mark-moved : (g : BlockMarkerIter) (r : MarkerStep) (e : MarkerFound) (h : Head) → r .found ≡ e → marker.Kept g set s r → h ≡ markOf e → Gives (marksAfter set s g) (record { head = h; rest = r .next })
+  pub mark-moved : (g : BlockMarkerIter) (r : MarkerStep) (e : MarkerFound) (h : Head) → r .found ≡ e → marker.Kept g set s r → h ≡ markHead (marker.told e .values) → Gives (marksAfter set s g) (record { head = h; rest = r .next })
   unfolding marksAfter
-  mark-moved g r e h m kept f =
-      let x : h ≡ markHead (marker.answer g set s .values) = f ∙ ap markOf (sym m) ∙ mark-told (r .found) ∙ ap (λ (o : Outcome). markHead (o .values)) (kept .answer) in
-      record { answer = rw (x, kept .next) }
+  mark-moved g r e h = moved marker.told markHead (λ h n. record { head = h; rest = n }) (r .found) e h (r .next)
 
-  pub number-moved : (g : BlockNumberedIter) (r : NumberedStep) (e : NumberedFound) (h : Head) → r .found ≡ e → numbered.Kept g set s r → h ≡ numberOf e → Gives (numbersAfter set s g) (record { head = h; rest = r .next })
+  pub number-moved : (g : BlockNumberedIter) (r : NumberedStep) (e : NumberedFound) (h : Head) → r .found ≡ e → numbered.Kept g set s r → h ≡ numberHead (numbered.told e .values)
+      → Gives (numbersAfter set s g) (record { head = h; rest = r .next })
   unfolding numbersAfter
-  number-moved g r e h m kept f =
-      let x : h ≡ numberHead (numbered.answer g set s .values) = f ∙ ap numberOf (sym m) ∙ number-told (r .found) ∙ ap (λ (o : Outcome). numberHead (o .values)) (kept .answer) in
-      record { answer = rw (x, kept .next) }
+  number-moved g r e h = moved numbered.told numberHead (λ h n. record { head = h; rest = n }) (r .found) e h (r .next)
 
-  mark-yields : (f : MarkerFound) (g : BlockMarkerIter) → map marked (thenDrain (λ k. marker.items k set s) (marker.yielded f g)) ≡ headed (markOf f) (marksOf g set s)
-  unfolding marksOf
-  mark-yields (mark.Item i) g = refl
-  mark-yields mark.Nothing g = refl
-  mark-yields (mark.Refused r) g = refl
+  mark-led : length s ≤ 4294967295 → (g : BlockMarkerIter) → g .pos ≤ length s → Led (marksOf g set s) (length s) (marksAfter set s g .head) (marksOf (marksAfter set s g .rest) set s) (marksAfter set s g .rest .pos)
+  unfolding marksOf marksAfter
+  mark-led = scanner-led marker-run.lawful marked set s
 
-  number-yields : (f : NumberedFound) (g : BlockNumberedIter) → map counted (thenDrain (λ k. numbered.items k set s) (numbered.yielded f g)) ≡ headed (numberOf f) (numbersOf g set s)
-  unfolding numbersOf
-  number-yields (number.Item i) g = refl
-  number-yields number.Nothing g = refl
-  number-yields (number.Refused r) g = refl
-
-  -- within a text that is not too long, what was before a state is that head, and what is before the state after it
-  module _ (short : length s ≤ 4294967295) where
-    mark-step : (g : BlockMarkerIter) → MarkerStep
-    mark-step g = record { found = markAs (marker.first g set s); next = marker.state g set s }
-
-    mark-kept : (g : BlockMarkerIter) → g .pos ≤ length s → marker.Kept g set s (mark-step g)
-    unfolding mark-step marker.answer
-    mark-kept g l = record { answer = mark-as (marker.first g set s) ∙ sym (simp (le-ltb 4294967295 (length s) short, le-ltb (length s) (g .pos) l)); next = refl }
-
-    mark-led : (g : BlockMarkerIter) → g .pos ≤ length s → Led (marksOf g set s) (length s) (marksAfter set s g .head) (marksOf (marksAfter set s g .rest) set s) (marksAfter set s g .rest .pos)
-    unfolding marksOf marksAfter mark-step
-    mark-led g l =
-        let r = mark-step g in
-        let kept = mark-kept g l in
-        let f : markOf (r .found) ≡ markHead (marker.answer g set s .values) = mark-told (r .found) ∙ ap (λ (o : Outcome). markHead (o .values)) (kept .answer) in
-        record {
-          same = ap (map marked) (marker-run.step-items set s short g r l kept) ∙ mark-yields (r .found) (r .next) ∙ ap (λ (k : Head). headed k (marksOf (r .next) set s)) f;
-          inside = marker-run.step-inside set s short g r l kept;
-        }
-
-    number-step : (g : BlockNumberedIter) → NumberedStep
-    number-step g = record { found = numberAs (numbered.first g set s); next = numbered.state g set s }
-
-    number-kept : (g : BlockNumberedIter) → g .pos ≤ length s → numbered.Kept g set s (number-step g)
-    unfolding number-step numbered.answer
-    number-kept g l = record { answer = number-as (numbered.first g set s) ∙ sym (simp (le-ltb 4294967295 (length s) short, le-ltb (length s) (g .pos) l)); next = refl }
-
-    number-led : (g : BlockNumberedIter) → g .pos ≤ length s → Led (numbersOf g set s) (length s) (numbersAfter set s g .head) (numbersOf (numbersAfter set s g .rest) set s) (numbersAfter set s g .rest .pos)
-    unfolding numbersOf numbersAfter number-step
-    number-led g l =
-        let r = number-step g in
-        let kept = number-kept g l in
-        let f : numberOf (r .found) ≡ numberHead (numbered.answer g set s .values) = number-told (r .found) ∙ ap (λ (o : Outcome). numberHead (o .values)) (kept .answer) in
-        record {
-          same = ap (map counted) (numbered-run.step-items set s short g r l kept) ∙ number-yields (r .found) (r .next) ∙ ap (λ (k : Head). headed k (numbersOf (r .next) set s)) f;
-          inside = numbered-run.step-inside set s short g r l kept;
-        }
+  number-led : length s ≤ 4294967295 → (g : BlockNumberedIter) → g .pos ≤ length s
+      → Led (numbersOf g set s) (length s) (numbersAfter set s g .head) (numbersOf (numbersAfter set s g .rest) set s) (numbersAfter set s g .rest .pos)
+  unfolding numbersOf numbersAfter
+  number-led = scanner-led numbered-run.lawful counted set s
 
 -- ---- which is next
 module _ (a b : Head) (x y : SheetItem) where

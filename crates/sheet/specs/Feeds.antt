@@ -1,14 +1,16 @@
 -- Both scanners as one run of items: where it begins, and what is taken of it. Assumes nothing.
 use mathlib.Core.Bool.{Bool, cond}
-use mathlib.Core.List.{List, [], _∷_}
+use mathlib.Core.List.{List}
 use Prim.Native.Nat.{ℕ}
 use lib.Dec.{ltb}
-use lib.ListN.{getD}
+use Rattle.common.specs.Refusals.{unlessNone}
 use Rattle.common.specs.declared.grammar.Grammar.{Grammar}
 use Rattle.block_marker.specs.Marker as marker
 use Rattle.block_marker.specs.declared.BlockMarkerIter.{BlockMarkerIter}
 use Rattle.block_numbered.specs.Numbered as numbered
 use Rattle.block_numbered.specs.declared.BlockNumberedIter.{BlockNumberedIter}
+use Rattle.sheet.specs.Sheet.{marked, counted}
+use Rattle.sheet.specs.declared.item.SheetItem.{SheetItem}
 use Rattle.sheet.specs.declared.feed.Head.{Head}
 use Rattle.sheet.specs.declared.feed.Head.the-variants as head
 use Rattle.sheet.specs.declared.feed.Pick.{Pick}
@@ -19,14 +21,15 @@ use Rattle.sheet.specs.declared.feed.Feed.{Feed}
 use Rattle.sheet.specs.declared.feed.Taken.{Taken}
 
 -- ---- one scanner, one item ahead
--- the head that a step's values make; none at all is the end, and so is a refusal
+-- the head that a step's values make, by the item that they show; none at all is the end, and so is a refusal
+abbrev pub headBy : (List ℕ → SheetItem) → List ℕ → Head
+headBy shown = unlessNone head.End (λ l. head.Item (shown l))
+
 abbrev pub markHead : List ℕ → Head
-markHead [] = head.End
-markHead (a ∷ l) = head.Item (record { start = a; end = getD l 0 0; kind = 0; byte = getD l 1 0; number = 0 })
+markHead = headBy (λ l. marked (marker.scanner .back l))
 
 abbrev pub numberHead : List ℕ → Head
-numberHead [] = head.End
-numberHead (a ∷ l) = head.Item (record { start = a; end = getD l 0 0; kind = 1; byte = getD l 1 0; number = getD l 2 0 })
+numberHead = headBy (λ l. counted (numbered.scanner .back l))
 
 -- what a state's step answers as the head, and the state after it
 unfoldable pub marksAfter : List Bool → List ℕ → BlockMarkerIter → Marks

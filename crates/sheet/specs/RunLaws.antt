@@ -9,8 +9,9 @@ use lib.Dec.{ltb}
 use lib.ListN.{length}
 use borrow.Author.Tests.{ltb-true, ltb-false}
 use Rattle.search.specs.SearchLaws.{decide}
-use Rattle.common.specs.Turn.{Turn, thenCollect, collect, Adv}
+use Rattle.common.specs.Turn.{Turn, thenCollect, collect, allFound, Adv}
 use Rattle.common.specs.TurnLaws.{by-turn}
+use Rattle.common.specs.ScanningLaws.{turn-adv}
 use Rattle.common.specs.declared.grammar.Grammar.{Grammar}
 use Rattle.block_marker.specs.Marker as marker
 use Rattle.block_marker.specs.MarkerRun as marker-run
@@ -47,22 +48,19 @@ module _ {A : Type 0} {Lies : ℕ → ℕ → A → Type 0} {step : ℕ → Turn
       by-turn adv (λ t. q + length (map item (thenCollect (collect step f) t)) * 2 ≤ len) q h (λ n m i. omega (arith, collect-few f n i)) (λ v m i. omega arith)
       (λ a n m i w. let l = lies q n a w in omega (arith, collect-few f n i))
 
+-- so all that is found rises, and has two bytes of the text each
+module _ {A : Type 0} {Lies : ℕ → ℕ → A → Type 0} (item : A → SheetItem) (lies : (q n : ℕ) (a : A) → Lies q n a → (q + 2 ≤ item a .start) × (item a .start ≤ n)) where
+  found-rises : {step : ℕ → Turn A} {len : ℕ} → Adv Lies step len → Rises 0 (map item (allFound step len 0)) × (length (map item (allFound step len 0)) * 2 ≤ len)
+  found-rises {len = len} adv = (collect-rises adv item lies (suc len) 0 (omega arith), omega (arith, collect-few adv item lies (suc len) 0 (omega arith)))
+
 module _ (g : Grammar) (set : List Bool) (s : List ℕ) where
-  mark-rises : Rises 0 (markItems g set s)
+  mark-rises : Rises 0 (markItems g set s) × (length (markItems g set s) * 2 ≤ length s)
   unfolding markItems
-  mark-rises = collect-rises (marker-run.turn-adv (marker.fresh (g .eol) (g .sep) (g .tab) set) set s) marked (λ q n a w. (w .2, omega arith)) (suc (length s)) 0 (omega arith)
+  mark-rises = found-rises marked (λ q n a w. (w .2, omega arith)) (turn-adv marker-run.lawful (marker.fresh (g .eol) (g .sep) (g .tab) set) set s)
 
-  mark-few : length (markItems g set s) * 2 ≤ length s
-  unfolding markItems
-  mark-few = omega (arith, collect-few (marker-run.turn-adv (marker.fresh (g .eol) (g .sep) (g .tab) set) set s) marked (λ q n a w. (w .2, omega arith)) (suc (length s)) 0 (omega arith))
-
-  numbered-rises : Rises 0 (numberedItems g set s)
+  numbered-rises : Rises 0 (numberedItems g set s) × (length (numberedItems g set s) * 2 ≤ length s)
   unfolding numberedItems
-  numbered-rises = collect-rises (numbered-run.turn-adv (numbered.fresh (g .eol) (g .sep) (g .tab) set) set s) counted (λ q n a w. (w .3, omega arith)) (suc (length s)) 0 (omega arith)
-
-  numbered-few : length (numberedItems g set s) * 2 ≤ length s
-  unfolding numberedItems
-  numbered-few = omega (arith, collect-few (numbered-run.turn-adv (numbered.fresh (g .eol) (g .sep) (g .tab) set) set s) counted (λ q n a w. (w .3, omega arith)) (suc (length s)) 0 (omega arith))
+  numbered-rises = found-rises counted (λ q n a w. (w .3, omega arith)) (turn-adv numbered-run.lawful (numbered.fresh (g .eol) (g .sep) (g .tab) set) set s)
 
 -- ---- both, merged
 merge-rises : (low : ℕ) (xs ys : List SheetItem) → Rises low xs → Rises low ys → Rises low (merge xs ys)
@@ -99,11 +97,11 @@ rises-places p low (i ∷ l) f w = (f i (w .0), rises-places (placeOf i) (i .sta
 module _ (g : Grammar) (markers delims : List Bool) (s : List ℕ) where
   -- no more than the text has bytes
   pub items-few : length (merge (markItems g markers s) (numberedItems g delims s)) ≤ length s
-  items-few = omega (arith, merge-length (markItems g markers s) (numberedItems g delims s), mark-few g markers s, numbered-few g delims s)
+  items-few = omega (arith, merge-length (markItems g markers s) (numberedItems g delims s), mark-rises g markers s .1, numbered-rises g delims s .1)
 
   pub places-rise : Rising 0 (map placeOf (merge (markItems g markers s) (numberedItems g delims s)))
   places-rise =
-      rises-places 0 0 (merge (markItems g markers s) (numberedItems g delims s)) (λ i h. omega arith) (merge-rises 0 (markItems g markers s) (numberedItems g delims s) (mark-rises g markers s) (numbered-rises g delims s))
+      rises-places 0 0 (merge (markItems g markers s) (numberedItems g delims s)) (λ i h. omega arith) (merge-rises 0 (markItems g markers s) (numberedItems g delims s) (mark-rises g markers s .0) (numbered-rises g delims s .0))
 
 -- ---- those that are shown
 pub outside-few : (regions : List (List ℕ)) (l : List SheetItem) → length (outside regions l) ≤ length l
