@@ -162,125 +162,118 @@ module _ (m : Marks) (s : List ℕ) (nests : m .cap ≤ 32) where
       let z : t .count - 0 ≡ t .count = omega arith in
       ap (closing (t .cells) e 0) (sym z) ∙ holds-closing w e 0 (omega arith)
 
-  -- a turn with frames open
-  open-owed : (t : Stand) (l : List Span) → Owes t l → 0 < t .count → Owed (t .pos) l (openTurn m s (t .pos) (t .cells) (t .count))
-  open-owed t l w h = by (w .owes)
-    where
-      q : ℕ
-      q = t .pos
+  -- one turn, from the place q with the frames o open; p is the next byte that may open one
+  module _ (t : Stand) (l : List Span) (w : Owes t l) where
+    abbrev q : ℕ
+    q = t .pos
 
-      p : ℕ
-      p = find (is (m .byte)) s q
+    abbrev p : ℕ
+    p = find (is (m .byte)) s q
 
-      o : List ℕ
-      o = w .held
+    abbrev o : List ℕ
+    o = w .held
 
-      some : o ≡ [] → ⊥
-      some e = omega (arith, w .holds .count, ap length e)
+    -- a turn with frames open
+    open-owed : 0 < t .count → Owed q l (openTurn m s q (t .cells) (t .count))
+    open-owed h = by (w .owes)
+      where
+        some : o ≡ [] → ⊥
+        some e = omega (arith, w .holds .count, ap length e)
 
-      begins : o ≡ opened m s q → Starts q → q < length s → lineStart (m .eol) s q ≡ true
-      begins e (inl z) i = absurd (some (e ∙ z))
-      begins e (inr f) i = f i
+        begins : o ≡ opened m s q → Starts q → q < length s → lineStart (m .eol) s q ≡ true
+        begins e (inl z) i = absurd (some (e ∙ z))
+        begins e (inr f) i = f i
 
-      far : q < length s → holds (is (m .byte)) s q ≡ false → q < p
-      far i u = ⊎-elim (λ (v : ltb q p ≡ true). ltb-true q p v) (λ v. absurd (near (omega (arith, ltb-false q p v, find-ge (is (m .byte)) s q)))) (decide (ltb q p))
-        where
-          near : p ≡ q → ⊥
-          near z = clash (holds-in (is (m .byte)) s q i ∙ ap (λ (k : ℕ). is (m .byte) (getD s k 0)) (sym z) ∙ find-at (is (m .byte)) s q (omega arith)) u
+        far : q < length s → holds (is (m .byte)) s q ≡ false → q < p
+        far i u = ⊎-elim (λ (v : ltb q p ≡ true). ltb-true q p v) (λ v. absurd (near (omega (arith, ltb-false q p v, find-ge (is (m .byte)) s q)))) (decide (ltb q p))
+          where
+            near : p ≡ q → ⊥
+            near z = clash (holds-in (is (m .byte)) s q i ∙ ap (λ (k : ℕ). is (m .byte) (getD s k 0)) (sym z) ∙ find-at (is (m .byte)) s q (omega arith)) u
 
-      size : (e : ℕ) → length (closing (t .cells) e 0 (t .count)) ≡ t .count
-      size e = closing-length (t .cells) e 0 (t .count)
+        size : (e : ℕ) → length (closing (t .cells) e 0 (t .count)) ≡ t .count
+        size e = closing-length (t .cells) e 0 (t .count)
 
-      few : t .count ≤ 32
-      few = omega (arith, w .holds .count, w .holds .few)
+        few : t .count ≤ 32
+        few = omega (arith, w .holds .count, w .holds .few)
 
-      by : ((o ≡ opened m s q) × Starts q × (l ≡ Rest m s q)) ⊎ ((q ≡ length s) × (o ≡ []) × (l ≡ [])) → Owed q l (openTurn m s q (t .cells) (t .count))
-      by (inr v) = absurd (some (v .1))
-      by (inl v) =
-          by-test (Owed q l) (ltb q (length s)) _ _
-          (λ a.
-          let i = ltb-true q (length s) a in
-          let b = begins (v .0) (v .1) i in
-          by-test (Owed q l) (holds (is (m .byte)) s q) _ _
-          (λ u. line-owed q q t o l (omega arith) i b (w .holds) (v .0) (v .2))
-          (λ u.
-          let f = far i u in
-          let none = marks-none m s q u in
-          let z : opened m s (suc q) ≡ [] = opened-line m s q b ∙ rw (none, drop-nil (length (opened m s q))) in
-          let fr : Free m s (suc q) p = λ k x y. hit-free q (w .inside) k (omega arith) y in
-          let y : opened m s p ≡ [] = opened-free m s (p - suc q) (suc q) p (omega arith) z fr in
-          let c : closedAt m s q ≡ closing (t .cells) q 0 (t .count) = closed-line m s q b ∙ rw (none, ← (v .0)) (sym (shut-all q (w .holds))) in (
-            Rest m s p,
-            v .2 ∙ rest-at m s q p f (find-le (is (m .byte)) s q (w .inside)) (closed-free m s (suc q) p z fr) ∙ ap (λ (x : List Span). x ++ Rest m s p) c,
-            record { held = []; holds = holds-kept (w .holds) p 0 (omega arith); inside = find-le (is (m .byte)) s q (w .inside); owes = inl (sym y, inl y, refl) },
-            omega (arith, size q),
-            omega (arith, size q, few),
-          )))
-          (λ a.
-          let n : q ≡ length s = omega (arith, ltb-false q (length s) a, w .inside) in (
-            [],
-            v .2 ∙ ap (Rest m s) n ∙ rest-end m s ∙ ap (λ (x : List ℕ). deeper x 0 (length s)) (ap (opened m s) (sym n) ∙ sym (v .0)) ∙ sym (shut-all (length s) (w .holds)) ∙ sym (append-nil (closing (t .cells) (length s) 0 (t .count))),
-            record { held = []; holds = holds-kept (w .holds) q 0 (omega arith); inside = w .inside; owes = inr (n, refl, refl) },
-            omega (arith, size (length s)),
-            omega (arith, size (length s), few),
-          ))
+        by : ((o ≡ opened m s q) × Starts q × (l ≡ Rest m s q)) ⊎ ((q ≡ length s) × (o ≡ []) × (l ≡ [])) → Owed q l (openTurn m s q (t .cells) (t .count))
+        by (inr v) = absurd (some (v .1))
+        by (inl v) =
+            by-test (Owed q l) (ltb q (length s)) _ _
+            (λ a.
+            let i = ltb-true q (length s) a in
+            let b = begins (v .0) (v .1) i in
+            by-test (Owed q l) (holds (is (m .byte)) s q) _ _
+            (λ u. line-owed q q t o l (omega arith) i b (w .holds) (v .0) (v .2))
+            (λ u.
+            let f = far i u in
+            let none = marks-none m s q u in
+            let z : opened m s (suc q) ≡ [] = opened-line m s q b ∙ rw (none, drop-nil (length (opened m s q))) in
+            let fr : Free m s (suc q) p = λ k x y. hit-free q (w .inside) k (omega arith) y in
+            let y : opened m s p ≡ [] = opened-free m s (p - suc q) (suc q) p (omega arith) z fr in
+            let c : closedAt m s q ≡ closing (t .cells) q 0 (t .count) = closed-line m s q b ∙ rw (none, ← (v .0)) (sym (shut-all q (w .holds))) in (
+              Rest m s p,
+              v .2 ∙ rest-at m s q p f (find-le (is (m .byte)) s q (w .inside)) (closed-free m s (suc q) p z fr) ∙ ap (λ (x : List Span). x ++ Rest m s p) c,
+              record { held = []; holds = holds-kept (w .holds) p 0 (omega arith); inside = find-le (is (m .byte)) s q (w .inside); owes = inl (sym y, inl y, refl) },
+              omega (arith, size q),
+              omega (arith, size q, few),
+            )))
+            (λ a.
+            let n : q ≡ length s = omega (arith, ltb-false q (length s) a, w .inside) in (
+              [],
+              v .2 ∙ ap (Rest m s) n ∙ rest-end m s ∙ ap (λ (x : List ℕ). deeper x 0 (length s)) (ap (opened m s) (sym n) ∙ sym (v .0)) ∙ sym (shut-all (length s) (w .holds)) ∙ sym (append-nil (closing (t .cells) (length s) 0 (t .count))),
+              record { held = []; holds = holds-kept (w .holds) q 0 (omega arith); inside = w .inside; owes = inr (n, refl, refl) },
+              omega (arith, size (length s)),
+              omega (arith, size (length s), few),
+            ))
 
-  -- a turn with none open
-  fresh-owed : (t : Stand) (l : List Span) → Owes t l → t .count ≤ 0 → Owed (t .pos) l (freshTurn m s (t .pos) (t .cells) (t .count) (find (is (m .byte)) s (t .pos)))
-  fresh-owed t l w h = by (w .owes)
-    where
-      q : ℕ
-      q = t .pos
+    -- a turn with none open
+    fresh-owed : t .count ≤ 0 → Owed q l (freshTurn m s q (t .cells) (t .count) p)
+    fresh-owed h = by (w .owes)
+      where
+        lo : q ≤ p
+        lo = find-ge (is (m .byte)) s q
 
-      p : ℕ
-      p = find (is (m .byte)) s q
+        hi : p ≤ length s
+        hi = find-le (is (m .byte)) s q (w .inside)
 
-      o : List ℕ
-      o = w .held
+        empty : (x : List ℕ) → length x ≡ 0 → x ≡ []
+        empty [] e = refl
+        empty (y ∷ x) e = absurd (omega arith)
 
-      lo : q ≤ p
-      lo = find-ge (is (m .byte)) s q
+        none : o ≡ []
+        none = empty o (omega (arith, w .holds .count))
 
-      hi : p ≤ length s
-      hi = find-le (is (m .byte)) s q (w .inside)
-
-      empty : (x : List ℕ) → length x ≡ 0 → x ≡ []
-      empty [] e = refl
-      empty (y ∷ x) e = absurd (omega arith)
-
-      none : o ≡ []
-      none = empty o (omega (arith, w .holds .count))
-
-      by : ((o ≡ opened m s q) × Starts q × (l ≡ Rest m s q)) ⊎ ((q ≡ length s) × (o ≡ []) × (l ≡ [])) → Owed q l (freshTurn m s q (t .cells) (t .count) p)
-      by (inr v) = rw (le-ltb p (length s) (omega (arith, lo, v .0))) (v .2)
-      by (inl v) =
-          let z : opened m s q ≡ [] = sym (v .0) ∙ none in
-          let fr = hit-free q (w .inside) in
-          let y : opened m s p ≡ [] = opened-free m s (p - q) q p (omega (arith, lo)) z fr in
-          let r : l ≡ Rest m s p = v .2 ∙ rest-skip m s q p lo hi (closed-free m s q p z fr) in
-          by-test (Owed q l) (ltb p (length s)) _ _
-          (λ a.
-          let i = ltb-true p (length s) a in
-          by-test (Owed q l) (lineStart (m .eol) s p) _ _
-          (λ u. line-owed q p t o l lo i u (w .holds) (none ∙ sym y) r)
-          (λ u.
-          let x : opened m s (suc p) ≡ [] = opened-same m s p u ∙ y in
-          let n : p + 1 ≡ suc p = omega arith in (
-            omega (arith, lo),
-            record {
-              held = o;
-              holds = holds-moved (p + 1) (w .holds);
-              inside = omega arith;
-              owes = inl (
-                none ∙ sym (rw n x),
-                inl (rw n x),
-                r ∙ rest-skip m s p (p + 1) (omega arith) (omega arith) (λ k b c. let d : k ≡ p = omega arith in rw d (closed-no-line m s p u)),
-              );
-            },
-          )))
-          (λ a.
-          let n : p ≡ length s = omega (arith, ltb-false p (length s) a, hi) in
-          r ∙ ap (Rest m s) n ∙ rest-end m s ∙ ap (λ (x : List ℕ). deeper x 0 (length s)) (ap (opened m s) (sym n) ∙ y))
+        by : ((o ≡ opened m s q) × Starts q × (l ≡ Rest m s q)) ⊎ ((q ≡ length s) × (o ≡ []) × (l ≡ [])) → Owed q l (freshTurn m s q (t .cells) (t .count) p)
+        by (inr v) = rw (le-ltb p (length s) (omega (arith, lo, v .0))) (v .2)
+        by (inl v) =
+            let z : opened m s q ≡ [] = sym (v .0) ∙ none in
+            let fr = hit-free q (w .inside) in
+            let y : opened m s p ≡ [] = opened-free m s (p - q) q p (omega (arith, lo)) z fr in
+            let r : l ≡ Rest m s p = v .2 ∙ rest-skip m s q p lo hi (closed-free m s q p z fr) in
+            by-test (Owed q l) (ltb p (length s)) _ _
+            (λ a.
+            let i = ltb-true p (length s) a in
+            by-test (Owed q l) (lineStart (m .eol) s p) _ _
+            (λ u. line-owed q p t o l lo i u (w .holds) (none ∙ sym y) r)
+            (λ u.
+            let x : opened m s (suc p) ≡ [] = opened-same m s p u ∙ y in
+            let n : p + 1 ≡ suc p = omega arith in (
+              omega (arith, lo),
+              record {
+                held = o;
+                holds = holds-moved (p + 1) (w .holds);
+                inside = omega arith;
+                owes = inl (
+                  none ∙ sym (rw n x),
+                  inl (rw n x),
+                  r ∙ rest-skip m s p (p + 1) (omega arith) (omega arith) (λ k b c. let d : k ≡ p = omega arith in rw d (closed-no-line m s p u)),
+                );
+              },
+            )))
+            (λ a.
+            let n : p ≡ length s = omega (arith, ltb-false p (length s) a, hi) in
+            r ∙ ap (Rest m s) n ∙ rest-end m s ∙ ap (λ (x : List ℕ). deeper x 0 (length s)) (ap (opened m s) (sym n) ∙ y))
 
   turn-owed : (t : Stand) (l : List Span) → Owes t l → Owed (t .pos) l (nextTurn m s t)
   unfolding nextTurn
