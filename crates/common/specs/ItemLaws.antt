@@ -15,9 +15,9 @@ use Rattle.search.specs.Search.{is, either, oneOf, other, holds, find, Sought, 
 use Rattle.search.specs.SearchLaws.{decide, clash, and-true, is-true, either-true, other-yes, other-no, other-false, holds-in, holds-true, find-ge, find-le, find-at, find-before, find-is, find-end, find-here, find-next, back-le, back-run, back-stop, start-zero, line-one, line-next}
 use Rattle.common.specs.Sets.{acceptedFrom, accepted, probeOf, probe}
 use Rattle.common.specs.Refusals.{Outcome, refused}
-use Rattle.common.specs.Turn.{Turn, found, allFound, None, Ahead, Adv, Covers}
+use Rattle.common.specs.Turn.{Turn, go, stop, found, allFound, None, Ahead, Adv, Covers, yields, stepOf}
 use Rattle.common.specs.TurnLaws.{collect-covers}
-use Rattle.common.specs.Items.{ItemGrammar, blank, has, Apart, lineBytes, leading, beyond, leads, itemFrom, lineFound, itemAt, itemsOf, readTurn, hitTurn, said, placeOf, answerBy, stateBy}
+use Rattle.common.specs.Items.{ItemGrammar, blank, has, Apart, lineBytes, leading, beyond, leads, itemFrom, lineFound, itemAt, itemsOf, readTurn, hitTurn, said, placeOf, answerBy, stateBy, stepFor}
 
 -- a property of what a test picks, by cases
 pub both : {A : Type 0} (P : A → Type 0) (t : Bool) (a b : A) → (t ≡ true → P a) → (t ≡ false → P b) → P (cond t a b)
@@ -458,3 +458,16 @@ module _ {A S : Type 0} (values : A → List ℕ) (at : S → ℕ → S) (g : S)
     step-seen view d e o r f w u v =
         let x : view e ≡ t = sym (ap view f) ∙ w .answer in
         record { answer = u ∙ ap (said values) x ∙ served-answer; next = v .answer ∙ ap (λ (y : Turn A). at g (placeOf y)) x ∙ served-state }
+
+-- the step that it makes, by what it says and the state after it; `back` is the thing of such values
+module _ {A S : Type 0} (values : A → List ℕ) (back : List ℕ → A) (reads : (a : A) (n : S) → stepFor back (values a) n ≡ yields a n) where
+  said-step : (at : ℕ → S) (t : Turn A) → stepFor back (said values t .values) (at (placeOf t)) ≡ stepOf at t
+  said-step at (go n) = refl
+  said-step at (stop v) = refl
+  said-step at (found a n) = reads a (at n)
+
+  pub step-taken : (at : S → ℕ → S) (g : S) (s : List ℕ) (p : ℕ) (t : Turn A) → p ≤ length s → length s ≤ 4294967295 → (o : Outcome) (n : S) → Steps (answerBy values s p t) (stateBy at g s p t) o n
+      → stepFor back (o .values) n ≡ stepOf (at g) t
+  step-taken at g s p t l h o n w =
+      let v = step-served values at g s p t l h w in
+      ap (λ (o : Outcome). stepFor back (o .values) n) (v .0) ∙ ap (stepFor back (said values t .values)) (v .1) ∙ said-step (at g) t

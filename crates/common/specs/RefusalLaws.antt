@@ -7,7 +7,7 @@ use lib.Dec.{eqb}
 use lib.ListN.{getD}
 use borrow.Author.Tests.{lt-ltb, le-ltb, eq-eqb, ne-eqb}
 use Rattle.search.specs.Promise.{Gives, gives-unique}
-use Rattle.common.specs.Refusals.{Outcome, given, refused, refuse, numberOf, refusalOf, read, unlessNone, told, toldFound, toldSpan}
+use Rattle.common.specs.Refusals.{Outcome, given, refused, refuse, numberOf, refusalOf, read, unlessNone, told, toldFound, spanBack, toldSpan}
 use Rattle.common.specs.declared.refusal.Refusal.{Refusal}
 use Rattle.common.specs.declared.refusal.Refusal.the-variants.{TextTooLong, PlaceOutside, NoRoom, CutsOutOfOrder, ListMisshapen, ColumnsDiffer, NotAtJoint, ReplacementOpen, LineEndMark}
 use Rattle.common.specs.declared.refusal.Answer.{Answer}
@@ -75,7 +75,7 @@ found-back found.Nothing = refl
 found-back (found.Refused r) = read-refused foundAt found.Refused r
 
 spanAt : List ℕ → SpanFound
-spanAt = unlessNone spanned.Nothing (λ l. spanned.At (record { start = getD l 0 0; end = getD l 1 0 }))
+spanAt = unlessNone spanned.Nothing (λ l. spanned.At (spanBack l))
 
 span-back : (r : SpanFound) → read spanAt spanned.Refused (toldSpan r) ≡ r
 unfolding read spanAt

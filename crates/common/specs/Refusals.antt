@@ -10,6 +10,7 @@ use Rattle.common.specs.declared.refusal.Answer.{Answer}
 use Rattle.common.specs.declared.refusal.Answer.the-variants as answer
 use Rattle.common.specs.declared.refusal.Found.{Found}
 use Rattle.common.specs.declared.refusal.Found.the-variants as found
+use Rattle.common.specs.declared.span.Span.{Span}
 use Rattle.common.specs.declared.span.SpanFound.{SpanFound}
 use Rattle.common.specs.declared.span.SpanFound.the-variants as spanned
 
@@ -51,8 +52,15 @@ toldFound (found.At q) = given (q ∷ [])
 toldFound found.Nothing = given []
 toldFound (found.Refused r) = refused (numberOf r)
 
+-- a span's values, and the span of such values
+abbrev pub spanValues : Span → List ℕ
+spanValues s = s .start ∷ s .end ∷ []
+
+abbrev pub spanBack : List ℕ → Span
+spanBack l = record { start = getD l 0 0; end = getD l 1 0 }
+
 abbrev pub toldSpan : SpanFound → Outcome
-toldSpan (spanned.At s) = given (s .start ∷ s .end ∷ [])
+toldSpan (spanned.At s) = given (spanValues s)
 toldSpan spanned.Nothing = given []
 toldSpan (spanned.Refused r) = refused (numberOf r)
 

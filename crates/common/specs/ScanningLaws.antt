@@ -14,10 +14,10 @@ use Rattle.search.specs.Promise.{Gives, Steps}
 use Rattle.common.specs.Sets.{probe, accepted}
 use Rattle.common.specs.Refusals.{Outcome, refused}
 use Rattle.common.specs.RefusalLaws.{told-unique}
-use Rattle.common.specs.Turn.{Turn, go, stop, found, thenCollect, firstTurn, allFound, Adv, Leads, Has, stepOf, thenDrain, drain}
+use Rattle.common.specs.Turn.{Turn, found, thenCollect, firstTurn, allFound, Adv, Leads, Has, stepOf, thenDrain, drain}
 use Rattle.common.specs.TurnLaws.{by-turn, by-last, last-fits, collect-scan, scan-ends, drain-answers, answers-take}
 use Rattle.common.specs.Items.{grammar, has, said, placeOf, stepFor}
-use Rattle.common.specs.ItemLaws.{both, needle-set, step-long, step-past, step-served, step-seen}
+use Rattle.common.specs.ItemLaws.{both, needle-set, step-long, step-past, step-served, step-seen, step-taken}
 use Rattle.common.specs.Scanning.{Fields, moved, probed, byNeedles, bySet, Scanner, fresh, at, turnBy, turn, first, answer, state, Keeps, items, Lawful}
 use Rattle.common.specs.declared.sets.Probe.{Probe}
 
@@ -70,7 +70,10 @@ module _ {S A : Type 0} {c : Scanner S A} {Lies : ℕ → ℕ → A → Type 0} 
   unfolding first
   found-fits view value lies g set s d e x f u h l m = last-fits Lies view value (u .answer) f m (turn-adv g set s) lies h l
 
-  -- ---- a state at another place
+  -- ---- a fresh state stands at the text's start, and a state at another place has but that place changed
+  pub fresh-place : (eol sep tab : ℕ) (set : List Bool) → c .fields (fresh c eol sep tab set) .pos ≡ 0
+  fresh-place eol sep tab set = ap (λ (f : Fields). f .pos) (w .of-made (probed eol sep tab (probe set)))
+
   of-at : (g : S) (q : ℕ) → c .fields (at c g q) ≡ moved (c .fields g) q
   of-at g q = w .of-made (moved (c .fields g) q)
 
@@ -87,20 +90,14 @@ module _ {S A : Type 0} {c : Scanner S A} {Lies : ℕ → ℕ → A → Type 0} 
     items-at g q = ap (λ (f : Fields). allFound (turnBy c set s f) (length s) (f .pos)) (of-at g q)
 
   -- ---- a step, by what its answer says and the state after it
-  said-step : (at : ℕ → S) (t : Turn A) → stepFor (c .back) (said (c .values) t .values) (at (placeOf t)) ≡ stepOf at t
-  said-step at (go n) = refl
-  said-step at (stop v) = refl
-  said-step at (found a n) = w .reads a (at n)
-
   module _ (set : List Bool) (s : List ℕ) (short : length s ≤ 4294967295) where
     served : (g : S) (o : Outcome) (n : S) → c .fields g .pos ≤ length s → Keeps c g set s o n → (o ≡ said (c .values) (first c g set s)) × (n ≡ at c g (placeOf (first c g set s)))
     unfolding answer state
     served g o n h kept = step-served (c .values) (at c) g s (c .fields g .pos) (first c g set s) h short kept
 
     step : (g : S) (o : Outcome) (n : S) → c .fields g .pos ≤ length s → Keeps c g set s o n → stepFor (c .back) (o .values) n ≡ stepOf (at c g) (first c g set s)
-    step g o n h kept =
-        let v = served g o n h kept in
-        ap (λ (o : Outcome). stepFor (c .back) (o .values) n) (v .0) ∙ ap (stepFor (c .back) (said (c .values) (first c g set s) .values)) (v .1) ∙ said-step (at c g) (first c g set s)
+    unfolding answer state
+    step g o n h = step-taken (c .values) (c .back) (w .reads) (at c) g s (c .fields g .pos) (first c g set s) h short o n
 
     -- the items that a state's scan has before it are what a step yields, and those that the state after it has
     pub step-items : (g : S) (o : Outcome) (n : S) → c .fields g .pos ≤ length s → Keeps c g set s o n → items c g set s ≡ thenDrain (λ k. items c k set s) (stepFor (c .back) (o .values) n)

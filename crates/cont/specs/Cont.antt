@@ -5,7 +5,7 @@ use Prim.Native.Nat.{ℕ, zero, suc, _+_, _-_, min}
 use lib.Dec.{ltb}
 use lib.ListN.{length, getD, drop, replicate}
 use Rattle.search.specs.Search.{find, is, holds, lineStart, lineEnd, nextLine}
-use Rattle.common.specs.Refusals.{Outcome, given, refuse, tooLong}
+use Rattle.common.specs.Refusals.{Outcome, given, refuse, tooLong, spanValues}
 use Rattle.common.specs.Entry.{putAt}
 use Rattle.common.specs.Turn.{Step, yields, ends}
 use Rattle.common.specs.declared.span.Span.{Span}
@@ -164,7 +164,7 @@ stepped g s = drainedOr g (firstOf (refilled g (firstShut (marksOf g) s (standin
 
 -- what a step answers: the frame, or none
 abbrev pub spanOf : Step Span ContIter → Outcome
-spanOf (yields f g) = given (f .start ∷ f .end ∷ [])
+spanOf (yields f g) = given (spanValues f)
 spanOf (ends g) = given []
 
 -- the state after it

@@ -11,8 +11,12 @@ use lib.Dec.{ltb}
 use lib.ListN.{length, getD, take, drop, length-append, length-take, length-drop, length-replicate, drop-of-length-le}
 use lib.Seq.{take-all, drop-nil, take-take, drop-cons, getD-take, length-take-le}
 use borrow.Author.Tests.{ltb-true, ltb-false, lt-ltb, le-ltb}
+use Rattle.search.specs.Promise.{Steps}
 use Rattle.search.specs.Search.{is, holds, find, lineStart, lineEnd}
 use Rattle.search.specs.SearchLaws.{decide, find-ge, find-le, find-before, find-at, clash, holds-in, line-one, line-next}
+use Rattle.common.specs.Refusals.{Outcome, spanBack, toldSpan}
+use Rattle.common.specs.Items.{stepFor}
+use Rattle.common.specs.ItemLaws.{both}
 use Rattle.common.specs.Turn.{None, Step, yields, ends, thenDrain, drain}
 use Rattle.common.specs.declared.span.Span.{Span}
 use Rattle.cont.specs.declared.Marks.{Marks}
@@ -21,10 +25,10 @@ use Rattle.cont.specs.declared.ContStep.{ContStep}
 use Rattle.cont.specs.Frames.{frame, marks, depth, frames}
 use Rattle.common.specs.Entry.{putAt}
 use Rattle.common.specs.EntryLaws.{length-put, put-front}
-use Rattle.cont.specs.Cont.{fresh, marksOf, closing, Stand, stand, Turn, go, close, stop, kept, opening, afterLine, closeFrom, openWith, lineTurn, openTurn, freshTurn, nextTurn, Shut, thenShut, scan, firstShut, standing, drained, refilled, drainedOr, firstOf, stepped}
+use Rattle.cont.specs.Cont.{fresh, marksOf, closing, Stand, stand, Turn, go, close, stop, kept, opening, afterLine, closeFrom, openWith, lineTurn, openTurn, freshTurn, nextTurn, Shut, thenShut, scan, firstShut, standing, drained, refilled, drainedOr, firstOf, stepped, answer, state}
 use Rattle.cont.specs.MarkLaws.{marks-take, marks-few, marks-none}
 use Rattle.cont.specs.Steps.{Served, Kept, toldStep}
-use Rattle.cont.specs.TurnLaws.{by-test, closing-length}
+use Rattle.cont.specs.TurnLaws.{closing-length}
 use Rattle.cont.specs.StepLaws.{kept-step}
 use Rattle.cont.specs.StackLaws.{over, opened, deeper, closedAt, Rest, opened-line, opened-same, opened-few, opened-stretch, Free, opened-free, closed-no-line, closed-line, closed-free, rest-skip, rest-at, rest-end, frames-rest}
 use Rattle.cont.specs.FrameLaws.{frames-none}
@@ -89,7 +93,7 @@ module _ (m : Marks) (s : List ℕ) (nests : m .cap ≤ 32) where
   line-owed : (q p : ℕ) (t : Stand) (o : List ℕ) (l : List Span) → q ≤ p → p < length s → lineStart (m .eol) s p ≡ true → Holds t o → o ≡ opened m s p → l ≡ Rest m s p → Owed q l (lineTurn m s p (t .cells) (t .count))
   unfolding lineTurn marks
   line-owed q p t o l h i st w e r =
-      by-test (Owed q l) (ltb c n) (closeFrom m s p (t .cells) n c) (openWith m s p (t .cells) n (opening m s p n))
+      both (Owed q l) (ltb c n) (closeFrom m s p (t .cells) n c) (openWith m s p (t .cells) n (opening m s p n))
       (λ u.
       let v = ltb-true c n u in
       let k : c ≡ depth m s p = omega (arith, size) in
@@ -199,11 +203,11 @@ module _ (m : Marks) (s : List ℕ) (nests : m .cap ≤ 32) where
         by : ((o ≡ opened m s q) × Starts q × (l ≡ Rest m s q)) ⊎ ((q ≡ length s) × (o ≡ []) × (l ≡ [])) → Owed q l (openTurn m s q (t .cells) (t .count))
         by (inr v) = absurd (some (v .1))
         by (inl v) =
-            by-test (Owed q l) (ltb q (length s)) _ _
+            both (Owed q l) (ltb q (length s)) _ _
             (λ a.
             let i = ltb-true q (length s) a in
             let b = begins (v .0) (v .1) i in
-            by-test (Owed q l) (holds (is (m .byte)) s q) _ _
+            both (Owed q l) (holds (is (m .byte)) s q) _ _
             (λ u. line-owed q q t o l (omega arith) i b (w .holds) (v .0) (v .2))
             (λ u.
             let f = far i u in
@@ -251,10 +255,10 @@ module _ (m : Marks) (s : List ℕ) (nests : m .cap ≤ 32) where
             let fr = hit-free q (w .inside) in
             let y : opened m s p ≡ [] = opened-free m s (p - q) q p (omega (arith, lo)) z fr in
             let r : l ≡ Rest m s p = v .2 ∙ rest-skip m s q p lo hi (closed-free m s q p z fr) in
-            by-test (Owed q l) (ltb p (length s)) _ _
+            both (Owed q l) (ltb p (length s)) _ _
             (λ a.
             let i = ltb-true p (length s) a in
-            by-test (Owed q l) (lineStart (m .eol) s p) _ _
+            both (Owed q l) (lineStart (m .eol) s p) _ _
             (λ u. line-owed q p t o l lo i u (w .holds) (none ∙ sym y) r)
             (λ u.
             let x : opened m s (suc p) ≡ [] = opened-same m s p u ∙ y in
@@ -277,7 +281,7 @@ module _ (m : Marks) (s : List ℕ) (nests : m .cap ≤ 32) where
 
   turn-owed : (t : Stand) (l : List Span) → Owes t l → Owed (t .pos) l (nextTurn m s t)
   unfolding nextTurn
-  turn-owed t l w = by-test (Owed (t .pos) l) (ltb 0 (t .count)) _ _ (λ a. open-owed t l w (ltb-true 0 (t .count) a)) (λ a. fresh-owed t l w (ltb-false 0 (t .count) a))
+  turn-owed t l w = both (Owed (t .pos) l) (ltb 0 (t .count)) _ _ (λ a. open-owed t l w (ltb-true 0 (t .count) a)) (λ a. fresh-owed t l w (ltb-false 0 (t .count) a))
 
   -- ---- the scan
   abbrev Told : List Span → Shut → Type 0
@@ -399,11 +403,16 @@ module _ (byte eol sep tab nest : ℕ) (s : List ℕ) where
     pub run : drain (λ h. stepped h s) n (fresh byte eol sep tab nest) ≡ frames (marksOf (fresh byte eol sep tab nest)) s
     run = run-first n ∙ take-all n (frames (marksOf (fresh byte eol sep tab nest)) s) enough
 
-    -- the same of any function that keeps the promise of `next`
-    pub run-kept : (next : ContIter → ContStep) → ((g : ContIter) → Served g s → Kept g s (next g)) → length s ≤ 4294967295 → drain (λ h. toldStep (next h)) n (fresh byte eol sep tab nest) ≡ frames (marksOf (fresh byte eol sep tab nest)) s
-    run-kept next keeps fits =
-        drain-left s (λ h. toldStep (next h)) (λ g l w. let v = sound-served s fits g l w in kept-step g s (next g) v (keeps g v)) n (fresh byte eol sep tab nest) (frames (marksOf (fresh byte eol sep tab nest)) s) fresh-sound
+    -- the same of any function that keeps the promise of `next`: `says` is what its answer says, `next` the state after it
+    pub run-said : (says : ContIter → Outcome) (next : ContIter → ContIter) → ((g : ContIter) → Served g s → Steps (answer g s) (state g s) (says g) (next g)) → length s ≤ 4294967295
+        → drain (λ h. stepFor spanBack (says h .values) (next h)) n (fresh byte eol sep tab nest) ≡ frames (marksOf (fresh byte eol sep tab nest)) s
+    run-said says next keeps fits =
+        drain-left s (λ h. stepFor spanBack (says h .values) (next h)) (λ g l w. let v = sound-served s fits g l w in kept-step g s (says g) (next g) v (keeps g v)) n (fresh byte eol sep tab nest)
+        (frames (marksOf (fresh byte eol sep tab nest)) s) fresh-sound
         ∙ take-all n (frames (marksOf (fresh byte eol sep tab nest)) s) enough
+
+    pub run-kept : (next : ContIter → ContStep) → ((g : ContIter) → Served g s → Kept g s (next g)) → length s ≤ 4294967295 → drain (λ h. toldStep (next h)) n (fresh byte eol sep tab nest) ≡ frames (marksOf (fresh byte eol sep tab nest)) s
+    run-kept next = run-said (λ h. toldSpan (next h .found)) (λ h. next h .next)
 
   -- one step more yields nothing
   pub run-ends : drain (λ h. stepped h s) (suc (length (frames (marksOf (fresh byte eol sep tab nest)) s))) (fresh byte eol sep tab nest) ≡ frames (marksOf (fresh byte eol sep tab nest)) s

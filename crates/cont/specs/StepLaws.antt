@@ -7,12 +7,12 @@ use lib.Dec.{ltb}
 use lib.ListN.{length, replicate}
 use borrow.Author.Tests.{lt-ltb, le-ltb, ltb-false}
 use Rattle.search.specs.Promise.{Gives, Steps, steps-unique}
-use Rattle.common.specs.Refusals.{Outcome, toldSpan}
+use Rattle.common.specs.Refusals.{Outcome, toldSpan, spanBack}
+use Rattle.common.specs.Items.{stepFor}
 use Rattle.common.specs.RefusalLaws.{span-unique}
 use Rattle.search.specs.SearchLaws.{clash}
 use Rattle.common.specs.Turn.{Step, yields, ends}
 use Rattle.common.specs.declared.span.Span.{Span}
-use Rattle.common.specs.declared.span.SpanFound.{SpanFound}
 use Rattle.common.specs.declared.span.SpanFound.the-variants as spanned
 use Rattle.common.specs.declared.refusal.Refusal.the-variants.{TextTooLong, PlaceOutside}
 use Rattle.cont.specs.declared.Closed.{Closed}
@@ -21,7 +21,7 @@ use Rattle.cont.specs.declared.ContStep.{ContStep}
 use Rattle.cont.specs.Frames.{frame}
 use Rattle.common.specs.Entry.{putAt}
 use Rattle.cont.specs.Cont.{marksOf, closing, firstShut, standing, moved, drained, firstOf, stepped, spanOf, stateOf, outside, misplaced, answer, state, fresh}
-use Rattle.cont.specs.Steps.{Scanned, Served, Kept, stepWith, toldStep}
+use Rattle.cont.specs.Steps.{Scanned, Served, Kept}
 use Rattle.cont.specs.TurnLaws.{closing-length}
 
 -- ---- the tests of a state
@@ -123,17 +123,14 @@ fresh-given byte eol sep tab nest cap g = record { answer = rw (g .answer) }
 pub next-unique : (g : ContIter) (s : List ℕ) (r r′ : ContStep) → Kept g s r → Kept g s r′ → (r .found ≡ r′ .found) × (r .next ≡ r′ .next)
 next-unique g s r r′ w w′ = (span-unique {o = answer g s} (record { answer = w .answer }) (record { answer = w′ .answer }), steps-unique w w′ .1)
 
--- ---- a result that keeps the promise for a state that is served is the step
-pub kept-step : (g : ContIter) (s : List ℕ) (r : ContStep) → Served g s → Kept g s r → toldStep r ≡ stepped g s
+-- ---- what keeps the promise for a state that is served is the step
+pub kept-step : (g : ContIter) (s : List ℕ) (o : Outcome) (n : ContIter) → Served g s → Steps (answer g s) (state g s) o n → stepFor spanBack (o .values) n ≡ stepped g s
 unfolding answer state
-kept-step g s r v w = by (stepped g s) (simp (short, unrefused g s v) at (w .answer)) (simp (short, unrefused g s v) at (w .next))
+kept-step g s o n v w = by (stepped g s) (simp (short, unrefused g s v) at (w .answer)) (simp (short, unrefused g s v) at (w .next))
   where
     short : ltb 4294967295 (length s) ≡ false
     short = le-ltb 4294967295 (length s) (v .short)
 
-    is-found : (d : SpanFound) → toldSpan (r .found) ≡ toldSpan d → r .found ≡ d
-    is-found d e = span-unique {o = toldSpan d} {r = r .found} {r′ = d} (record { answer = e }) (record { answer = refl })
-
-    by : (c : Step Span ContIter) → toldSpan (r .found) ≡ spanOf c → r .next ≡ stateOf c → toldStep r ≡ c
-    by (yields f h) e n = ap (stepWith (r .next)) (is-found (spanned.At f) e) ∙ ap (yields f) n
-    by (ends h) e n = ap (stepWith (r .next)) (is-found spanned.Nothing e) ∙ ap ends n
+    by : (c : Step Span ContIter) → o ≡ spanOf c → n ≡ stateOf c → stepFor spanBack (o .values) n ≡ c
+    by (yields f h) e m = ap (λ (o : Outcome). stepFor spanBack (o .values) n) e ∙ ap (yields f) m
+    by (ends h) e m = ap (λ (o : Outcome). stepFor spanBack (o .values) n) e ∙ ap ends m

@@ -4,11 +4,10 @@ use mathlib.Core.List.{List}
 use Prim.Native.Nat.{ℕ, _+_, _-_, _≤_, _<_}
 use lib.ListN.{length, drop}
 use Rattle.search.specs.Promise.{Steps}
-use Rattle.common.specs.Refusals.{toldSpan}
-use Rattle.common.specs.Turn.{Step, yields, ends}
+use Rattle.common.specs.Refusals.{spanBack, toldSpan}
+use Rattle.common.specs.Items.{stepFor}
+use Rattle.common.specs.Turn.{Step}
 use Rattle.common.specs.declared.span.Span.{Span}
-use Rattle.common.specs.declared.span.SpanFound.{SpanFound}
-use Rattle.common.specs.declared.span.SpanFound.the-variants as spanned
 use Rattle.cont.specs.declared.Marks.{Marks}
 use Rattle.cont.specs.declared.ContIter.{ContIter}
 use Rattle.cont.specs.declared.ContStep.{ContStep}
@@ -70,11 +69,6 @@ abbrev pub Kept : ContIter → List ℕ → ContStep → Type 0
 Kept g s r = Steps (answer g s) (state g s) (toldSpan (r .found)) (r .next)
 
 -- ---- steps of a run
--- the step that an answer and the state that comes with it make: a frame and the state after it, or the state at the end
-abbrev pub stepWith : ContIter → SpanFound → Step Span ContIter
-stepWith g (spanned.At f) = yields f g
-stepWith g spanned.Nothing = ends g
-stepWith g (spanned.Refused r) = ends g
-
+-- the step that a result makes: a frame and the state after it, or the state at the end
 abbrev pub toldStep : ContStep → Step Span ContIter
-toldStep r = stepWith (r .next) (r .found)
+toldStep r = stepFor spanBack (toldSpan (r .found) .values) (r .next)

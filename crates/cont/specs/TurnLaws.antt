@@ -12,6 +12,7 @@ use borrow.Author.Tests.{lt-ltb, le-ltb, ltb-true, ltb-false}
 use Rattle.search.specs.Promise.{Gives}
 use Rattle.search.specs.Search.{is, holds, find, Sought, lineStart, nextLine}
 use Rattle.search.specs.SearchLaws.{decide, find-ge, find-here, sought, holds-true}
+use Rattle.common.specs.ItemLaws.{both}
 use Rattle.common.specs.declared.span.Span.{Span}
 use Rattle.cont.specs.declared.Marks.{Marks}
 use Rattle.cont.specs.declared.Peeled.{Peeled}
@@ -55,10 +56,6 @@ module _ {o : List ℕ} {from n e : ℕ} {old : List Span} where
         record { answer = ap (λ (x : ℕ). putAt k (closing o e from x) new) (sym z) ∙ w .cells }
 
 -- ---- turns
-pub by-test : (P : Turn → Type 0) (y : Bool) (a b : Turn) → (y ≡ true → P a) → (y ≡ false → P b) → P (cond y a b)
-by-test P true a b f g = f refl
-by-test P false a b f g = g refl
-
 pick-yes : (y : Bool) (a b t : Turn) → y ≡ true → t ≡ a → t ≡ cond y a b
 pick-yes y a b t e f = rw e f
 
@@ -75,7 +72,7 @@ module _ (m : Marks) (s : List ℕ) where
   line-ahead : (q p : ℕ) (o : List ℕ) (n : ℕ) → q ≤ p → p < length s → Ahead (length s) q (lineTurn m s p o n)
   unfolding lineTurn
   line-ahead q p o n h l =
-      by-test (Ahead (length s) q) (ltb (kept m s p n) n) (closeFrom m s p o n (kept m s p n)) (openWith m s p o n (opening m s p n))
+      both (Ahead (length s) q) (ltb (kept m s p n) n) (closeFrom m s p o n (kept m s p n)) (openWith m s p o n (opening m s p n))
       (λ e. tt)
       (λ e. (omega (arith, find-ge (is (m .eol)) s p), omega arith))
 
@@ -85,15 +82,15 @@ module _ (m : Marks) (s : List ℕ) where
       let q = t .pos in
       let p = find (is (m .byte)) s q in
       let lo = find-ge (is (m .byte)) s q in
-      by-test (Ahead (length s) q) (ltb 0 (t .count)) _ _
+      both (Ahead (length s) q) (ltb 0 (t .count)) _ _
       (λ a.
-      by-test (Ahead (length s) q) (ltb q (length s)) _ _
-      (λ b. by-test (Ahead (length s) q) (holds (is (m .byte)) s q) _ _ (λ d. line-ahead q q (t .cells) (t .count) (omega arith) (ltb-true q (length s) b)) (λ d. tt))
+      both (Ahead (length s) q) (ltb q (length s)) _ _
+      (λ b. both (Ahead (length s) q) (holds (is (m .byte)) s q) _ _ (λ d. line-ahead q q (t .cells) (t .count) (omega arith) (ltb-true q (length s) b)) (λ d. tt))
       (λ b. tt))
       (λ a.
-      by-test (Ahead (length s) q) (ltb p (length s)) _ _
+      both (Ahead (length s) q) (ltb p (length s)) _ _
       (λ b.
-      by-test (Ahead (length s) q) (lineStart (m .eol) s p) _ _
+      both (Ahead (length s) q) (lineStart (m .eol) s p) _ _
       (λ d. line-ahead q p (t .cells) (t .count) lo (ltb-true p (length s) b))
       (λ d. let l = ltb-true p (length s) b in (omega arith, omega arith)))
       (λ b. tt))

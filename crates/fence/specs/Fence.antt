@@ -1,21 +1,22 @@
 -- What the fence scanner finds. Assumes nothing.
-use mathlib.Core.Bool.{Bool, true, false, _&&_, _||_}
-use mathlib.Core.List.{List, [], _∷_}
+use mathlib.Core.Bool.{Bool, true, false, cond, _&&_}
+use mathlib.Core.List.{List}
 use Prim.Native.Nat.{ℕ, _+_}
 use lib.Dec.{ltb}
 use lib.ListN.{length}
 use Rattle.search.specs.Search.{find, is, other, holds, firstPlace, lineStart, lineEnd, nextLine}
 use Rattle.common.specs.Fences.{runCount, opensRun, closesRun}
-use Rattle.common.specs.Refusals.{Outcome, given, refuse, tooLong, past}
+use Rattle.common.specs.Refusals.{Outcome, spanValues}
 use Rattle.common.specs.Turn.{Turn, go, stop, found, firstTurn, allFound}
+use Rattle.common.specs.Items.{answerBy, stateBy}
+use Rattle.common.specs.declared.span.Span.{Span}
 use Rattle.fence.specs.declared.FenceIter.{FenceIter}
 use Rattle.fence.specs.declared.Turn.{Turn as Told}
 use Rattle.fence.specs.declared.Turn.the-variants.{Go, Stop, Found}
 
 -- a fence: where it starts, and where it ends
-pub record Fence : Type 0 where
-  pub start : ℕ
-  pub end : ℕ
+abbrev pub Fence : Type 0
+Fence = Span
 
 -- a fresh state
 abbrev pub fresh : ℕ → ℕ → ℕ → ℕ → ℕ → FenceIter
@@ -73,16 +74,12 @@ unfoldable pub fences : FenceIter → List ℕ → List Fence
 fences g s = allFound (nextFence g s) (length s) 0
 
 -- ---- the step, which follows the Rust in where it stays when nothing is left: at the place from which no fence byte was found
-abbrev pub pickTurn : Bool → Turn Fence → Turn Fence → Turn Fence
-pickTurn true a b = a
-pickTurn false a b = b
-
 -- a line that begins with a run of the fence byte at p
 abbrev pub openLine : FenceIter → List ℕ → ℕ → Turn Fence
-openLine g s p = pickTurn (opensRun (g .byte) (g .min) s p (runEnd g s p) (runLine g s p)) (found (fenceAt g s p) (fenceAt g s p .end)) (go (after g s p))
+openLine g s p = cond (opensRun (g .byte) (g .min) s p (runEnd g s p) (runLine g s p)) (found (fenceAt g s p) (fenceAt g s p .end)) (go (after g s p))
 
 abbrev pub openFrom : FenceIter → List ℕ → ℕ → ℕ → Turn Fence
-openFrom g s q p = pickTurn (ltb p (length s)) (pickTurn (lineStart (g .eol) s p) (openLine g s p) (go (p + 1))) (stop q)
+openFrom g s q p = cond (ltb p (length s)) (cond (lineStart (g .eol) s p) (openLine g s p) (go (p + 1))) (stop q)
 
 -- one turn at q: the next fence byte, and what it opens
 unfoldable pub openTurn : FenceIter → List ℕ → ℕ → Turn Fence
@@ -96,24 +93,10 @@ view (Found a b) = found (record { start = a; end = b }) b
 unfoldable pub firstOpen : FenceIter → List ℕ → Turn Fence
 firstOpen g s = firstTurn (openTurn g s) (length s) (g .pos)
 
-abbrev pub spanOf : Turn Fence → Outcome
-spanOf (go n) = given []
-spanOf (stop v) = given []
-spanOf (found f n) = given (f .start ∷ f .end ∷ [])
-
-abbrev pub placeOf : Turn Fence → ℕ
-placeOf (go n) = n
-placeOf (stop v) = v
-placeOf (found f n) = n
-
 -- "For a scanner: 1, 2."
 unfoldable pub answer : FenceIter → List ℕ → Outcome
-answer g s = refuse 1 (tooLong s) (refuse 2 (past s (g .pos)) (spanOf (firstOpen g s)))
-
-abbrev pub unless : Bool → FenceIter → FenceIter → FenceIter
-unless true a b = a
-unless false a b = b
+answer g s = answerBy spanValues s (g .pos) (firstOpen g s)
 
 -- a refusal hands the state back as it was
 unfoldable pub state : FenceIter → List ℕ → FenceIter
-state g s = unless (tooLong s || past s (g .pos)) g (at g (placeOf (firstOpen g s)))
+state g s = stateBy at g s (g .pos) (firstOpen g s)

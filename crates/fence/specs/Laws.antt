@@ -1,6 +1,6 @@
 -- Laws of the fence scanner: places that a search may pass over, the ways out of its functions, that its turns move on, and that its promises leave one answer. Assumes nothing.
 use mathlib.Core.Path.{_≡_, refl, sym, ap, subst, _∙_}
-use mathlib.Core.Bool.{Bool, true, false, _&&_, and-false}
+use mathlib.Core.Bool.{Bool, true, false, cond, _&&_, and-false}
 use mathlib.Core.List.{List}
 use mathlib.Core.Logic.{_⊎_, inl, inr, ⊎-elim}
 use Prim.Native.Nat.{ℕ, _+_, _-_, _≤_, _<_}
@@ -12,10 +12,12 @@ use Rattle.search.specs.Promise.{Gives, Steps, steps-unique}
 use Rattle.search.specs.Search.{is, either, other, holds, firstPlace, find, Sought, lineStart, lineEnd, nextLine}
 use Rattle.search.specs.SearchLaws.{decide, clash, and-true, is-yes, either-true, either-false, other-no, holds-in, holds-past, holds-true, first-ge, first-none, first-end, first-over, first-here, find-ge, sought, find-before, find-at, find-over, find-hit, find-from, find-next, line-one}
 use Rattle.common.specs.Fences.{runCount, opensRun, closesRun}
-use Rattle.common.specs.Refusals.{Outcome, refused}
+use Rattle.common.specs.Refusals.{Outcome, refused, spanValues}
 use Rattle.common.specs.RefusalLaws.{span-unique}
 use Rattle.common.specs.Turn.{Turn, go, stop, found, firstTurn, Ahead, Adv}
-use Rattle.fence.specs.Fence.{Fence, at, runEnd, runLine, after, begins, closes, closedAt, closeEnd, fenceAt, pickTurn, openLine, openTurn, view, firstOpen, spanOf, placeOf, answer, state}
+use Rattle.common.specs.Items.{said, placeOf}
+use Rattle.common.specs.ItemLaws.{step-long, step-past, step-seen}
+use Rattle.fence.specs.Fence.{Fence, at, runEnd, runLine, after, begins, closes, closedAt, closeEnd, fenceAt, openLine, openTurn, view, firstOpen, answer, state}
 use Rattle.fence.specs.Steps.{CloseTurned, Kept}
 use Rattle.fence.specs.declared.FenceIter.{FenceIter}
 use Rattle.fence.specs.declared.FenceStep.{FenceStep}
@@ -328,15 +330,15 @@ pub turn-adv : (g : FenceIter) (s : List ℕ) → Adv Lies (openTurn g s) (lengt
 unfolding openTurn
 turn-adv g s = record { ahead = λ q h. by q h (find (is (g .byte)) s q) (sought (is (g .byte)) s q (find (is (g .byte)) s q) refl) (ltb (find (is (g .byte)) s q) (length s)) refl }
   where
-    line : (q p : ℕ) → q ≤ p → holds (is (g .byte)) s p ≡ true → (y : Bool) → Ahead Lies q (length s) (pickTurn y (found (fenceAt g s p) (fenceAt g s p .end)) (go (after g s p)))
+    line : (q p : ℕ) → q ≤ p → holds (is (g .byte)) s p ≡ true → (y : Bool) → Ahead Lies q (length s) (cond y (found (fenceAt g s p) (fenceAt g s p .end)) (go (after g s p)))
     line q p h here true = let w = fence-lies g s p here in (omega arith, omega arith, (omega arith, omega arith, omega arith))
     line q p h here false = let w = fence-lies g s p here in (omega arith, omega arith)
 
-    start : (q p : ℕ) → q ≤ p → holds (is (g .byte)) s p ≡ true → (y : Bool) → Ahead Lies q (length s) (pickTurn y (openLine g s p) (go (p + 1)))
+    start : (q p : ℕ) → q ≤ p → holds (is (g .byte)) s p ≡ true → (y : Bool) → Ahead Lies q (length s) (cond y (openLine g s p) (go (p + 1)))
     start q p h here true = line q p h here (unlocks g s p (runEnd g s p) (runLine g s p))
     start q p h here false = let w = holds-true (is (g .byte)) s p here in (omega arith, omega arith)
 
-    by : (q : ℕ) → q ≤ length s → (p : ℕ) → Sought (is (g .byte)) s q p → (x : Bool) → ltb p (length s) ≡ x → Ahead Lies q (length s) (pickTurn x (pickTurn (lineStart (g .eol) s p) (openLine g s p) (go (p + 1))) (stop q))
+    by : (q : ℕ) → q ≤ length s → (p : ℕ) → Sought (is (g .byte)) s q p → (x : Bool) → ltb p (length s) ≡ x → Ahead Lies q (length s) (cond x (cond (lineStart (g .eol) s p) (openLine g s p) (go (p + 1))) (stop q))
     by q h p hp true e = start q p (hp .low) (turn-byte g s q p hp (ltb-true p (length s) e)) (lineStart (g .eol) s p)
     by q h p hp false e = (omega arith, h)
 
@@ -344,31 +346,18 @@ turn-adv g s = record { ahead = λ q h. by q h (find (is (g .byte)) s q) (sought
 module _ (g : FenceIter) (s : List ℕ) where
   pub next-long : 4294967295 < length s → Steps (answer g s) (state g s) (refused 1) g
   unfolding answer state
-  next-long l = record { answer = rw (lt-ltb 4294967295 (length s) l); next = rw (lt-ltb 4294967295 (length s) l) }
+  next-long = step-long spanValues at g s (g .pos) (firstOpen g s)
 
   module _ (fits : length s ≤ 4294967295) where
     pub next-outside : length s < g .pos → Steps (answer g s) (state g s) (refused 2) g
     unfolding answer state
-    next-outside l = record {
-      answer = rw (le-ltb 4294967295 (length s) fits, lt-ltb (length s) (g .pos) l);
-      next = rw (le-ltb 4294967295 (length s) fits, lt-ltb (length s) (g .pos) l);
-    }
+    next-outside l = step-past spanValues at g s (g .pos) (firstOpen g s) l fits
 
-    module _ (inside : g .pos ≤ length s) where
-      pub next-answer : answer g s ≡ spanOf (firstOpen g s)
-      unfolding answer
-      next-answer = rw (le-ltb 4294967295 (length s) fits, le-ltb (length s) (g .pos) inside)
-
-      pub next-state : state g s ≡ at g (placeOf (firstOpen g s))
-      unfolding state
-      next-state = rw (le-ltb 4294967295 (length s) fits, le-ltb (length s) (g .pos) inside)
-
-      -- d is the code's turn, e what a `match` told that d is, h the state that comes back
-      pub next-told : (d e : Told) (h : FenceIter) (o : Outcome) → d ≡ e → Gives (firstTurn (openTurn g s) (length s) (g .pos)) (view d) → o ≡ spanOf (view e) → Gives (at g (placeOf (view e))) h → Steps (answer g s) (state g s) o h
-      unfolding firstOpen
-      next-told d e h o r first u m =
-          let t : view e ≡ firstOpen g s = sym (ap view r) ∙ first .answer in
-          record { answer = u ∙ ap spanOf t ∙ sym next-answer; next = m .answer ∙ ap (λ (x : Turn Fence). at g (placeOf x)) t ∙ sym next-state }
+    -- d is the code's turn, e what a `match` told that d is, h the state that comes back
+    pub next-told : g .pos ≤ length s → (d e : Told) (h : FenceIter) (o : Outcome) → d ≡ e → Gives (firstTurn (openTurn g s) (length s) (g .pos)) (view d) → o ≡ said spanValues (view e) → Gives (at g (placeOf (view e))) h
+        → Steps (answer g s) (state g s) o h
+    unfolding answer state firstOpen
+    next-told inside d e h o = step-seen spanValues at g s (g .pos) (firstOpen g s) inside fits view d e o h
 
 -- ---- two results of a step that keep its promise are one
 pub next-unique : (g : FenceIter) (s : List ℕ) (r r′ : FenceStep) → Kept g s r → Kept g s r′ → (r .found ≡ r′ .found) × (r .next ≡ r′ .next)

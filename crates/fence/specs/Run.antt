@@ -8,18 +8,18 @@ use native.Mathlib.Omega.{arith}
 use lib.Dec.{ltb}
 use lib.ListN.{length}
 use borrow.Author.Tests.{lt-ltb, le-ltb, ltb-true, ltb-false}
+use Rattle.search.specs.Promise.{Steps}
 use Rattle.search.specs.Search.{is, find, firstPlace, Sought, lineStart}
 use Rattle.search.specs.SearchLaws.{decide, and-true, first-ge, first-at, sought}
 use Rattle.common.specs.Fences.{runCount}
-use Rattle.common.specs.RefusalLaws.{span-unique}
-use Rattle.common.specs.Refusals.{toldSpan}
-use Rattle.common.specs.Turn.{Turn, go, stop, found, thenCollect, firstTurn, allFound, Ahead, Adv, Step, yields, ends, drain, stepOf}
+use Rattle.common.specs.Refusals.{Outcome, spanValues, spanBack, toldSpan}
+use Rattle.common.specs.Items.{stepFor}
+use Rattle.common.specs.ItemLaws.{step-taken}
+use Rattle.common.specs.Turn.{Turn, go, stop, found, thenCollect, firstTurn, allFound, Ahead, Adv, Step, yields, drain, stepOf}
 use Rattle.common.specs.TurnLaws.{collect-stop, collect-found, collect-alike, drain-state, all-only}
-use Rattle.common.specs.declared.span.SpanFound.{SpanFound}
-use Rattle.common.specs.declared.span.SpanFound.the-variants as spanned
-use Rattle.fence.specs.Fence.{Fence, fresh, at, runEnd, runLine, after, begins, opens, closes, closedAt, closeEnd, fenceAt, nextAt, nextFence, fences, openTurn, firstOpen, spanOf, placeOf}
-use Rattle.fence.specs.Steps.{Kept, stepWith, toldStep, stepped}
-use Rattle.fence.specs.Laws.{begins-true, unlocks, unlocks-parts, first-gone, first-skip, first-miss, first-meet, Lies, fence-lies, turn-adv, turn-stop, turn-skip, turn-line, next-answer, next-state}
+use Rattle.fence.specs.Fence.{Fence, fresh, at, runEnd, runLine, after, begins, opens, closes, closedAt, closeEnd, fenceAt, nextAt, nextFence, fences, openTurn, firstOpen, answer, state}
+use Rattle.fence.specs.Steps.{Kept, toldStep, stepped}
+use Rattle.fence.specs.Laws.{begins-true, unlocks, unlocks-parts, first-gone, first-skip, first-miss, first-meet, Lies, fence-lies, turn-adv, turn-stop, turn-skip, turn-line}
 use Rattle.fence.specs.declared.FenceIter.{FenceIter}
 use Rattle.fence.specs.declared.FenceStep.{FenceStep}
 
@@ -95,18 +95,10 @@ module _ (g : FenceIter) (s : List ℕ) where
   turns-find = all-only (turn-adv g s) (allFound (nextFence g s) (length s)) turn-keeps
 
 -- ---- steps
--- a result that keeps the promise of `next` is the step
-pub kept-step : (g : FenceIter) (s : List ℕ) (r : FenceStep) → length s ≤ 4294967295 → g .pos ≤ length s → Kept g s r → toldStep r ≡ stepped g s
-unfolding stepped
-kept-step g s r fits inside w = by (firstOpen g s) (w .answer ∙ next-answer g s fits inside) (w .next ∙ next-state g s fits inside)
-  where
-    is-found : (d : SpanFound) → toldSpan (r .found) ≡ toldSpan d → r .found ≡ d
-    is-found d e = span-unique {o = toldSpan d} {r = r .found} {r′ = d} (record { answer = e }) (record { answer = refl })
-
-    by : (t : Turn Fence) → toldSpan (r .found) ≡ spanOf t → r .next ≡ at g (placeOf t) → toldStep r ≡ stepOf (at g) t
-    by (go n) e m = ap (stepWith (r .next)) (is-found spanned.Nothing e) ∙ ap ends m
-    by (stop v) e m = ap (stepWith (r .next)) (is-found spanned.Nothing e) ∙ ap ends m
-    by (found f n) e m = ap (stepWith (r .next)) (is-found (spanned.At (record { start = f .start; end = f .end })) e) ∙ ap (yields f) m
+-- what keeps the promise of `next` is the step
+pub kept-step : (g : FenceIter) (s : List ℕ) (o : Outcome) (n : FenceIter) → length s ≤ 4294967295 → g .pos ≤ length s → Steps (answer g s) (state g s) o n → stepFor spanBack (o .values) n ≡ stepped g s
+unfolding stepped answer state
+kept-step g s o n fits inside = step-taken spanValues spanBack (λ f n. refl) at g s (g .pos) (firstOpen g s) inside fits o n
 
 -- the place of a state does not change the turns
 module _ (g : FenceIter) (s : List ℕ) (q : ℕ) where
@@ -149,7 +141,7 @@ module _ (byte min eol sep tab : ℕ) (s : List ℕ) (n : ℕ) (enough : length 
   unfolding fences
   run-kept next keeps fits =
       let g = fresh byte min eol sep tab in
-      run-from g s n (omega arith) enough (λ h. toldStep (next h)) (λ q i. kept-step (at g q) s (next (at g q)) fits i (keeps q i))
+      run-from g s n (omega arith) enough (λ h. toldStep (next h)) (λ q i. kept-step (at g q) s (toldSpan (next (at g q) .found)) (next (at g q) .next) fits i (keeps q i))
 
 -- one step more yields nothing
 pub run-ends : (byte min eol sep tab : ℕ) (s : List ℕ) → drain (λ h. stepped h s) (suc (length (fences (fresh byte min eol sep tab) s))) (fresh byte min eol sep tab) ≡ fences (fresh byte min eol sep tab) s

@@ -4,10 +4,9 @@ use mathlib.Core.List.{List}
 use Prim.Native.Nat.{ℕ, _≤_, _<_}
 use lib.ListN.{length}
 use Rattle.search.specs.Promise.{Steps}
-use Rattle.common.specs.Refusals.{toldSpan}
-use Rattle.common.specs.Turn.{Step, yields, ends, stepOf}
-use Rattle.common.specs.declared.span.SpanFound.{SpanFound}
-use Rattle.common.specs.declared.span.SpanFound.the-variants as spanned
+use Rattle.common.specs.Refusals.{spanBack, toldSpan}
+use Rattle.common.specs.Items.{stepFor}
+use Rattle.common.specs.Turn.{Step, stepOf}
 use Rattle.fence.specs.Fence.{Fence, at, closeEnd, firstOpen, answer, state}
 use Rattle.fence.specs.declared.FenceIter.{FenceIter}
 use Rattle.fence.specs.declared.FenceStep.{FenceStep}
@@ -24,14 +23,9 @@ abbrev pub Kept : FenceIter → List ℕ → FenceStep → Type 0
 Kept g s r = Steps (answer g s) (state g s) (toldSpan (r .found)) (r .next)
 
 -- ---- steps of a run
--- the step that an answer and the state that comes with it make: a fence and the state after it, or the state at the end
-abbrev pub stepWith : FenceIter → SpanFound → Step Fence FenceIter
-stepWith n (spanned.At p) = yields (record { start = p .start; end = p .end }) n
-stepWith n spanned.Nothing = ends n
-stepWith n (spanned.Refused r) = ends n
-
+-- the step that a result makes: a fence and the state after it, or the state at the end
 abbrev pub toldStep : FenceStep → Step Fence FenceIter
-toldStep r = stepWith (r .next) (r .found)
+toldStep r = stepFor spanBack (toldSpan (r .found) .values) (r .next)
 
 -- the step from a state within a text of at most 4,294,967,295 bytes
 unfoldable pub stepped : FenceIter → List ℕ → Step Fence FenceIter
