@@ -5,13 +5,14 @@ use mathlib.Core.List.{List, [], _∷_, map, append-nil}
 use Prim.Native.Nat.{ℕ, _/_, _≤_}
 use native.Mathlib.Omega.{arith}
 use lib.ListN.{length, getD, drop, length-append, length-drop}
-use borrow.Author.Tests.{le-ltb}
+use borrow.Author.Tests.{le-ltb, eq-eqb}
 use Rattle.search.specs.Promise.{Gives}
+use Rattle.search.specs.SearchLaws.{clash}
 use Rattle.common.specs.Grammars.{house}
 use Rattle.common.specs.Entry.{flatten, rows, room, Shaped, over}
 use Rattle.common.specs.EntryLaws.{length-flatten, rows-flatten, holds-shaped}
 use Rattle.common.specs.Refusals.{Outcome, given, refused, numberOf, told}
-use Rattle.common.specs.ItemLaws.{number-some}
+use Rattle.common.specs.RefusalLaws.{number-some}
 use Rattle.common.specs.declared.grammar.Grammar.{Grammar}
 use Rattle.common.specs.declared.refusal.Answer.{Answer}
 use Rattle.common.specs.declared.refusal.Answer.the-variants.{Value, Refused}
@@ -33,7 +34,7 @@ value-is : (n : ℕ) (l : List ℕ) → given (n ∷ []) ≡ given l → getD l 
 value-is n l e = sym (ap (λ (o : Outcome). getD (o .values) 0 0) e)
 
 never : {A : Type 0} (x : Refusal) (l : List ℕ) → refused (numberOf x) ≡ given l → A
-never x l e = absurd (number-some x (ap (λ (o : Outcome). o .number) e))
+never x l e = absurd (clash (eq-eqb (numberOf x) 0 (ap (λ (o : Outcome). o .number) e)) (number-some x))
 
 -- writing over the front of a run keeps its length
 over-length : (l out : List ℕ) → length l ≤ length out → length (over l out) ≡ length out

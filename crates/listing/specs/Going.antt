@@ -1,21 +1,34 @@
--- What a loop knows that steps a state and puts a line for each thing that comes. Assumes nothing.
+-- What a loop knows that steps a state and puts a line for each thing that comes, and which scanners are stepped so. Assumes nothing.
 use mathlib.Core.Path.{_≡_}
+use mathlib.Core.Bool.{Bool}
 use mathlib.Core.List.{List, [], _∷_, _++_}
 use Prim.Native.Nat.{ℕ, suc, _+_, _≤_}
 use lib.ListN.{length}
 use Rattle.common.specs.Entry.{putAt}
 use Rattle.common.specs.Refusals.{Outcome}
+use Rattle.common.specs.Items.{stepFor}
 use Rattle.common.specs.Turn.{Step, yields, ends, drain}
+use Rattle.common.specs.Scanning.{Scanner, answer, state}
+use Rattle.fence.specs.Fence as fence
+use Rattle.fence.specs.declared.FenceIter.{FenceIter}
+use Rattle.cont.specs.Cont as cont
+use Rattle.cont.specs.declared.ContIter.{ContIter}
 use Rattle.listing.specs.Lines.{lines}
+use Rattle.listing.specs.Listing.{fencesOf, frameLines}
+
+-- a step with other things
+abbrev pub mapStep : {A B S : Type 0} → (A → B) → Step A S → Step B S
+mapStep f (yields a g) = yields (f a) g
+mapStep f (ends g) = ends g
+
+-- values that are none, or those of a thing, which `back` reads back from them: a state's step with the values is one with the thing
+abbrev pub Reads : (S : Type 0) {A : Type 0} → (A → List ℕ) → (List ℕ → A) → List ℕ → Type 0
+Reads S values back l = (n : S) → stepFor (λ v. v) l n ≡ mapStep values (stepFor back l n)
 
 module _ {S : Type 0} where
-  -- the step of an answer's values, and the state that comes with it: no values are the end
-  abbrev pub stepFor : List ℕ → S → Step (List ℕ) S
-  stepFor [] g = ends g
-  stepFor (x ∷ l) g = yields (x ∷ l) g
-
-  abbrev pub stepBy : Outcome → S → Step (List ℕ) S
-  stepBy o g = stepFor (o .values) g
+  -- a state's step, by the values of what it answers and the state after it: no values are the end
+  unfoldable pub valueStep : (S → Outcome) → (S → S) → S → Step (List ℕ) S
+  valueStep answer state g = stepFor (λ v. v) (answer g .values) (state g)
 
   module _ (step : S → Step (List ℕ) S) where
     -- a state whose steps yield these values, and then nothing
@@ -33,3 +46,16 @@ module _ {S : Type 0} where
       pub here : k ≡ n₀ + length done
       pub list : out ≡ putAt n₀ done out₀
       pub fits : n₀ + length all ≤ 1000000
+
+-- ---- what the loops over the scanners know
+-- over an item scanner, that puts lines of a letter
+abbrev pub Itemizing : {S A : Type 0} → Scanner S A → List Bool → List ℕ → ℕ → List ℕ → ℕ → List ℕ → S → List ℕ → ℕ → Type 0
+Itemizing c set s letter all = Going (valueStep (λ g. answer c g set s) (λ g. state c g set s)) letter (λ v. v) all
+
+-- over the fence scanner, that puts the fences of a byte
+abbrev pub Fencing : ℕ → List ℕ → ℕ → List ℕ → FenceIter → List ℕ → ℕ → Type 0
+Fencing byte s = Going (valueStep (λ g. fence.answer g s) (λ g. fence.state g s)) 70 (λ v. v ++ (byte ∷ [])) (fencesOf byte s)
+
+-- over the scanner of frames
+abbrev pub Framing : List ℕ → ℕ → List ℕ → ContIter → List ℕ → ℕ → Type 0
+Framing s = Going (valueStep (λ g. cont.answer g s) (λ g. cont.state g s)) 67 (λ v. v) (frameLines s)

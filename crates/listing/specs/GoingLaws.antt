@@ -1,16 +1,20 @@
 -- The rules of a loop that steps a state and puts a line for each thing that comes. Assumes nothing.
 use mathlib.Core.Path.{_≡_, refl, sym, ap, _∙_}
+use mathlib.Core.Bool.{Bool, true, false}
 use mathlib.Core.List.{List, [], _∷_, _++_, map, append-assoc, append-nil}
 use Prim.Native.Nat.{ℕ, zero, suc, _+_, _-_, _≤_, _<_}
 use native.Mathlib.Omega.{arith}
-use lib.ListN.{length, length-append}
+use lib.ListN.{length, length-append, length-map}
+use Rattle.search.specs.Promise.{Steps}
 use Rattle.common.specs.Entry.{putAt}
 use Rattle.common.specs.EntryLaws.{length-put}
+use Rattle.common.specs.Refusals.{Outcome, refuse}
+use Rattle.common.specs.Items.{stepFor}
 use Rattle.common.specs.Turn.{Step, yields, ends, thenDrain, drain}
 use Rattle.listing.specs.Lines.{line, lines}
 use Rattle.listing.specs.Put.{Laid, Put, Room}
 use Rattle.listing.specs.PutLaws.{put-append}
-use Rattle.listing.specs.Going.{Yields, Going}
+use Rattle.listing.specs.Going.{mapStep, valueStep, Reads, Yields, Going}
 
 -- lines of what is made of each thing
 pub lines-map : {A B : Type 0} (letter : ℕ) (row : B → List ℕ) (f : A → B) (l : List A) → lines letter row (map f l) ≡ lines letter (λ a. row (f a)) l
@@ -18,10 +22,6 @@ lines-map letter row f [] = refl
 lines-map letter row f (a ∷ l) = ap (λ (x : List ℕ). line letter (row (f a)) ++ x) (lines-map letter row f l)
 
 -- ---- steps with other things
-abbrev pub mapStep : {A B S : Type 0} → (A → B) → Step A S → Step B S
-mapStep f (yields a g) = yields (f a) g
-mapStep f (ends g) = ends g
-
 pub drain-map : {A B S : Type 0} (f : A → B) (next : S → Step A S) (next′ : S → Step B S) → ((g : S) → next′ g ≡ mapStep f (next g)) → (n : ℕ) (g : S) → drain next′ n g ≡ map f (drain next n g)
 unfolding drain
 drain-map f next next′ same zero g = refl
@@ -86,3 +86,33 @@ module _ {S : Type 0} {step : S → Step (List ℕ) S} where
 
       pub going-same : length out ≡ length out₀
       going-same = ap length (i .list) ∙ length-put n₀ (i .done) out₀
+
+-- ---- the ways through a loop over a scanner: f is a step's answer, e what a `match` told that it is, and `told` what such a value says
+module _ (S : Type 0) {F : Type 0} (told : F → Outcome) (answer : S → Outcome) (state : S → S) where
+  value-step : (g : S) {n : S} {f e : F} → f ≡ e → Steps (answer g) (state g) (told f) n → valueStep answer state g ≡ stepFor (λ v. v) (told e .values) n
+  unfolding valueStep
+  value-step g {n} m w = ap (stepFor (λ v. v) (answer g .values)) (sym (w .next)) ∙ ap (λ (o : Outcome). stepFor (λ v. v) (o .values) n) (sym (w .answer)) ∙ ap (λ (f : F). stepFor (λ v. v) (told f .values) n) m
+
+  module _ {letter : ℕ} {row : List ℕ → List ℕ} {all : List ℕ} {n₀ k : ℕ} {out₀ out : List ℕ} {g : S} (i : Going (valueStep answer state) letter row all n₀ out₀ g out k) {f e : F} {n : S} (m : f ≡ e)
+      (w : Steps (answer g) (state g) (told f) n) where
+    pub lines-again : stepFor (λ v. v) (told e .values) n ≡ yields (told e .values) n → {b k′ : ℕ} {out′ : List ℕ} → Put b (line letter (row (told e .values))) k out out′ k′ → Going (valueStep answer state) letter row all n₀ out₀ n out′ k′
+    lines-again y v = going-again i (value-step g m w ∙ y) v
+
+    pub lines-less : stepFor (λ v. v) (told e .values) n ≡ yields (told e .values) n → {b k′ : ℕ} {out′ : List ℕ} → Put b (line letter (row (told e .values))) k out out′ k′ → 1000000 - k′ < 1000000 - k
+    lines-less y v = going-less i (value-step g m w ∙ y) v
+
+    pub lines-end : stepFor (λ v. v) (told e .values) n ≡ ends n → Laid all n₀ out₀ out k
+    lines-end y = going-end i (value-step g m w ∙ y)
+
+-- ---- the beginning of such a loop, of things that have values and are read back from them
+module _ {S A : Type 0} (values : A → List ℕ) (back : List ℕ → A) where
+  pub reads-refuse : (k : ℕ) (b : Bool) (o : Outcome) → Reads S values back (o .values) → Reads S values back (refuse k b o .values)
+  reads-refuse k true o r n = refl
+  reads-refuse k false o r n = r n
+
+  module _ (answer : S → Outcome) (state : S → S) (reads : (g : S) → Reads S values back (answer g .values)) where
+    pub yields-values : (g : S) (l : List A) → ((n : ℕ) → length l ≤ n → drain (λ k. stepFor back (answer k .values) (state k)) n g ≡ l) → Yields (valueStep answer state) g (map values l)
+    unfolding valueStep
+    yields-values g l run =
+        yields-all (λ n h.
+        drain-map values (λ k. stepFor back (answer k .values) (state k)) (valueStep answer state) (λ k. reads k (state k)) n g ∙ ap (map values) (run n (omega (arith, length-map l values))))

@@ -1,6 +1,6 @@
 -- The bytes that lead the house's items are bytes, and a sheet's items are those. Assumes nothing.
 use mathlib.Core.Path.{_≡_, refl}
-use mathlib.Core.Bool.{true, false, _&&_}
+use mathlib.Core.Bool.{Bool, true, false, _&&_}
 use mathlib.Core.List.{List, [], _∷_}
 use mathlib.Core.Logic.{_⊎_, inl, inr}
 use Prim.Native.Nat.{ℕ, _+_, _-_, _<_}
@@ -12,7 +12,8 @@ use Rattle.common.specs.Rules.{tabulate}
 use Rattle.search.specs.Search.{find, oneOf, back, holds}
 use Rattle.search.specs.SearchLaws.{decide, clash, find-at}
 use Rattle.common.specs.Sets.{acceptedFrom}
-use Rattle.common.specs.Items.{ItemGrammar, blank, leads}
+use Rattle.common.specs.Items.{ItemGrammar, blank, leads, hitTurn}
+use Rattle.common.specs.Scanning.{Scanner, byNeedles, turn}
 use Rattle.common.specs.ItemLaws.{both}
 use Rattle.common.specs.Turn.{Turn, Each, OnFound}
 use Rattle.block_marker.specs.Marker as marker
@@ -57,43 +58,32 @@ Mark i = i .marker < 256
 abbrev pub Delimiter : NumberedItem → Type 0
 Delimiter i = i .delimiter < 256
 
-pub mark-byte : (s : List ℕ) (q : ℕ) → OnFound Mark (marker.turn (marker.fresh 10 32 9 houseMarkers) houseMarkers s q)
-unfolding marker.turn marker.streamTurn
-mark-byte s q = both (λ (t : ℕ → Turn MarkerItem). OnFound Mark (t q)) (marker.fresh 10 32 9 houseMarkers .streaming) _ _ (λ e. streamed) (λ e. absurd (clash mark-streams e))
-  where
-    g : ItemGrammar
-    g = marker.byNeedles (marker.fresh 10 32 9 houseMarkers)
+-- a fresh state that streams finds what its hits find
+streams-find : {S A : Type 0} (c : Scanner S A) (P : A → Type 0) (g : S) (set : List Bool) (s : List ℕ) (q : ℕ) → c .fields g .streaming ≡ true → OnFound P (c .streams (byNeedles (c .fields g)) s q)
+    → OnFound P (turn c g set s q)
+unfolding turn
+streams-find {A = A} c P g set s q e w = both (λ (t : ℕ → Turn A). OnFound P (t q)) (c .fields g .streaming) _ _ (λ u. w) (λ u. absurd (clash e u))
 
-    p : ℕ
-    p = find (g .accepts) s q
+hit-finds : {A : Type 0} (g : ItemGrammar) (hit : ℕ → Turn A) (P : A → Type 0) (s : List ℕ) (q : ℕ) → ((p : ℕ) → g .accepts (getD s p 0) ≡ true → OnFound P (hit p)) → OnFound P (hitTurn g hit s q)
+hit-finds g hit P s q f =
+    let p = find (g .accepts) s q in
+    both (OnFound P) (ltb p (length s)) _ _ (λ u. f p (find-at (g .accepts) s q (ltb-true p (length s) u))) (λ u. tt)
 
-    streamed : OnFound Mark (marker.streamTurn g s q)
-    streamed =
-        both (OnFound Mark) (ltb p (length s)) _ _
-        (λ u.
-        both (OnFound Mark) (leads (g .eol) (g .sep) (g .tab) s p && holds (blank g) s (p + 1)) _ _ (λ v. mark-needles (getD s p 0) (find-at (g .accepts) s q (ltb-true p (length s) u))) (λ v. tt))
-        (λ u. tt)
+pub mark-byte : (s : List ℕ) (q : ℕ) → OnFound Mark (turn marker.scanner (marker.fresh 10 32 9 houseMarkers) houseMarkers s q)
+unfolding marker.streamTurn
+mark-byte s q =
+    let g = byNeedles (marker.scanner .fields (marker.fresh 10 32 9 houseMarkers)) in
+    streams-find marker.scanner Mark (marker.fresh 10 32 9 houseMarkers) houseMarkers s q mark-streams
+    (hit-finds g (marker.streamHit g s) Mark s q (λ p y. both (OnFound Mark) (leads (g .eol) (g .sep) (g .tab) s p && holds (blank g) s (p + 1)) _ _ (λ v. mark-needles (getD s p 0) y) (λ v. tt)))
 
-pub number-byte : (s : List ℕ) (q : ℕ) → OnFound Delimiter (numbered.turn (numbered.fresh 10 32 9 houseDelims) houseDelims s q)
-unfolding numbered.turn numbered.streamTurn
-number-byte s q = both (λ (t : ℕ → Turn NumberedItem). OnFound Delimiter (t q)) (numbered.fresh 10 32 9 houseDelims .streaming) _ _ (λ e. streamed) (λ e. absurd (clash number-streams e))
-  where
-    g : ItemGrammar
-    g = numbered.byNeedles (numbered.fresh 10 32 9 houseDelims)
-
-    p : ℕ
-    p = find (g .accepts) s q
-
-    n : ℕ
-    n = back numbered.digit s p
-
-    streamed : OnFound Delimiter (numbered.streamTurn g s q)
-    streamed =
-        both (OnFound Delimiter) (ltb p (length s)) _ _
-        (λ u.
-        both (OnFound Delimiter) (numbered.oneToNine n && (leads (g .eol) (g .sep) (g .tab) s (p - n) && holds (blank g) s (p + 1))) _ _
-        (λ v. number-needles (getD s p 0) (find-at (g .accepts) s q (ltb-true p (length s) u))) (λ v. tt))
-        (λ u. tt)
+pub number-byte : (s : List ℕ) (q : ℕ) → OnFound Delimiter (turn numbered.scanner (numbered.fresh 10 32 9 houseDelims) houseDelims s q)
+unfolding numbered.streamTurn
+number-byte s q =
+    let g = byNeedles (numbered.scanner .fields (numbered.fresh 10 32 9 houseDelims)) in
+    let digits = back numbered.digit s in
+    streams-find numbered.scanner Delimiter (numbered.fresh 10 32 9 houseDelims) houseDelims s q number-streams
+    (hit-finds g (λ p. numbered.streamHit g s p (back numbered.digit s p)) Delimiter s q
+    (λ p y. both (OnFound Delimiter) (numbered.oneToNine (digits p) && (leads (g .eol) (g .sep) (g .tab) s (p - digits p) && holds (blank g) s (p + 1))) _ _ (λ v. number-needles (getD s p 0) y) (λ v. tt)))
 
 -- ---- what all items have, those of a sheet have
 module _ (P : SheetItem → Type 0) where

@@ -7,10 +7,7 @@ pub mod PutLaws
 pub mod PartLaws
 pub mod Going
 pub mod GoingLaws
-pub mod FenceLines
-pub mod FrameLines
-pub mod MarkerLines
-pub mod NumberedLines
+pub mod ScannerLines
 pub mod Held
 pub mod HeldLaws
 pub mod FoundLaws

@@ -7,12 +7,13 @@ use lib.Dec.{eqb, ltb}
 use lib.ListN.{length}
 use Rattle.common.specs.Entry.{flatten, over}
 use Rattle.common.specs.Grammars.{house}
-use Rattle.common.specs.Refusals.{Outcome, given, refuse}
+use Rattle.common.specs.Refusals.{Outcome, given, refuse, spanValues}
 use Rattle.common.specs.Sets.{setOf}
 use Rattle.common.specs.declared.span.Span.{Span}
 use Rattle.fence.specs.Fence as fence
 use Rattle.cont.specs.Frames.{frames}
 use Rattle.cont.specs.Cont as cont
+use Rattle.common.specs.Scanning.{Scanner, fresh, items}
 use Rattle.block_marker.specs.Marker as marker
 use Rattle.block_numbered.specs.Numbered as numbered
 use Rattle.region.specs.Region.{Caused, pair}
@@ -51,18 +52,22 @@ fencesOf byte s = lines 70 (fenceRow byte) (fence.fences (fence.fresh byte 3 10 
 
 -- ---- "`C` start end": "continuation `>`, nest 8"
 abbrev pub frameRow : Span → List ℕ
-frameRow f = f .start ∷ f .end ∷ []
+frameRow = spanValues
 
 unfoldable pub frameLines : List ℕ → List ℕ
 frameLines s = lines 67 frameRow (frames (cont.marksOf (cont.fresh 62 10 32 9 8)) s)
 
--- ---- "`M` start end marker byte": all items that a fresh state has before it
-unfoldable pub markerLines : List ℕ → List ℕ
-markerLines s = lines 77 marker.values (marker.items (marker.fresh 10 32 9 houseMarkers) houseMarkers s)
+-- ---- items, a line of their values for each: all that a fresh state has before it
+abbrev pub itemsOf : {S A : Type 0} → Scanner S A → ℕ → List Bool → List ℕ → List ℕ
+itemsOf c letter set s = lines letter (c .values) (items c (fresh c 10 32 9 set) set s)
 
--- ---- "`N` start end delimiter number"
+-- "`M` start end marker byte"
+unfoldable pub markerLines : List ℕ → List ℕ
+markerLines s = itemsOf marker.scanner 77 houseMarkers s
+
+-- "`N` start end delimiter number"
 unfoldable pub numberedLines : List ℕ → List ℕ
-numberedLines s = lines 78 numbered.values (numbered.items (numbered.fresh 10 32 9 houseDelims) houseDelims s)
+numberedLines s = itemsOf numbered.scanner 78 houseDelims s
 
 -- ---- "then `W` for sheet items, with their M or N fields": kind 0 is a marker
 abbrev pub sheetRow : SheetItem → List ℕ

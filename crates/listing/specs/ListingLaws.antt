@@ -3,7 +3,7 @@ use mathlib.Core.Path.{_≡_, sym, ap, _∙_}
 use mathlib.Core.Bool.{true, false}
 use mathlib.Core.List.{List, [], _∷_, _++_, append-nil}
 use mathlib.Core.Logic.{_⊎_, inl, inr}
-use Prim.Native.Nat.{ℕ, _+_, _≤_, _<_}
+use Prim.Native.Nat.{ℕ, _≤_, _<_}
 use native.Mathlib.Omega.{arith}
 use lib.Dec.{ltb}
 use lib.ListN.{length, getD, take, drop, length-append}
@@ -19,9 +19,9 @@ use Rattle.common.specs.declared.refusal.Answer.{Answer}
 use Rattle.common.specs.declared.refusal.Answer.the-variants.{Value}
 use Rattle.listing.specs.Lines.{line}
 use Rattle.listing.specs.Put.{Laid, Put, Room}
-use Rattle.listing.specs.PartLaws.{part-first, part-second, part-both}
+use Rattle.listing.specs.PartLaws.{entry-parts, part-first, part-second, part-both}
 use Rattle.listing.specs.Listing.{entries, listed, listingAnswer, listingRun, Listed}
-use Rattle.listing.specs.Parts.{laterLines, entry-parts}
+use Rattle.listing.specs.Parts.{laterLines}
 use Rattle.listing.specs.Held.{Held, heldLines}
 use Rattle.listing.specs.HeldLaws.{held-room, held-laid}
 use Rattle.listing.specs.SizeLaws.{entries-room, listed-most}

@@ -1,12 +1,21 @@
 -- A text's lines in two parts, put one behind the other: the room for them, and what is put. Assumes nothing.
-use mathlib.Core.Path.{_≡_, sym, ap, _∙_}
-use mathlib.Core.List.{List}
+use mathlib.Core.Path.{_≡_, refl, sym, ap, _∙_}
+use mathlib.Core.List.{List, append-assoc}
 use Prim.Native.Nat.{ℕ, _+_}
 use native.Mathlib.Omega.{arith}
 use lib.ListN.{length, length-append}
+use Rattle.listing.specs.Listing.{regionLines, entries}
 use Rattle.listing.specs.Put.{Laid, Room}
 use Rattle.listing.specs.PutLaws.{put-append}
-use Rattle.listing.specs.Parts.{Parts}
+use Rattle.listing.specs.Parts.{Parts, both, laterLines}
+
+pub both-parts : (first second : List ℕ → List ℕ) → Parts (both first second) first second
+unfolding both
+both-parts first second = record { same = λ s. refl }
+
+pub entry-parts : Parts entries regionLines laterLines
+unfolding entries both
+entry-parts = record { same = λ s. simp append-assoc }
 
 module _ {whole first second : List ℕ → List ℕ} (p : Parts whole first second) (s : List ℕ) where
   parts-size : length (whole s) ≡ length (first s) + length (second s)

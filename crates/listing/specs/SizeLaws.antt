@@ -21,6 +21,8 @@ use Rattle.fence.specs.Laws as fenceLaws
 use Rattle.fence.specs.Run as fenceRun
 use Rattle.cont.specs.Frames.{frames}
 use Rattle.cont.specs.Cont as cont
+use Rattle.common.specs.Scanning.{turn}
+use Rattle.common.specs.ScanningLaws.{turn-adv}
 use Rattle.block_marker.specs.Marker as marker
 use Rattle.block_marker.specs.MarkerRun as markerRun
 use Rattle.block_marker.specs.declared.MarkerItem.{MarkerItem}
@@ -135,7 +137,7 @@ module _ (s : List ℕ) (h : length s ≤ 8192) where
       let l = marker.items g houseMarkers s in
       let In : MarkerItem → Type 0 = λ i. (i .span .start ≤ 8192) × (i .span .end ≤ 8192) in
       each-as (λ i. In i × Mark i) (λ i. (i .span .start ≤ 8192) × (i .span .end ≤ 8192) × (i .marker < 256)) (λ i w. (w .0 .0, w .0 .1, w .1)) l
-      (each-both In Mark l (collect-each (markerRun.turn-adv g houseMarkers s) In (λ q n i k w. (omega arith, omega arith)) (suc (length s)) 0 (omega arith)) (collect-found Mark (marker.turn g houseMarkers s) (mark-byte s) (suc (length s)) 0))
+      (each-both In Mark l (collect-each (turn-adv markerRun.lawful g houseMarkers s) In (λ q n i k w. (omega arith, omega arith)) (suc (length s)) 0 (omega arith)) (collect-found Mark (turn marker.scanner g houseMarkers s) (mark-byte s) (suc (length s)) 0))
 
   numbers-fit : Each (λ i. (i .span .start ≤ 8192) × (i .span .end ≤ 8192) × (i .delimiter < 256) × (i .number < 1000000000)) (numbered.items (numbered.fresh 10 32 9 houseDelims) houseDelims s)
   numbers-fit =
@@ -143,20 +145,20 @@ module _ (s : List ℕ) (h : length s ≤ 8192) where
       let l = numbered.items g houseDelims s in
       let In : NumberedItem → Type 0 = λ i. (i .span .start ≤ 8192) × (i .span .end ≤ 8192) × (i .number < 1000000000) in
       each-as (λ i. In i × Delimiter i) (λ i. (i .span .start ≤ 8192) × (i .span .end ≤ 8192) × (i .delimiter < 256) × (i .number < 1000000000)) (λ i w. (w .0 .0, w .0 .1, w .1, w .0 .2)) l
-      (each-both In Delimiter l (collect-each (numberedRun.turn-adv g houseDelims s) In (λ q n i k w. (omega arith, omega arith, omega arith)) (suc (length s)) 0 (omega arith))
-      (collect-found Delimiter (numbered.turn g houseDelims s) (number-byte s) (suc (length s)) 0))
+      (each-both In Delimiter l (collect-each (turn-adv numberedRun.lawful g houseDelims s) In (λ q n i k w. (omega arith, omega arith, omega arith)) (suc (length s)) 0 (omega arith))
+      (collect-found Delimiter (turn numbered.scanner g houseDelims s) (number-byte s) (suc (length s)) 0))
 
   marker-most : length (markerLines s) ≤ 131072
   unfolding markerLines
   marker-most =
       let l = marker.items (marker.fresh 10 32 9 houseMarkers) houseMarkers s in
-      omega (arith, found-few (markerRun.turn-adv (marker.fresh 10 32 9 houseMarkers) houseMarkers s) (suc (length s)) 0 (omega arith), lines-most 77 16 marker.values l (each-as (λ i. (i .span .start ≤ 8192) × (i .span .end ≤ 8192) × (i .marker < 256)) (λ i. length (line 77 (marker.values i)) ≤ 16) (λ i w. three-most 77 (i .span .start) (i .span .end) (w .0) (w .1) (i .marker) (w .2)) l marks-fit))
+      omega (arith, found-few (turn-adv markerRun.lawful (marker.fresh 10 32 9 houseMarkers) houseMarkers s) (suc (length s)) 0 (omega arith), lines-most 77 16 marker.values l (each-as (λ i. (i .span .start ≤ 8192) × (i .span .end ≤ 8192) × (i .marker < 256)) (λ i. length (line 77 (marker.values i)) ≤ 16) (λ i w. three-most 77 (i .span .start) (i .span .end) (w .0) (w .1) (i .marker) (w .2)) l marks-fit))
 
   numbered-most : length (numberedLines s) ≤ 212992
   unfolding numberedLines
   numbered-most =
       let l = numbered.items (numbered.fresh 10 32 9 houseDelims) houseDelims s in
-      omega (arith, found-few (numberedRun.turn-adv (numbered.fresh 10 32 9 houseDelims) houseDelims s) (suc (length s)) 0 (omega arith), lines-most 78 26 numbered.values l (each-as (λ i. (i .span .start ≤ 8192) × (i .span .end ≤ 8192) × (i .delimiter < 256) × (i .number < 1000000000)) (λ i. length (line 78 (numbered.values i)) ≤ 26) (λ i w. four-most 78 (i .span .start) (i .span .end) (w .0) (w .1) (i .delimiter) (w .2) (i .number) (w .3)) l numbers-fit))
+      omega (arith, found-few (turn-adv numberedRun.lawful (numbered.fresh 10 32 9 houseDelims) houseDelims s) (suc (length s)) 0 (omega arith), lines-most 78 26 numbered.values l (each-as (λ i. (i .span .start ≤ 8192) × (i .span .end ≤ 8192) × (i .delimiter < 256) × (i .number < 1000000000)) (λ i. length (line 78 (numbered.values i)) ≤ 26) (λ i w. four-most 78 (i .span .start) (i .span .end) (w .0) (w .1) (i .delimiter) (w .2) (i .number) (w .3)) l numbers-fit))
 
   -- ---- the work sheet
   shown-fit : Each (λ i. length (line 87 (sheetRow i)) ≤ 26) (shown s)

@@ -1,7 +1,10 @@
 -- `put_fences_of` meets its contract. Assumes nothing.
 use Prim.Native.Nat.{_-_}
-use Rattle.listing.specs.FenceLines.{Fencing, fences-first, fences-again, fences-less, fences-none, fences-refused}
-use Rattle.listing.specs.GoingLaws.{going-same, going-here}
+use Rattle.common.specs.Refusals.{toldSpan}
+use Rattle.fence.specs.declared.FenceIter.{FenceIter}
+use Rattle.listing.specs.Going.{Fencing}
+use Rattle.listing.specs.ScannerLines.{fences-first}
+use Rattle.listing.specs.GoingLaws.{going-same, going-here, lines-less, lines-again, lines-end}
 use borrow.Author.Needs.{needs}
 use Rattle.listing.proofs.scans.put_fences_of.Statement.{statement}
 use Rattle.listing.proofs.scans.put_fences_of.Tie as tie
@@ -28,10 +31,10 @@ put-three-requires : tie.Need-put-three-requires Inv-loop μ-loop
 put-three-requires c κs = search going-here
 
 loop-less : tie.Need-loop-less Inv-loop μ-loop
-loop-less c = search fences-less
+loop-less c = search (lines-less FenceIter toldSpan)
 
 loop-again : tie.Need-loop-again Inv-loop μ-loop
-loop-again c = search fences-again
+loop-again c = search (lines-again FenceIter toldSpan)
 
 enum-told : tie.Need-enum-told Inv-loop μ-loop
 enum-told c = search needs
@@ -40,7 +43,7 @@ same-length : tie.Need-same-length Inv-loop μ-loop
 same-length c = search going-same
 
 returns : tie.Need-returns Inv-loop μ-loop
-returns c = search fences-none
+returns c = search (lines-end FenceIter toldSpan)
 
 enum-told-2 : tie.Need-enum-told-2 Inv-loop μ-loop
 enum-told-2 c = search needs
@@ -49,7 +52,7 @@ same-length-2 : tie.Need-same-length-2 Inv-loop μ-loop
 same-length-2 c = search going-same
 
 returns-2 : tie.Need-returns-2 Inv-loop μ-loop
-returns-2 c = search fences-refused
+returns-2 c = search (lines-end FenceIter toldSpan)
 
 pub put-fences-of-spec : {M : Type 1} → statement M
 put-fences-of-spec =

@@ -1,7 +1,10 @@
 -- `put_frames` meets its contract. Assumes nothing.
 use Prim.Native.Nat.{_-_}
-use Rattle.listing.specs.FrameLines.{Framing, frames-first, frames-again, frames-less, frames-none, frames-refused}
-use Rattle.listing.specs.GoingLaws.{going-same, going-here}
+use Rattle.common.specs.Refusals.{toldSpan}
+use Rattle.cont.specs.declared.ContIter.{ContIter}
+use Rattle.listing.specs.Going.{Framing}
+use Rattle.listing.specs.ScannerLines.{frames-first}
+use Rattle.listing.specs.GoingLaws.{going-same, going-here, lines-less, lines-again, lines-end}
 use borrow.Author.Needs.{needs}
 use Rattle.listing.proofs.scans.put_frames.Statement.{statement}
 use Rattle.listing.proofs.scans.put_frames.Tie as tie
@@ -28,10 +31,10 @@ put-two-requires : tie.Need-put-two-requires Inv-loop μ-loop
 put-two-requires c κs = search going-here
 
 loop-less : tie.Need-loop-less Inv-loop μ-loop
-loop-less c = search frames-less
+loop-less c = search (lines-less ContIter toldSpan)
 
 loop-again : tie.Need-loop-again Inv-loop μ-loop
-loop-again c = search frames-again
+loop-again c = search (lines-again ContIter toldSpan)
 
 enum-told : tie.Need-enum-told Inv-loop μ-loop
 enum-told c = search needs
@@ -40,7 +43,7 @@ same-length : tie.Need-same-length Inv-loop μ-loop
 same-length c = search going-same
 
 returns : tie.Need-returns Inv-loop μ-loop
-returns c = search frames-none
+returns c = search (lines-end ContIter toldSpan)
 
 enum-told-2 : tie.Need-enum-told-2 Inv-loop μ-loop
 enum-told-2 c = search needs
@@ -49,7 +52,7 @@ same-length-2 : tie.Need-same-length-2 Inv-loop μ-loop
 same-length-2 c = search going-same
 
 returns-2 : tie.Need-returns-2 Inv-loop μ-loop
-returns-2 c = search frames-refused
+returns-2 c = search (lines-end ContIter toldSpan)
 
 pub put-frames-spec : {M : Type 1} → statement M
 put-frames-spec =

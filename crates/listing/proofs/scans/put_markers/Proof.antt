@@ -1,13 +1,18 @@
 -- `put_markers` meets its contract. Assumes nothing.
 use Prim.Native.Nat.{_-_}
-use Rattle.listing.specs.MarkerLines.{Marking, markers-first, markers-again, markers-less, markers-none, markers-refused}
-use Rattle.listing.specs.GoingLaws.{going-same, going-here}
+use Rattle.block_marker.specs.Marker.{scanner, told}
+use Rattle.block_marker.specs.MarkerRun.{lawful}
+use Rattle.listing.specs.Listing.{houseMarkers, markerLines}
+use Rattle.block_marker.specs.declared.BlockMarkerIter.{BlockMarkerIter}
+use Rattle.listing.specs.Going.{Itemizing}
+use Rattle.listing.specs.ScannerLines.{items-first}
+use Rattle.listing.specs.GoingLaws.{going-same, going-here, lines-less, lines-again, lines-end}
 use borrow.Author.Needs.{needs}
 use Rattle.listing.proofs.scans.put_markers.Statement.{statement}
 use Rattle.listing.proofs.scans.put_markers.Tie as tie
 
 abbrev Inv-loop : tie.InvT-loop
-Inv-loop text set out₀ n state₀ k₀ out state k = Marking set text n out₀ state out k
+Inv-loop text set out₀ n state₀ k₀ out state k = Itemizing scanner set text 77 (markerLines text) n out₀ state out k
 
 abbrev μ-loop : tie.MeasureT-loop
 μ-loop text set out₀ n state₀ k₀ out state k = 1000000 - k
@@ -16,7 +21,8 @@ new-requires : tie.Need-new-requires Inv-loop μ-loop
 new-requires c κs = search needs
 
 loop-holds : tie.Need-loop-holds Inv-loop μ-loop
-loop-holds c = search (markers-first, needs)
+unfolding markerLines
+loop-holds c = search (items-first lawful 77 houseMarkers, needs)
 
 next-requires : tie.Need-next-requires Inv-loop μ-loop
 next-requires c κs = search needs
@@ -31,10 +37,10 @@ put-three-requires : tie.Need-put-three-requires Inv-loop μ-loop
 put-three-requires c κs = search going-here
 
 loop-less : tie.Need-loop-less Inv-loop μ-loop
-loop-less c = search markers-less
+loop-less c = search (lines-less BlockMarkerIter told)
 
 loop-again : tie.Need-loop-again Inv-loop μ-loop
-loop-again c = search markers-again
+loop-again c = search (lines-again BlockMarkerIter told)
 
 enum-told : tie.Need-enum-told Inv-loop μ-loop
 enum-told c = search needs
@@ -43,7 +49,7 @@ same-length : tie.Need-same-length Inv-loop μ-loop
 same-length c = search going-same
 
 returns : tie.Need-returns Inv-loop μ-loop
-returns c = search markers-none
+returns c = search (lines-end BlockMarkerIter told)
 
 enum-told-2 : tie.Need-enum-told-2 Inv-loop μ-loop
 enum-told-2 c = search needs
@@ -52,7 +58,7 @@ same-length-2 : tie.Need-same-length-2 Inv-loop μ-loop
 same-length-2 c = search going-same
 
 returns-2 : tie.Need-returns-2 Inv-loop μ-loop
-returns-2 c = search markers-refused
+returns-2 c = search (lines-end BlockMarkerIter told)
 
 pub put-markers-spec : {M : Type 1} → statement M
 put-markers-spec =

@@ -1,13 +1,18 @@
 -- `put_numbered` meets its contract. Assumes nothing.
 use Prim.Native.Nat.{_-_}
-use Rattle.listing.specs.NumberedLines.{Numbering, numbered-first, numbered-again, numbered-less, numbered-none, numbered-refused}
-use Rattle.listing.specs.GoingLaws.{going-same, going-here}
+use Rattle.block_numbered.specs.Numbered.{scanner, told}
+use Rattle.block_numbered.specs.NumberedRun.{lawful}
+use Rattle.listing.specs.Listing.{houseDelims, numberedLines}
+use Rattle.block_numbered.specs.declared.BlockNumberedIter.{BlockNumberedIter}
+use Rattle.listing.specs.Going.{Itemizing}
+use Rattle.listing.specs.ScannerLines.{items-first}
+use Rattle.listing.specs.GoingLaws.{going-same, going-here, lines-less, lines-again, lines-end}
 use borrow.Author.Needs.{needs}
 use Rattle.listing.proofs.scans.put_numbered.Statement.{statement}
 use Rattle.listing.proofs.scans.put_numbered.Tie as tie
 
 abbrev Inv-loop : tie.InvT-loop
-Inv-loop text set out₀ n state₀ k₀ out state k = Numbering set text n out₀ state out k
+Inv-loop text set out₀ n state₀ k₀ out state k = Itemizing scanner set text 78 (numberedLines text) n out₀ state out k
 
 abbrev μ-loop : tie.MeasureT-loop
 μ-loop text set out₀ n state₀ k₀ out state k = 1000000 - k
@@ -16,7 +21,8 @@ new-requires : tie.Need-new-requires Inv-loop μ-loop
 new-requires c κs = search needs
 
 loop-holds : tie.Need-loop-holds Inv-loop μ-loop
-loop-holds c = search (numbered-first, needs)
+unfolding numberedLines
+loop-holds c = search (items-first lawful 78 houseDelims, needs)
 
 next-requires : tie.Need-next-requires Inv-loop μ-loop
 next-requires c κs = search needs
@@ -31,10 +37,10 @@ put-four-requires : tie.Need-put-four-requires Inv-loop μ-loop
 put-four-requires c κs = search going-here
 
 loop-less : tie.Need-loop-less Inv-loop μ-loop
-loop-less c = search numbered-less
+loop-less c = search (lines-less BlockNumberedIter told)
 
 loop-again : tie.Need-loop-again Inv-loop μ-loop
-loop-again c = search numbered-again
+loop-again c = search (lines-again BlockNumberedIter told)
 
 enum-told : tie.Need-enum-told Inv-loop μ-loop
 enum-told c = search needs
@@ -43,7 +49,7 @@ same-length : tie.Need-same-length Inv-loop μ-loop
 same-length c = search going-same
 
 returns : tie.Need-returns Inv-loop μ-loop
-returns c = search numbered-none
+returns c = search (lines-end BlockNumberedIter told)
 
 enum-told-2 : tie.Need-enum-told-2 Inv-loop μ-loop
 enum-told-2 c = search needs
@@ -52,7 +58,7 @@ same-length-2 : tie.Need-same-length-2 Inv-loop μ-loop
 same-length-2 c = search going-same
 
 returns-2 : tie.Need-returns-2 Inv-loop μ-loop
-returns-2 c = search numbered-refused
+returns-2 c = search (lines-end BlockNumberedIter told)
 
 pub put-numbered-spec : {M : Type 1} → statement M
 put-numbered-spec =
