@@ -7,15 +7,15 @@ use Prim.Native.Nat.{ℕ, suc, _+_, _-_, _≤_, _<_}
 use native.Mathlib.Omega.{arith}
 use lib.Dec.{ltb}
 use lib.ListN.{length, getD, take, drop}
-use lib.Seq.{getD-take, slice, length-slice}
+use lib.Seq.{getD-take, length-slice}
 use borrow.Author.Tests.{lt-ltb, le-ltb, ltb-true, ltb-false}
 use Rattle.search.specs.Promise.{Gives}
 use Rattle.search.specs.Search.{is, either, other, holds, find, Sought, back, lineStart, lineEnd, nextLine}
 use Rattle.search.specs.SearchLaws.{decide, clash, and-true, is-no, holds-in, holds-true, find-ge, find-le, find-before, find-over, line-next}
 use Rattle.common.specs.Turn.{go, stop, found, allFound, None, Ahead, Adv, Covers}
 use Rattle.common.specs.TurnLaws.{collect-covers}
-use Rattle.common.specs.Items.{ItemGrammar, grammar, blank, Apart, leading, beyond, leads, itemFrom, lineFound, itemAt, itemsOf, readTurn}
-use Rattle.common.specs.ItemLaws.{both, leading-is, beyond-is, leading-beyond, marked, from-drop, marked-tests, Parted, marked-parted, parted-marked, AtMost, most-from, Walked, walked, walked-is, start-after, AtLine, at-start, line-size, line-length, line-low, Led, led, led-find, led-walked, no-line, on-line, line-rest, read-adv, read-items, hit-adv, hit-covers, blank-refused, accepted-blank, blank-inside, accepted-inside}
+use Rattle.common.specs.Items.{ItemGrammar, grammar, blank, Apart, leading, beyond, leads, itemFrom, itemAt, itemsOf}
+use Rattle.common.specs.ItemLaws.{both, leading-is, beyond-is, leading-beyond, marked, from-drop, marked-tests, Parted, marked-parted, parted-marked, AtMost, most-from, Walked, walked, walked-is, start-after, AtLine, at-start, line-size, line-length, line-low, Led, led, led-find, led-walked, no-line, on-line, line-rest, line-reach, read-none, read-line, read-adv, read-items, hit-adv, hit-covers, blank-refused, accepted-blank, blank-inside, accepted-inside}
 use Rattle.block_marker.specs.Marker.{mark, markLine, markers, streamHit, streamTurn, lineTurn}
 use Rattle.block_marker.specs.declared.MarkerItem.{MarkerItem}
 
@@ -61,54 +61,39 @@ module _ (eol sep tab : ℕ) (t : ℕ → Bool) (s : List ℕ) (q p : ℕ) where
 pub ruleset stream-rules = (stream-none, stream-passed, stream-bare, stream-found)
 
 -- ---- the ways out of the line turn
-module _ (eol sep tab : ℕ) (t : ℕ → Bool) (s : List ℕ) (q : ℕ) where
-  pub line-none : length s ≤ q → Gives (lineTurn (grammar eol sep tab t) s q) (stop q)
-  unfolding readTurn
-  line-none h = record { answer = simp (le-ltb q (length s) h) }
+module _ (eol sep tab : ℕ) (t : ℕ → Bool) (s : List ℕ) (q : ℕ)
+    (e p : ℕ) (h : q < length s) (w : Sought (is eol) s q e) (v : Sought (other (either sep tab)) (take e s) q p) where
+  size : length (take e s) ≡ e
+  size = sym (line-size eol s q e w h)
 
-  module _ (e p : ℕ) (h : q < length s) (w : Sought (is eol) s q e) (v : Sought (other (either sep tab)) (take e s) q p) where
-    size : length (take e s) ≡ e
-    size = sym (line-size eol s q e w h)
+  line-go : (n : ℕ) → marked (grammar eol sep tab t) (take e s) p ≡ false → Gives (nextLine (length s) e) n → Gives (lineTurn (grammar eol sep tab t) s q) (go n)
+  line-go n f l = record {
+    answer = sym (read-line (grammar eol sep tab t) (markLine (grammar eol sep tab t)) s q e n [] h w (mark-no (grammar eol sep tab t) (take e s) q p (line-reach eol s q e w h) (sym (v .here)) f) l);
+  }
 
-    low : q ≤ length (take e s)
-    low = omega (arith, size, w .low)
+  pub line-blank : (n : ℕ) → e ≤ p → Gives (nextLine (length s) e) n → Gives (lineTurn (grammar eol sep tab t) s q) (go n)
+  line-blank n i = line-go n (rw (le-ltb (p + 1) (length (take e s)) (omega (arith, size))))
 
-    -- with the item of the line that begins at q
-    with-line : (n : ℕ) (l : List MarkerItem) → markLine (grammar eol sep tab t) q (slice q e s) ≡ l → Gives (nextLine (length s) e) n → lineTurn (grammar eol sep tab t) s q ≡ lineFound l n
-    unfolding readTurn
-    with-line n l f m = simp (lt-ltb q (length s) h, ← (w .here), f, ← (m .answer))
+  module _ (m n : ℕ) (y : Bool) where
+    tests : (z : Bool) → Gives (getD (take e s) p 0) m → Gives (t m) y → Gives (holds (either sep tab) (take e s) (p + 1)) z → marked (grammar eol sep tab t) (take e s) p ≡ (z && y)
+    tests z = marked-tests (grammar eol sep tab t) (take e s) p m y z
 
-    pub line-blank : (n : ℕ) → e ≤ p → Gives (nextLine (length s) e) n → Gives (lineTurn (grammar eol sep tab t) s q) (go n)
-    line-blank n i l = record {
-      answer = sym (with-line n [] (mark-no (grammar eol sep tab t) (take e s) q p low (sym (v .here)) (rw (le-ltb (p + 1) (length (take e s)) (omega (arith, size))))) l);
-    }
+    pub line-passed : y ≡ false → Gives (getD (take e s) p 0) m → Gives (t m) y → Gives (nextLine (length s) e) n → Gives (lineTurn (grammar eol sep tab t) s q) (go n)
+    line-passed f b a = line-go n (tests (holds (either sep tab) (take e s) (p + 1)) b a (record { answer = refl }) ∙ rw f (and-false (holds (either sep tab) (take e s) (p + 1))))
 
-    module _ (m n : ℕ) (y : Bool) where
-      tests : (z : Bool) → Gives (getD (take e s) p 0) m → Gives (t m) y → Gives (holds (either sep tab) (take e s) (p + 1)) z → marked (grammar eol sep tab t) (take e s) p ≡ (z && y)
-      tests z = marked-tests (grammar eol sep tab t) (take e s) p m y z
+    module _ (z : Bool) (f : y ≡ true) where
+      pub line-bare : z ≡ false → Gives (getD (take e s) p 0) m → Gives (t m) y → Gives (holds (either sep tab) (take e s) (p + 1)) z → Gives (nextLine (length s) e) n → Gives (lineTurn (grammar eol sep tab t) s q) (go n)
+      line-bare c b a k = line-go n (tests z b a k ∙ rw c)
 
-      pub line-passed : y ≡ false → Gives (getD (take e s) p 0) m → Gives (t m) y → Gives (nextLine (length s) e) n → Gives (lineTurn (grammar eol sep tab t) s q) (go n)
-      line-passed f b a l = record {
+      pub line-found : z ≡ true → Gives (getD (take e s) p 0) m → Gives (t m) y → Gives (holds (either sep tab) (take e s) (p + 1)) z → Gives (nextLine (length s) e) n
+          → Gives (lineTurn (grammar eol sep tab t) s q) (found (mark m (p + 2) e) n)
+      line-found c b a k l = record {
         answer =
-            sym (with-line n [] (mark-no (grammar eol sep tab t) (take e s) q p low (sym (v .here))
-            (tests (holds (either sep tab) (take e s) (p + 1)) b a (record { answer = refl }) ∙ rw f (and-false (holds (either sep tab) (take e s) (p + 1))))) l);
+            sym (read-line (grammar eol sep tab t) (markLine (grammar eol sep tab t)) s q e n (mark m (p + 2) e ∷ []) h w
+            (mark-yes (grammar eol sep tab t) (take e s) q p (line-reach eol s q e w h) (sym (v .here)) (tests z b a k ∙ rw (c, f)) ∙ rw (size, b .answer)) l);
       }
 
-      module _ (z : Bool) (f : y ≡ true) where
-        pub line-bare : z ≡ false → Gives (getD (take e s) p 0) m → Gives (t m) y → Gives (holds (either sep tab) (take e s) (p + 1)) z → Gives (nextLine (length s) e) n → Gives (lineTurn (grammar eol sep tab t) s q) (go n)
-        line-bare c b a k l = record {
-          answer = sym (with-line n [] (mark-no (grammar eol sep tab t) (take e s) q p low (sym (v .here)) (tests z b a k ∙ rw c)) l);
-        }
-
-        pub line-found : z ≡ true → Gives (getD (take e s) p 0) m → Gives (t m) y → Gives (holds (either sep tab) (take e s) (p + 1)) z → Gives (nextLine (length s) e) n
-            → Gives (lineTurn (grammar eol sep tab t) s q) (found (mark m (p + 2) e) n)
-        line-found c b a k l = record {
-          answer =
-              sym (with-line n (mark m (p + 2) e ∷ [])
-              (mark-yes (grammar eol sep tab t) (take e s) q p low (sym (v .here)) (tests z b a k ∙ rw (c, f)) ∙ rw (size, b .answer)) l);
-        }
-
-pub ruleset line-rules = (line-none, line-blank, line-passed, line-bare, line-found)
+pub ruleset line-rules = (read-none, line-blank, line-passed, line-bare, line-found)
 
 -- ---- every turn moves on within the text
 -- where an item's content lies that is found between q and n: behind its marker and the byte after that

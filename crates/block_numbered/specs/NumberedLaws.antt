@@ -14,8 +14,8 @@ use Rattle.search.specs.Search.{is, either, other, holds, find, Sought, back, l
 use Rattle.search.specs.SearchLaws.{decide, clash, and-true, is-no, either-true, other-yes, other-no, other-false, holds-in, holds-true, find-ge, find-le, find-before, find-at, find-is, find-end, find-over, back-le, line-next}
 use Rattle.common.specs.Turn.{go, stop, found, allFound, between, Ahead, Adv, Covers}
 use Rattle.common.specs.TurnLaws.{collect-covers}
-use Rattle.common.specs.Items.{ItemGrammar, grammar, blank, leading, beyond, leads, itemFrom, lineFound, itemAt, itemsOf, readTurn}
-use Rattle.common.specs.ItemLaws.{both, other-true, leading-is, beyond-is, leading-beyond, marked, from-drop, marked-tests, Parted, marked-parted, parted-marked, AtMost, most-from, Walked, walked, walked-is, start-after, line-size, line-length, line-low, Led, led, led-find, led-walked, no-line, on-line, line-rest, read-adv, read-items, hit-adv, hit-covers, blank-refused, accepted-blank, blank-inside, accepted-inside}
+use Rattle.common.specs.Items.{ItemGrammar, grammar, blank, leading, beyond, leads, itemFrom, itemAt, itemsOf}
+use Rattle.common.specs.ItemLaws.{both, other-true, leading-is, beyond-is, leading-beyond, marked, from-drop, marked-tests, Parted, marked-parted, parted-marked, AtMost, most-from, Walked, walked, walked-is, start-after, line-size, line-length, line-low, Led, led, led-find, led-walked, no-line, on-line, line-rest, line-reach, read-none, read-line, read-adv, read-items, hit-adv, hit-covers, blank-refused, accepted-blank, blank-inside, accepted-inside}
 use Rattle.block_numbered.specs.Numbered.{digit, decimal, oneToNine, few, numbered, item, numberThen, numberFrom, numberLine, numbers, DigitsApart, streamHit, streamTurn, readDigits, readFrom, readLine, lineTurn, digitsAt}
 use Rattle.block_numbered.specs.DigitLaws.{few-none, few-some, one-to-nine, nine-yes, digits-small, leading-few, leading-many, drop-leading}
 use Rattle.block_numbered.specs.declared.NumberedItem.{NumberedItem}
@@ -128,65 +128,53 @@ module _ (g : ItemGrammar) (u : List ℕ) (a p : ℕ) (h : a ≤ length u) (e : 
       ∙ ap (λ (k : ℕ). cond (oneToNine k && marked g u j) (numbered (slice p j u) (getD u j 0) (j + 2) (length u) ∷ []) []) c
 
 -- ---- the ways out of the line turn
-module _ (eol sep tab : ℕ) (t : ℕ → Bool) (s : List ℕ) (q : ℕ) where
-  pub line-none : length s ≤ q → Gives (lineTurn (grammar eol sep tab t) s q) (stop q)
-  unfolding readTurn
-  line-none h = record { answer = simp (le-ltb q (length s) h) }
+module _ (eol sep tab : ℕ) (t : ℕ → Bool) (s : List ℕ) (q : ℕ)
+    (e p i : ℕ) (r : Digits) (h : q < length s) (w : Sought (is eol) s q e) (v : Sought (other (either sep tab)) (take e s) q p) (d : Gives (digitsAt p (readDigits (drop p (take e s)))) r) where
+  size : length (take e s) ≡ e
+  size = sym (line-size eol s q e w h)
 
-  module _ (e p i : ℕ) (r : Digits) (h : q < length s) (w : Sought (is eol) s q e) (v : Sought (other (either sep tab)) (take e s) q p) (d : Gives (digitsAt p (readDigits (drop p (take e s)))) r) where
-    size : length (take e s) ≡ e
-    size = sym (line-size eol s q e w h)
+  ds : List ℕ
+  ds = readDigits (drop p (take e s))
 
-    low : q ≤ length (take e s)
-    low = omega (arith, size, w .low)
+  stop-at : p + length ds ≡ r .end
+  unfolding ds
+  stop-at = sym (ap (λ (k : Digits). k .end) (d .answer))
 
-    ds : List ℕ
-    ds = readDigits (drop p (take e s))
+  line-go : (oneToNine (length ds) && marked (grammar eol sep tab t) (take e s) (r .end)) ≡ false → Gives (nextLine (length s) e) i → Gives (lineTurn (grammar eol sep tab t) s q) (go i)
+  unfolding ds
+  line-go f l = record { answer = sym (read-line (grammar eol sep tab t) (readLine (grammar eol sep tab t)) s q e i [] h w (read-search (grammar eol sep tab t) (take e s) q p (line-reach eol s q e w h) (sym (v .here)) (r .end) stop-at ∙ simp f) l) }
 
-    stop-at : p + length ds ≡ r .end
-    unfolding ds
-    stop-at = sym (ap (λ (k : Digits). k .end) (d .answer))
+  pub line-digitless : r .end ≤ p → Gives (nextLine (length s) e) i → Gives (lineTurn (grammar eol sep tab t) s q) (go i)
+  line-digitless f = line-go (rw (le-ltb 0 (length ds) (omega (arith, stop-at))))
 
-    -- with the item of the line that begins at q
-    with-line : (l : List NumberedItem) → readLine (grammar eol sep tab t) q (slice q e s) ≡ l → Gives (nextLine (length s) e) i → lineTurn (grammar eol sep tab t) s q ≡ lineFound l i
-    unfolding readTurn
-    with-line l f m = simp (lt-ltb q (length s) h, ← (w .here), f, ← (m .answer))
+  pub line-short : e ≤ r .end → Gives (nextLine (length s) e) i → Gives (lineTurn (grammar eol sep tab t) s q) (go i)
+  line-short f = line-go (rw (le-ltb (r .end + 1) (length (take e s)) (omega (arith, size))) (and-false (oneToNine (length ds))))
 
-    line-go : (oneToNine (length ds) && marked (grammar eol sep tab t) (take e s) (r .end)) ≡ false → Gives (nextLine (length s) e) i → Gives (lineTurn (grammar eol sep tab t) s q) (go i)
-    unfolding ds
-    line-go f l = record { answer = sym (with-line [] (read-search (grammar eol sep tab t) (take e s) q p low (sym (v .here)) (r .end) stop-at ∙ simp f) l) }
+  module _ (m : ℕ) (y : Bool) where
+    tests : (z : Bool) → Gives (getD (take e s) (r .end) 0) m → Gives (t m) y → Gives (holds (either sep tab) (take e s) (r .end + 1)) z → marked (grammar eol sep tab t) (take e s) (r .end) ≡ (z && y)
+    tests z = marked-tests (grammar eol sep tab t) (take e s) (r .end) m y z
 
-    pub line-digitless : r .end ≤ p → Gives (nextLine (length s) e) i → Gives (lineTurn (grammar eol sep tab t) s q) (go i)
-    line-digitless f = line-go (rw (le-ltb 0 (length ds) (omega (arith, stop-at))))
+    pub line-passed : y ≡ false → Gives (getD (take e s) (r .end) 0) m → Gives (t m) y → Gives (nextLine (length s) e) i → Gives (lineTurn (grammar eol sep tab t) s q) (go i)
+    line-passed f b a =
+        line-go (rw (tests (holds (either sep tab) (take e s) (r .end + 1)) b a (record { answer = refl }), f, and-false (holds (either sep tab) (take e s) (r .end + 1))) (and-false (oneToNine (length ds))))
 
-    pub line-short : e ≤ r .end → Gives (nextLine (length s) e) i → Gives (lineTurn (grammar eol sep tab t) s q) (go i)
-    line-short f = line-go (rw (le-ltb (r .end + 1) (length (take e s)) (omega (arith, size))) (and-false (oneToNine (length ds))))
+    module _ (z : Bool) (f : y ≡ true) where
+      pub line-bare : z ≡ false → Gives (getD (take e s) (r .end) 0) m → Gives (t m) y → Gives (holds (either sep tab) (take e s) (r .end + 1)) z → Gives (nextLine (length s) e) i
+          → Gives (lineTurn (grammar eol sep tab t) s q) (go i)
+      line-bare c b a k = line-go (rw (tests z b a k, c) (and-false (oneToNine (length ds))))
 
-    module _ (m : ℕ) (y : Bool) where
-      tests : (z : Bool) → Gives (getD (take e s) (r .end) 0) m → Gives (t m) y → Gives (holds (either sep tab) (take e s) (r .end + 1)) z → marked (grammar eol sep tab t) (take e s) (r .end) ≡ (z && y)
-      tests z = marked-tests (grammar eol sep tab t) (take e s) (r .end) m y z
+      pub line-found : p < r .end → z ≡ true → Gives (getD (take e s) (r .end) 0) m → Gives (t m) y → Gives (holds (either sep tab) (take e s) (r .end + 1)) z → Gives (nextLine (length s) e) i
+          → Gives (lineTurn (grammar eol sep tab t) s q) (found (item (r .number) m (r .end + 2) e) i)
+      unfolding ds
+      line-found j c b a k l = record {
+        answer =
+            sym (read-line (grammar eol sep tab t) (readLine (grammar eol sep tab t)) s q e i (item (r .number) m (r .end + 2) e ∷ []) h w
+            (read-search (grammar eol sep tab t) (take e s) q p (line-reach eol s q e w h) (sym (v .here)) (r .end) stop-at
+            ∙ rw (nine-yes (length ds) (omega (arith, stop-at)) (read-nine (drop p (take e s))), tests z b a k, c, f, size, ← (b .answer))
+            (ap (λ (n : ℕ). item n m (r .end + 2) e ∷ []) (sym (ap (λ (k : Digits). k .number) (d .answer))))) l);
+      }
 
-      pub line-passed : y ≡ false → Gives (getD (take e s) (r .end) 0) m → Gives (t m) y → Gives (nextLine (length s) e) i → Gives (lineTurn (grammar eol sep tab t) s q) (go i)
-      line-passed f b a =
-          line-go (rw (tests (holds (either sep tab) (take e s) (r .end + 1)) b a (record { answer = refl }), f, and-false (holds (either sep tab) (take e s) (r .end + 1))) (and-false (oneToNine (length ds))))
-
-      module _ (z : Bool) (f : y ≡ true) where
-        pub line-bare : z ≡ false → Gives (getD (take e s) (r .end) 0) m → Gives (t m) y → Gives (holds (either sep tab) (take e s) (r .end + 1)) z → Gives (nextLine (length s) e) i
-            → Gives (lineTurn (grammar eol sep tab t) s q) (go i)
-        line-bare c b a k = line-go (rw (tests z b a k, c) (and-false (oneToNine (length ds))))
-
-        pub line-found : p < r .end → z ≡ true → Gives (getD (take e s) (r .end) 0) m → Gives (t m) y → Gives (holds (either sep tab) (take e s) (r .end + 1)) z → Gives (nextLine (length s) e) i
-            → Gives (lineTurn (grammar eol sep tab t) s q) (found (item (r .number) m (r .end + 2) e) i)
-        unfolding ds
-        line-found j c b a k l = record {
-          answer =
-              sym (with-line (item (r .number) m (r .end + 2) e ∷ [])
-              (read-search (grammar eol sep tab t) (take e s) q p low (sym (v .here)) (r .end) stop-at
-              ∙ rw (nine-yes (length ds) (omega (arith, stop-at)) (read-nine (drop p (take e s))), tests z b a k, c, f, size, ← (b .answer))
-              (ap (λ (n : ℕ). item n m (r .end + 2) e ∷ []) (sym (ap (λ (k : Digits). k .number) (d .answer))))) l);
-        }
-
-pub ruleset line-rules = (line-none, line-digitless, line-short, line-passed, line-bare, line-found)
+pub ruleset line-rules = (read-none, line-digitless, line-short, line-passed, line-bare, line-found)
 
 -- ---- every turn moves on within the text
 -- where an item's content lies that is found between q and n, behind its delimiter and the byte after that; and how large its number is

@@ -226,6 +226,9 @@ at-start eol s l = sym (start-zero eol s 0 refl)
 pub line-size : (eol : ℕ) (s : List ℕ) (q e : ℕ) → Sought (is eol) s q e → q < length s → e ≡ length (take e s)
 line-size eol s q e w h = let z : min e (length s) ≡ e = omega (arith, w .high) in sym (length-take e s ∙ z)
 
+pub line-reach : (eol : ℕ) (s : List ℕ) (q e : ℕ) → Sought (is eol) s q e → q < length s → q ≤ length (take e s)
+line-reach eol s q e w h = omega (arith, line-size eol s q e w h, w .low)
+
 pub line-length : (eol : ℕ) (s : List ℕ) (a : ℕ) → a ≤ length s → length (take (lineEnd eol s a) s) ≡ lineEnd eol s a
 line-length eol s a h = let z : min (lineEnd eol s a) (length s) ≡ lineEnd eol s a = omega (arith, find-le (is eol) s a h) in length-take (lineEnd eol s a) s ∙ z
 
@@ -282,6 +285,15 @@ module _ {A : Type 0} (g : ItemGrammar) (line : ℕ → List ℕ → List A) (s 
   pub on-line : (a : ℕ) → lineStart (g .eol) s a ≡ true → itemAt g line s a ≡ line a (lineBytes g s a)
   unfolding itemAt
   on-line a e = simp e
+
+  -- the turn at q: past the text, and with the item of the line that begins there
+  pub read-none : (q : ℕ) → length s ≤ q → Gives (readTurn g line s q) (stop q)
+  unfolding readTurn
+  read-none q h = record { answer = simp (le-ltb q (length s) h) }
+
+  pub read-line : (q e n : ℕ) (l : List A) → q < length s → Sought (is (g .eol)) s q e → line q (slice q e s) ≡ l → Gives (nextLine (length s) e) n → readTurn g line s q ≡ lineFound l n
+  unfolding readTurn
+  read-line q e n l h w f m = simp (lt-ltb q (length s) h, ← (w .here), f, ← (m .answer))
 
   -- the rest of a line has nothing
   pub line-rest : (a k : ℕ) → a ≤ length s → a ≤ k → None (itemAt g line s) (suc k) (nextLine (length s) (lineEnd (g .eol) s a))

@@ -1,8 +1,9 @@
 -- How long a listing can be: at most 1,000,000 bytes for each text that is listed. Assumes nothing.
 use mathlib.Core.Path.{_≡_}
+use mathlib.Core.Bool.{Bool}
 use mathlib.Core.List.{List, [], _∷_, _++_, map}
 use Prim.Native.Nat.{ℕ, zero, suc, _+_, _*_, _≤_, _<_}
-use native.Mathlib.Nat.{zero-mul, suc-mul}
+use native.Mathlib.Nat.{zero-mul, suc-mul, mul-le-mul-right}
 use native.Mathlib.Omega.{arith}
 use lib.Dec.{ltb}
 use lib.ListN.{length, length-append}
@@ -21,8 +22,8 @@ use Rattle.fence.specs.Laws as fenceLaws
 use Rattle.fence.specs.Run as fenceRun
 use Rattle.cont.specs.Frames.{frames}
 use Rattle.cont.specs.Cont as cont
-use Rattle.common.specs.Scanning.{turn}
-use Rattle.common.specs.ScanningLaws.{turn-adv}
+use Rattle.common.specs.Scanning.{Scanner, fresh, turn, items, Lawful}
+use Rattle.common.specs.ScanningLaws.{turn-adv, fresh-place}
 use Rattle.block_marker.specs.Marker as marker
 use Rattle.block_marker.specs.MarkerRun as markerRun
 use Rattle.block_marker.specs.declared.MarkerItem.{MarkerItem}
@@ -34,7 +35,7 @@ use Rattle.sheet.specs.declared.item.SheetItem.{SheetItem}
 use Rattle.listing.specs.Lines.{decimal, field, fields, line, lines}
 use Rattle.listing.specs.LineLaws.{decimal-few}
 use Rattle.listing.specs.Put.{Room}
-use Rattle.listing.specs.Listing.{houseRules, houseMarkers, houseDelims, regions, regionLines, fenceRow, fencesOf, frameRow, frameLines, markerLines, numberedLines, sheetRow, shown, sheetLines, entries, listed}
+use Rattle.listing.specs.Listing.{houseRules, houseMarkers, houseDelims, regions, regionLines, fenceRow, fencesOf, frameRow, frameLines, itemsOf, markerLines, numberedLines, sheetRow, shown, sheetLines, entries, listed}
 use Rattle.listing.specs.FoundLaws.{few-regions, few-shown}
 use Rattle.listing.specs.FrameSize.{each-as, Inside, frames-inside, frames-few}
 use Rattle.listing.specs.ItemSize.{Mark, Delimiter, mark-byte, number-byte, each-merge, each-outside}
@@ -103,6 +104,15 @@ each-map : {A B : Type 0} (P : B → Type 0) (f : A → B) (l : List A) → Each
 each-map P f [] w = tt
 each-map P f (a ∷ l) w = (w .0, each-map P f l (w .1))
 
+-- the lines of an item scanner's items, where none is longer than m
+items-most : {S A : Type 0} {c : Scanner S A} {Lies : ℕ → ℕ → A → Type 0} (w : Lawful c Lies) (letter m : ℕ) (house : List Bool) (s : List ℕ) (P : A → Type 0)
+    → ((i : A) → P i → length (line letter (c .values i)) ≤ m) → Each P (items c (fresh c 10 32 9 house) house s) → length (itemsOf c letter house s) ≤ length s * m
+items-most {c = c} w letter m house s P fits each =
+    let g = fresh c 10 32 9 house in
+    let l = items c g house s in
+    let few : length l ≤ length s = omega (arith, found-few (turn-adv w g house s) (suc (length s)) (c .fields g .pos) (omega (arith, fresh-place w 10 32 9 house))) in
+    omega (arith, lines-most letter m (c .values) l (each-as P (λ i. length (line letter (c .values i)) ≤ m) fits l each), mul-le-mul-right m few)
+
 module _ (s : List ℕ) (h : length s ≤ 8192) where
   -- ---- regions
   regions-inside : (from : ℕ) (l : List Caused) → InOrder from (length s) l → Each (λ r. length (line 82 (pair r)) ≤ 12) l
@@ -151,14 +161,12 @@ module _ (s : List ℕ) (h : length s ≤ 8192) where
   marker-most : length (markerLines s) ≤ 131072
   unfolding markerLines
   marker-most =
-      let l = marker.items (marker.fresh 10 32 9 houseMarkers) houseMarkers s in
-      omega (arith, found-few (turn-adv markerRun.lawful (marker.fresh 10 32 9 houseMarkers) houseMarkers s) (suc (length s)) 0 (omega arith), lines-most 77 16 marker.values l (each-as (λ i. (i .span .start ≤ 8192) × (i .span .end ≤ 8192) × (i .marker < 256)) (λ i. length (line 77 (marker.values i)) ≤ 16) (λ i w. three-most 77 (i .span .start) (i .span .end) (w .0) (w .1) (i .marker) (w .2)) l marks-fit))
+      omega (arith, items-most markerRun.lawful 77 16 houseMarkers s (λ i. (i .span .start ≤ 8192) × (i .span .end ≤ 8192) × (i .marker < 256)) (λ i w. three-most 77 (i .span .start) (i .span .end) (w .0) (w .1) (i .marker) (w .2)) marks-fit)
 
   numbered-most : length (numberedLines s) ≤ 212992
   unfolding numberedLines
   numbered-most =
-      let l = numbered.items (numbered.fresh 10 32 9 houseDelims) houseDelims s in
-      omega (arith, found-few (turn-adv numberedRun.lawful (numbered.fresh 10 32 9 houseDelims) houseDelims s) (suc (length s)) 0 (omega arith), lines-most 78 26 numbered.values l (each-as (λ i. (i .span .start ≤ 8192) × (i .span .end ≤ 8192) × (i .delimiter < 256) × (i .number < 1000000000)) (λ i. length (line 78 (numbered.values i)) ≤ 26) (λ i w. four-most 78 (i .span .start) (i .span .end) (w .0) (w .1) (i .delimiter) (w .2) (i .number) (w .3)) l numbers-fit))
+      omega (arith, items-most numberedRun.lawful 78 26 houseDelims s (λ i. (i .span .start ≤ 8192) × (i .span .end ≤ 8192) × (i .delimiter < 256) × (i .number < 1000000000)) (λ i w. four-most 78 (i .span .start) (i .span .end) (w .0) (w .1) (i .delimiter) (w .2) (i .number) (w .3)) numbers-fit)
 
   -- ---- the work sheet
   shown-fit : Each (λ i. length (line 87 (sheetRow i)) ≤ 26) (shown s)
