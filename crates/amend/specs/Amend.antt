@@ -1,4 +1,7 @@
 -- Edits of a text and of its list: what an amendment writes, where it may cut, and what it asks of a builder, whatever the rules and the tags. Assumes nothing.
+-- The page: "A joint of a text with its list: place 0, or a place k of at least 2 whose two preceding bytes are line ends, where no
+-- region starting before k ends at k or later. An amendment takes the old text and list, two cuts and the replacement, and writes to a
+-- second list: …"
 use mathlib.Core.Path.{_≡_}
 use mathlib.Core.Bool.{Bool, true, false, not, _||_, _&&_}
 use mathlib.Core.List.{List, [], _∷_, _++_, map}

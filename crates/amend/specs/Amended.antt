@@ -1,4 +1,6 @@
 -- What an amendment answers and writes. Assumes nothing.
+-- The page: "For an amendment: 1 (old text, replacement), 6, 4, 1 (edited text), 5, 9, 7, 8, 3." and "This formula holds for every
+-- accepted list".
 use mathlib.Core.Path.{_≡_}
 use mathlib.Core.Bool.{Bool, not, cond, _||_, _&&_}
 use mathlib.Core.List.{List, [], _∷_, _++_, map}

@@ -1,4 +1,5 @@
 -- Mission demand 3, of the definitions: the old text's regions, amended, are the finished text's regions. Assumes nothing.
+-- The page: "mission demand 3 adds that the old list was built from the old text, by the grammar and rules the amendment is given".
 use mathlib.Core.Path.{_≡_, refl, ap, _∙_}
 use mathlib.Core.Bool.{Bool, true, false, _||_, cond}
 use mathlib.Core.List.{List, _++_, map, map-append}

@@ -1,4 +1,5 @@
 -- The list that edits at joints leave is the list of the finished text; over any builder that joins, with any tag. Assumes nothing.
+-- The page: "mission demand 3 adds that the old list was built from the old text", here of any number of edits.
 use mathlib.Core.Path.{_≡_, refl, sym, ap, _∙_}
 use mathlib.Core.Bool.{Bool, true, false, not, _||_, _&&_}
 use mathlib.Core.List.{List, [], _∷_, _++_, map, append-nil}

@@ -1,4 +1,6 @@
 -- Behind an empty line the regions of two texts are the first's and then the second's, moved up, unless one of the first's reaches its end. Assumes nothing.
+-- The page: what a joint is for: "place 0, or a place k of at least 2 whose two preceding bytes are line ends, where no region starting
+-- before k ends at k or later."
 use mathlib.Core.Path.{_≡_, refl, sym as inv, ap, subst, _∙_}
 use mathlib.Core.Bool.{Bool, true, false, and-false, or-true}
 use mathlib.Core.List.{List, _∷_, _++_}

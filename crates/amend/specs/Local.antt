@@ -1,4 +1,5 @@
 -- What the facts about joints ask of a grammar: a fence reader that goes by lines, and a line end that neither escapes nor opens. Assumes nothing.
+-- The page: "the escape, a symmetric byte or an asymmetric opener is the line-end byte (amendment only)" is refused.
 use mathlib.Core.Path.{_≡_}
 use mathlib.Core.Bool.{Bool, _||_}
 use mathlib.Core.List.{List, _++_}

@@ -1,4 +1,5 @@
 -- What the parts of an amendment ask and promise. Assumes nothing.
+-- The page's sentences stand in Amended.antt; here are its parts, a function each.
 use mathlib.Core.Path.{_≡_}
 use mathlib.Core.Bool.{Bool, false, not, _||_, _&&_}
 use mathlib.Core.List.{List, [], _∷_, _++_, map}

@@ -1,7 +1,7 @@
 -- Laws of settling an amendment whose cuts are judged: what is written in three parts is the list asked for, and the ways out. Assumes nothing.
 use mathlib.Core.Path.{_≡_, refl, sym, ap, subst, _∙_}
 use mathlib.Core.Bool.{Bool, true, false, not, _&&_}
-use mathlib.Core.List.{List, [], _∷_, _++_, map, append-nil}
+use mathlib.Core.List.{List, [], _∷_, _++_, map}
 use Prim.Native.Nat.{ℕ, _+_, _-_, _*_, _/_, _^_, _≤_, _<_}
 use native.Mathlib.Omega.{arith}
 use mir.Val.{Fits}
@@ -11,8 +11,8 @@ use lib.ListN.{length, take, drop, length-append, length-map}
 use borrow.Author.Tests.{lt-ltb, le-ltb}
 use Rattle.search.specs.Promise.{Gives}
 use Rattle.common.specs.Refusals.{given, refused}
-use Rattle.common.specs.Entry.{flatten, over, putAt, Written as Front}
-use Rattle.common.specs.EntryLaws.{length-flatten, length-put, written-none, written-put, written-all}
+use Rattle.common.specs.Entry.{flatten, over, putAt}
+use Rattle.common.specs.EntryLaws.{length-flatten, flatten-append, length-put, put-append, put-over}
 use Rattle.region.specs.Region.{Region, Plain, dropTag, pair, move, up, reaches, keepBefore, keepFrom, InOrder}
 use Rattle.rules.specs.Grammar.{Gram}
 use Rattle.region.specs.Regions.{regions}
@@ -29,25 +29,10 @@ use Rattle.amend.specs.declared.own.Counted.{Counted}
 pub pair-two : {T : Type 0} (r : Region T) → length (pair r) ≡ 2
 pair-two r = refl
 
-flatten-append : {T : Type 0} (a b : List (Region T)) → flatten pair (a ++ b) ≡ flatten pair a ++ flatten pair b
-flatten-append [] b = refl
-flatten-append (r ∷ a) b = ap (λ (z : List ℕ). r .start ∷ r .stop ∷ z) (flatten-append a b)
-
 -- the numbers of regions are those of the regions without their tags
 pub flatten-drop : {T : Type 0} (l : List (Region T)) → flatten pair (map dropTag l) ≡ flatten pair l
 flatten-drop [] = refl
 flatten-drop (r ∷ l) = ap (λ (z : List ℕ). r .start ∷ r .stop ∷ z) (flatten-drop l)
-
-put-append : (k : ℕ) (a b out : List ℕ) → putAt (k + length a) b (putAt k a out) ≡ putAt k (a ++ b) out
-put-append k [] b out =
-    let e : k + 0 ≡ k = omega arith in
-    rw e
-put-append k (x ∷ a) b out =
-    let e : k + length (x ∷ a) ≡ k + 1 + length a = omega arith in
-    rw e (put-append (k + 1) a b _)
-
-put-over : (l out : List ℕ) → length l ≤ length out → putAt 0 l out ≡ over l out
-put-over l out h = written-all (written-put l (subst (λ (z : List ℕ). Front l z out out 0) (sym (append-nil l)) (written-none h)))
 
 -- ---- regions written
 module _ {T : Type 0} {l : List (Region T)} {n : ℕ} {out out′ : List ℕ} {m : ℕ} (w : Laid l n out out′ m) where
@@ -70,8 +55,8 @@ laid-both {a = a} {b = b} {n = n} {m = m} {out = out} v w =
       list =
           w .list ∙ ap (putAt (m * 2) (flatten pair b)) (v .list)
           ∙ ap (λ (k : ℕ). putAt k (flatten pair b) (putAt (n * 2) (flatten pair a) out)) (laid-place v)
-          ∙ put-append (n * 2) (flatten pair a) (flatten pair b) out
-          ∙ ap (λ (z : List ℕ). putAt (n * 2) z out) (sym (flatten-append a b));
+          ∙ sym (put-append (n * 2) (flatten pair a) (flatten pair b) out)
+          ∙ ap (λ (z : List ℕ). putAt (n * 2) z out) (sym (flatten-append pair a b));
     }
 
 laid-over : {T : Type 0} {l : List (Region T)} {out out′ : List ℕ} {m : ℕ} → Laid l 0 out out′ m → length l * 2 ≤ length out → out′ ≡ over (flatten pair l) out

@@ -1,4 +1,5 @@
 -- Behind whole lines a text's regions are its own, moved up; over any fence reader that goes by lines. Assumes nothing.
+-- The page: "regions starting at or after it moved by the change in length".
 use mathlib.Core.Path.{_≡_, refl, sym as inv, ap, _∙_}
 use mathlib.Core.Bool.{Bool, true, false}
 use mathlib.Core.List.{List, _++_}

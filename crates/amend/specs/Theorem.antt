@@ -1,4 +1,5 @@
 -- Mission demand 3, of the promises that the code keeps: where a list holds the regions of the old text and an amendment accepts, it leaves the list that building the edited text afresh leaves. Assumes nothing.
+-- The page: "mission demand 3 adds that the old list was built from the old text, by the grammar and rules the amendment is given".
 use mathlib.Core.Path.{_≡_, refl, sym, ap, subst, _∙_}
 use mathlib.Core.Bool.{true, false, not, _||_, _&&_}
 use mathlib.Core.List.{List, [], _∷_, _++_, map}

@@ -1,4 +1,5 @@
 -- What the marker scanner finds. Assumes nothing.
+-- The page: "Optional separators and tabs, one accepted byte, one separator or tab; the span is the rest of the line."
 use mathlib.Core.Bool.{Bool, cond, _&&_}
 use mathlib.Core.List.{List, [], _∷_}
 use Prim.Native.Nat.{ℕ, _+_}

@@ -1,4 +1,6 @@
 -- The marker scanner's run: that it keeps the laws of item scanners, that a step's promise leaves one answer and one state, and that stepping a fresh state until none comes yields all items. Assumes nothing.
+-- The page: "From place 0 the streaming and line scans are proved to yield the same items in the same order", "For markers the digit
+-- conditions drop out."
 use mathlib.Core.Path.{_≡_, refl, sym, ap, _∙_}
 use mathlib.Core.Bool.{Bool}
 use mathlib.Core.List.{List}

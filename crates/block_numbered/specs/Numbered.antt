@@ -1,4 +1,5 @@
 -- What the numbered scanner finds. Assumes nothing.
+-- The page: "As above with 1 to 9 ASCII digits and an accepted delimiter; ten digits reject."
 use mathlib.Core.Bool.{Bool, true, false, cond, _&&_}
 use mathlib.Core.List.{List, [], _∷_}
 use mathlib.Core.Path.{_≡_}

@@ -7,8 +7,8 @@ use native.Mathlib.Numerals.{add-one}
 use native.Mathlib.Omega.{arith}
 use lib.ListN.{length, getD, take, set}
 use lib.Seq.{take-suc, take-all, length-take-le}
-use Rattle.common.specs.Entry.{flatten, over, putAt, Written}
-use Rattle.common.specs.EntryLaws.{written-put, written-all, length-flatten, length-put, put-front, put-four}
+use Rattle.common.specs.Entry.{flatten, over, putAt}
+use Rattle.common.specs.EntryLaws.{length-flatten, length-put, put-append, put-front, put-four}
 use Rattle.common.specs.Rules.{tabulate}
 use Rattle.common.specs.TableLaws.{length-tabulate}
 use Rattle.common.specs.Sets.{Index}
@@ -29,28 +29,11 @@ four-back n h =
 pub length-four : (l : List ℕ) → length (flatten four l) ≡ length l * 4
 length-four l = length-flatten four 4 (λ n. refl) l
 
-pub flatten-append : (a b : List ℕ) → flatten four (a ++ b) ≡ flatten four a ++ flatten four b
-flatten-append [] b = refl
-flatten-append (n ∷ a) b = rw (flatten-append a b)
-
 -- ---- laid over a run
 module _ {A : Type 0} where
-  pub put-append : (k : ℕ) (a b out : List A) → putAt k (a ++ b) out ≡ putAt (k + length a) b (putAt k a out)
-  put-append k [] b out =
-      let e : k + 0 ≡ k = omega arith in
-      rw e
-  put-append k (x ∷ a) b out =
-      let e : k + suc (length a) ≡ k + 1 + length a = omega arith in
-      rw e (put-append (k + 1) a b (set out k x))
-
   -- over all of a run
   pub put-all : (l out : List A) → length l ≡ length out → putAt 0 l out ≡ l
   put-all l out h = sym (take-all (0 + length l) (putAt 0 l out) (omega (arith, length-put 0 l out))) ∙ put-front 0 l out (omega arith)
-
-pub put-over : (l out : List ℕ) → length l ≤ length out → putAt 0 l out ≡ over l out
-put-over l out h =
-    let w : Written l (l ++ []) out out 0 = record { fits = h; long = refl; front = sym (append-nil l); back = refl; within = omega arith } in
-    written-all (written-put l w)
 
 pub laid-four : (k x : ℕ) (out : List ℕ) → Laid k (four x) (out) (set (set (set (set out k (x % 256)) (k + 1) (x / 256 % 256)) (k + 2) (x / 65536 % 256)) (k + 3) (x / 16777216 % 256))
 laid-four k x out = record { list = put-four k (x % 256) (x / 256 % 256) (x / 65536 % 256) (x / 16777216 % 256) out }

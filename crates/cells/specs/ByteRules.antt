@@ -1,4 +1,5 @@
 -- Rules that byte runs hold. Assumes nothing.
+-- The page: "Rules come as columns of numbers" and "there each number of a list is four bytes, low byte first."
 use mathlib.Core.Bool.{Bool, not, cond, _||_}
 use mathlib.Core.List.{List, map}
 use Prim.Native.Nat.{ℕ, _*_, _/_}

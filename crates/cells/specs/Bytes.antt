@@ -1,4 +1,5 @@
 -- Numbers as four bytes, low byte first, and runs whose numbers keep to limits. Assumes nothing.
+-- The page: "there each number of a list is four bytes, low byte first."
 use mathlib.Core.Bool.{Bool, true, false, cond, _&&_}
 use mathlib.Core.List.{List, [], _∷_, map}
 use Prim.Native.Nat.{ℕ, _+_, _*_, _/_, _%_}

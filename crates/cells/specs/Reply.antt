@@ -1,4 +1,5 @@
 -- What an entry returns, and what it writes to its answer run. Assumes nothing.
+-- The page: "For an answer that is an enum, a definition gives this paper's number and values for each of its cases".
 use mathlib.Core.Path.{_≡_}
 use mathlib.Core.Bool.{Bool, cond}
 use mathlib.Core.List.{List, _∷_}

@@ -11,6 +11,7 @@ use borrow.Author.Tests.{lt-ltb, le-ltb, ltb-true, ltb-false}
 use Rattle.search.specs.Promise.{Gives}
 use Rattle.search.specs.SearchLaws.{decide}
 use Rattle.common.specs.Entry.{flatten, over}
+use Rattle.common.specs.EntryLaws.{flatten-append, put-append, put-over}
 use Rattle.common.specs.Refusals.{Outcome, given, refused, numberOf, told, toldFound}
 use Rattle.common.specs.RefusalLaws.{number-some}
 use Rattle.common.specs.declared.refusal.Refusal.{Refusal}
@@ -19,7 +20,7 @@ use Rattle.common.specs.declared.refusal.Answer.the-variants as answer
 use Rattle.common.specs.declared.refusal.Found.{Found}
 use Rattle.common.specs.declared.refusal.Found.the-variants as found
 use Rattle.cells.specs.Bytes.{four}
-use Rattle.cells.specs.ByteLaws.{length-four, flatten-append, put-append, put-over}
+use Rattle.cells.specs.ByteLaws.{length-four}
 use Rattle.cells.specs.Reply.{Laid, LaidIf, written, short, fitted, answered, Replied}
 
 -- two replies to the same arguments are one: the number, and the run that is left
@@ -96,7 +97,7 @@ module _ (a b run : List ℕ) (n m : ℕ) (e : n ≡ length a + length b) (room 
   mixed-values run′ run″ run‴ h x y z =
       let c : n ≡ length (a ++ b) = e ∙ sym (length-append a b) in
       let w = laid-behind 4 (4 + length a * 4) (flatten four a) (flatten four b) run′ run″ run‴ y z (omega (arith, length-four a)) in
-      reply-values (a ++ b) run run′ run‴ m room (omega (arith, c)) (rw c at x) (rw (flatten-append a b) w)
+      reply-values (a ++ b) run run′ run‴ m room (omega (arith, c)) (rw c at x) (rw (flatten-append four a b) w)
 
 -- ---- by what the core answered
 pub refused-by : (n : ℕ) (run : List ℕ) → eqb n 0 ≡ false → Replied (refused n) run run n

@@ -1,4 +1,6 @@
 -- The stretch of a text that a span names. Assumes nothing.
+-- The page: "An item's content is the caller's own stretch of text; a span that is reversed or past the text gives the empty stretch at
+-- its start, or at the text's end where the start is past that."
 use mathlib.Core.Path.{_≡_}
 use mathlib.Core.Bool.{Bool, true, false, _&&_}
 use mathlib.Core.List.{List}

@@ -1,4 +1,6 @@
 -- Lists of entries as runs of numbers: rows of one width, the test that their places are in order, and numbers written into a run. Assumes nothing.
+-- The page: "A region list is a lent run of 32-bit numbers", "An item is five numbers", "Success writes the regions from place 0,
+-- returns their count and changes nothing beyond them."
 use mathlib.Core.Path.{_≡_}
 use mathlib.Core.Bool.{Bool, true, _&&_}
 use mathlib.Core.List.{List, [], _∷_, _++_}

@@ -22,6 +22,10 @@ module _ {A : Type 0} (flat : A → List ℕ) (w : ℕ) (wide : (a : A) → leng
   rows-flatten [] rest = refl
   rows-flatten (a ∷ l) rest = rw (append-assoc (flat a) (flatten flat l) rest, take-at (flat a) (flatten flat l ++ rest) w (wide a), drop-at (flat a) (flatten flat l ++ rest) w (wide a), rows-flatten l rest)
 
+pub flatten-append : {A : Type 0} (flat : A → List ℕ) (a b : List A) → flatten flat (a ++ b) ≡ flatten flat a ++ flatten flat b
+flatten-append flat [] b = refl
+flatten-append flat (x ∷ a) b = ap (λ (l : List ℕ). flat x ++ l) (flatten-append flat a b) ∙ sym (append-assoc (flat x) (flatten flat a) (flatten flat b))
+
 pub length-rows : (w n : ℕ) (l : List ℕ) → length (rows w n l) ≡ n
 length-rows w zero l = refl
 length-rows w (suc n) l = ap suc (length-rows w n (drop w l))
@@ -159,6 +163,12 @@ written-all {all} {out₀} {out} {k} i =
     let n : length all ≡ k = ap length e ∙ length-take-le k out (i .within) in
     rw (n, ← (i .back), e) (sym (take-append-drop k out))
 
+-- what is put from place 0 on is what a success writes
+pub put-over : (l out : List ℕ) → length l ≤ length out → putAt 0 l out ≡ over l out
+put-over l out h =
+    let w : Written l (l ++ []) out out 0 = record { fits = h; long = refl; front = sym (append-nil l); back = refl; within = omega arith } in
+    written-all (written-put l w)
+
 -- what stores at k, k + 1 and so on leave
 pub put-four : (k a b c d : ℕ) (out : List ℕ) → set (set (set (set out k a) (k + 1) b) (k + 2) c) (k + 3) d ≡ putAt k (a ∷ b ∷ c ∷ d ∷ []) out
 put-four k a b c d out = simp add-assoc
@@ -168,6 +178,15 @@ module _ {A : Type 0} where
   pub length-put : (k : ℕ) (l out : List A) → length (putAt k l out) ≡ length out
   length-put k [] out = refl
   length-put k (x ∷ l) out = length-put (k + 1) l (set out k x) ∙ length-set out k x
+
+  -- one list behind another
+  pub put-append : (k : ℕ) (a b out : List A) → putAt k (a ++ b) out ≡ putAt (k + length a) b (putAt k a out)
+  put-append k [] b out =
+      let z : k + 0 ≡ k = omega arith in
+      rw z
+  put-append k (x ∷ a) b out =
+      let z : k + suc (length a) ≡ k + 1 + length a = omega arith in
+      rw z (put-append (k + 1) a b (set out k x))
 
   pub put-front : (k : ℕ) (l out : List A) → k + length l ≤ length out → take (k + length l) (putAt k l out) ≡ take k out ++ l
   put-front k [] out h =

@@ -1,4 +1,6 @@
 -- What a line says of fences, and where a fence is closed. Assumes nothing.
+-- The page: "A fence begins its line, has a run of at least min and at least 1, and no further fence byte on that line. It is closed by
+-- the first later line whose run is as long or longer and whose rest is separators or tabs." and "Run counts stop at 255."
 
 use mathlib.Core.Bool.{Bool, true, false, _&&_}
 use mathlib.Core.List.{List}

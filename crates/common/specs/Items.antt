@@ -1,4 +1,5 @@
 -- Items that lead a line: what both item scanners read a text by, the bytes of a line, and what a scanner makes of a scan's answer. Assumes nothing.
+-- The page: "Optional separators and tabs, one accepted byte, one separator or tab; the span is the rest of the line."
 use mathlib.Core.Path.{_≡_}
 use mathlib.Core.Bool.{Bool, true, false, cond, _||_, _&&_}
 use mathlib.Core.List.{List, [], _∷_}

@@ -1,4 +1,6 @@
 -- Where a paragraph ends, and the next of a byte in it. Assumes nothing.
+-- The page: "`next_in_paragraph`: crosses one line end; stops at the end of input, at an empty line, or where the entered line opens a
+-- fence. A byte equal to the line end is never found by it."
 use mathlib.Core.Bool.{Bool, true, false, not, _&&_, _||_}
 use mathlib.Core.List.{List}
 use Prim.Native.Nat.{ℕ, _+_}

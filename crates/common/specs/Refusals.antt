@@ -1,4 +1,5 @@
 -- The numbers of refusals, and what an answer says: its number, 0 where the input is served, and its values. Assumes nothing.
+-- The page: the table of refusals, and "A refusal returns its number alone".
 use mathlib.Core.Bool.{Bool, true, false, not}
 use mathlib.Core.List.{List, [], _∷_}
 use Prim.Native.Nat.{ℕ}

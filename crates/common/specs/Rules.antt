@@ -1,4 +1,5 @@
 -- Fence rules: as columns, and by byte. Assumes nothing.
+-- The page: "by the first rule with that byte".
 use mathlib.Core.Bool.{Bool, cond}
 use mathlib.Core.List.{List, [], _∷_}
 use Prim.Native.Nat.{ℕ, zero, suc}

@@ -1,4 +1,6 @@
 -- Scanners of items that lead a line: a state's fields, the turn that they choose, what a step answers and leaves, and the items that a state has before it. Assumes nothing.
+-- The page: "With up to three accepted bytes the streaming scan is used, else the line scan; in a handmade state its flag decides, and a
+-- needle count over 3 acts as 3.", "State fields follow the Rust's.", "For a scanner: 1, 2."
 use mathlib.Core.Path.{_≡_}
 use mathlib.Core.Bool.{Bool, cond}
 use mathlib.Core.List.{List}

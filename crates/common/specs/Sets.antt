@@ -1,4 +1,6 @@
 -- Byte sets, the house classes, and the probe of a set. Assumes nothing.
+-- The page: "A set starts as 256 false entries and gains the accepted bytes", "1 for a marker, 2 for a delimiter, 4 for a digit, 0
+-- otherwise", "up to three accepted bytes in rising order, unused places 0, else none".
 use mathlib.Core.Path.{_≡_}
 use mathlib.Core.Bool.{Bool, true, false, cond, _&&_}
 use mathlib.Core.List.{List, [], _∷_}

@@ -1,4 +1,5 @@
 -- What one step of a search promises to the loop that makes it. Assumes nothing.
+-- The page's sentences stand in Fences.antt and Paragraph.antt; here is what their functions promise.
 use mathlib.Core.Path.{_≡_}
 use mathlib.Core.Bool.{Bool}
 use mathlib.Core.List.{List}

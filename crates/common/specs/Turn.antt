@@ -1,4 +1,5 @@
 -- Scans in turns: the first turn that does not only go on, all that a scan finds, what a run of steps yields, and what the places of a stretch have. Assumes nothing.
+-- The page: "each step takes a state and gives the answer with the next state", and "The scan goes on from the span's end."
 use mathlib.Core.Path.{_≡_}
 use mathlib.Core.List.{List, [], _∷_, _++_}
 use Prim.Native.Nat.{ℕ, zero, suc, _+_, _-_, _≤_, _<_}

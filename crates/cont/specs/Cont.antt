@@ -1,4 +1,5 @@
 -- The step of the scanner of frames, after cont.rs: what it answers, and the whole state after it. Assumes nothing.
+-- The page: "each step takes a state and gives the answer with the next state. State fields follow the Rust's.", and refusal 2.
 use mathlib.Core.Bool.{Bool, cond, _||_}
 use mathlib.Core.List.{List, [], _∷_}
 use Prim.Native.Nat.{ℕ, zero, suc, _+_, _-_, min}

@@ -1,4 +1,7 @@
 -- The frames of a text: the markers that lead a line, its depth, where a frame begins and where it ends. Assumes nothing.
+-- The page: "A line's depth is its count of leading markers, each taking one optional separator or tab, never above min(`max_nest`, 32).
+-- A frame at depth d starts at the d-th marker and ends at the start of the first line of smaller depth, or at the text's end; frames
+-- closing together come innermost first. Cap 0 opens nothing."
 use mathlib.Core.Bool.{Bool, true, false, cond, _&&_, _||_}
 use mathlib.Core.List.{List, [], _∷_, _++_, map}
 use Prim.Native.Nat.{ℕ, zero, suc, _+_, _-_}

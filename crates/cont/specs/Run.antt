@@ -1,4 +1,5 @@
 -- The run of the scanner: stepping a fresh state until none comes gives the frames of the text. Assumes nothing.
+-- The page: "frames closing together come innermost first", and shut out: "a scanner that yields its first span and then stops".
 use mathlib.Core.Path.{_≡_, refl, sym, ap, _∙_}
 use mathlib.Core.List.{List, [], _∷_, _++_, append-nil}
 use mathlib.Core.Bool.{true, false}

@@ -1,4 +1,5 @@
 -- What the functions of the scanner promise, and the step that a run takes. Assumes nothing.
+-- The page's sentences stand in Frames.antt and Cont.antt; here is what the functions promise.
 use mathlib.Core.Path.{_≡_}
 use mathlib.Core.List.{List}
 use Prim.Native.Nat.{ℕ, _+_, _-_, _≤_, _<_}

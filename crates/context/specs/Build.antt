@@ -1,4 +1,5 @@
 -- What building answers and writes. Assumes nothing.
+-- The page: "For building: 1, 6, 3." and "Success writes the regions from place 0, returns their count and changes nothing beyond them."
 use mathlib.Core.Path.{_≡_}
 use mathlib.Core.Bool.{Bool, true, false}
 use mathlib.Core.List.{List, [], _∷_}

@@ -1,4 +1,6 @@
 -- The cursor over a list of regions: what it answers of a place, and the index that it goes on from. Assumes nothing.
+-- The page: "The cursor skips regions whose end is at or before the place, never goes back, and gives the next region's end if its start
+-- is at or before the place." and "For a cursor: 5."
 use mathlib.Core.Bool.{Bool, true, false, cond, _&&_}
 use mathlib.Core.List.{List, [], _∷_}
 use Prim.Native.Nat.{ℕ, _+_, _*_, _≤_, _<_}

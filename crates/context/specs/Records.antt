@@ -1,4 +1,5 @@
 -- Fence rules as records: their columns, what gathering them makes, and building by what was gathered. Assumes nothing.
+-- The page: "afterwards a thin entry takes a lent run of fence rule records."
 use mathlib.Core.Path.{_≡_}
 use mathlib.Core.Bool.{Bool, true, false}
 use mathlib.Core.List.{List, [], map}

@@ -1,4 +1,6 @@
 -- The shape that an amendment and a work sheet ask of a list. Assumes nothing.
+-- The page, refusal 5: "a list's stated count is over its room; for an amendment or a work sheet also: regions unsorted, overlapping,
+-- empty (end not after start) or past the text".
 use mathlib.Core.Bool.{Bool, not, _||_}
 use mathlib.Core.List.{List}
 use Prim.Native.Nat.{ℕ}

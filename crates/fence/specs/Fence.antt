@@ -1,4 +1,7 @@
 -- What the fence scanner finds. Assumes nothing.
+-- The page: "A fence begins its line, has a run of at least min and at least 1, and no further fence byte on that line. It is closed by
+-- the first later line …", "The span ends after the closing line's line end, or at the text's end.", "The scan goes on from the span's
+-- end."
 use mathlib.Core.Bool.{Bool, true, false, cond, _&&_}
 use mathlib.Core.List.{List}
 use Prim.Native.Nat.{ℕ, _+_}

@@ -1,4 +1,5 @@
 -- The run: stepping a fresh state until nothing comes gives all fences of a text, in their order. Assumes nothing.
+-- The page: "The scan goes on from the span's end.", and shut out: "a scanner that yields its first span and then stops".
 use mathlib.Core.Path.{_≡_, refl, sym, ap, fun-ext, _∙_}
 use mathlib.Core.Bool.{Bool, true, false}
 use mathlib.Core.List.{List}

@@ -1,4 +1,5 @@
 -- What the functions promise of a turn of the search for a close and of a step, and the step that a run takes. Assumes nothing.
+-- The page: "each step takes a state and gives the answer with the next state".
 use mathlib.Core.Path.{_≡_}
 use mathlib.Core.List.{List}
 use Prim.Native.Nat.{ℕ, _≤_, _<_}

@@ -1,4 +1,5 @@
 -- What a loop knows that steps a state and puts a line for each thing that comes, and which scanners are stepped so. Assumes nothing.
+-- The page names no loop: this is what the loops of the listing keep.
 use mathlib.Core.Path.{_≡_}
 use mathlib.Core.Bool.{Bool}
 use mathlib.Core.List.{List, [], _∷_, _++_}

@@ -7,13 +7,12 @@ use native.Mathlib.Omega.{arith}
 use lib.ListN.{length, length-append, length-map}
 use Rattle.search.specs.Promise.{Steps}
 use Rattle.common.specs.Entry.{putAt}
-use Rattle.common.specs.EntryLaws.{length-put}
+use Rattle.common.specs.EntryLaws.{length-put, put-append}
 use Rattle.common.specs.Refusals.{Outcome, refuse}
 use Rattle.common.specs.Items.{stepFor}
 use Rattle.common.specs.Turn.{Step, yields, ends, thenDrain, drain}
 use Rattle.listing.specs.Lines.{line, lines}
 use Rattle.listing.specs.Put.{Laid, Put, Room}
-use Rattle.listing.specs.PutLaws.{put-append}
 use Rattle.listing.specs.Going.{mapStep, valueStep, Reads, Yields, Going}
 
 -- lines of what is made of each thing

@@ -1,4 +1,5 @@
 -- Regions and items held as runs of numbers, and the lines of their rows. Assumes nothing.
+-- The page: "then `W` for sheet items, with their M or N fields."
 use mathlib.Core.Path.{_≡_}
 use mathlib.Core.Bool.{cond}
 use mathlib.Core.List.{List, [], _∷_, _++_, map}

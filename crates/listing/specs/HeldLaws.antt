@@ -9,12 +9,11 @@ use lib.ListN.{length, getD, take, drop, length-append}
 use lib.Seq.{drop-cons, drop-drop}
 use borrow.Author.Tests.{eq-eqb, ne-eqb}
 use Rattle.common.specs.Entry.{rows, putAt}
-use Rattle.common.specs.EntryLaws.{length-put}
+use Rattle.common.specs.EntryLaws.{length-put, put-append}
 use Rattle.region.specs.Region.{pair}
 use Rattle.sheet.specs.Sheet.{five}
 use Rattle.listing.specs.Lines.{line, lines}
 use Rattle.listing.specs.Put.{Laid, Put, Room}
-use Rattle.listing.specs.PutLaws.{put-append}
 use Rattle.listing.specs.GoingLaws.{lines-map}
 use Rattle.listing.specs.Listing.{regions, regionLines, shown, sheetLines}
 use Rattle.listing.specs.Held.{Held, heldLines, Filed, rowFields, filedLines, Rowing}

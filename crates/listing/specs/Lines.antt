@@ -1,4 +1,5 @@
 -- Numbers in decimal, and lines of fields. Assumes nothing.
+-- The page: "Lines are fields parted by tabs, each ended by byte 10" and "Bytes are decimal."
 use mathlib.Core.Bool.{true, false}
 use mathlib.Core.List.{List, [], _∷_, _++_}
 use Prim.Native.Nat.{ℕ, zero, suc, _+_, _/_, _%_}

@@ -1,4 +1,7 @@
 -- The listing of a text by the house grammar. Assumes nothing.
+-- The page: "`R` start end; `F` start end fence byte (backtick fences first); `C` start end; `M` start end marker byte; `N` start end
+-- delimiter number; then `W` for sheet items, with their M or N fields.", and "more than 8,192 bytes, the program's own limit, prints
+-- only `X<TAB>1`."
 use mathlib.Core.Path.{_≡_}
 use mathlib.Core.Bool.{Bool, cond}
 use mathlib.Core.List.{List, [], _∷_, _++_}

@@ -1,7 +1,7 @@
 -- The ways out of a listing, and that its promise leaves one answer and one run. Assumes nothing.
 use mathlib.Core.Path.{_≡_, sym, ap, _∙_}
 use mathlib.Core.Bool.{true, false}
-use mathlib.Core.List.{List, [], _∷_, _++_, append-nil}
+use mathlib.Core.List.{List, [], _∷_}
 use mathlib.Core.Logic.{_⊎_, inl, inr}
 use Prim.Native.Nat.{ℕ, _≤_, _<_}
 use native.Mathlib.Omega.{arith}
@@ -10,8 +10,8 @@ use lib.ListN.{length, getD, take, drop, length-append}
 use lib.Seq.{length-take-le}
 use borrow.Author.Tests.{lt-ltb, le-ltb}
 use Rattle.search.specs.Promise.{Gives}
-use Rattle.common.specs.Entry.{putAt, over, Written}
-use Rattle.common.specs.EntryLaws.{written-none, written-put, written-all}
+use Rattle.common.specs.Entry.{over}
+use Rattle.common.specs.EntryLaws.{put-over}
 use Rattle.search.specs.SearchLaws.{decide}
 use Rattle.common.specs.Refusals.{Outcome, given, refused, told}
 use Rattle.common.specs.RefusalLaws.{answer-unique}
@@ -47,12 +47,6 @@ module _ (s : List ℕ) {out out′ : List ℕ} {r : ℕ} where
   pub listed-entries : length s ≤ 8192 → Laid (entries s) 0 out out′ r → Laid (listed s) 0 out out′ r
   unfolding listed
   listed-entries h p = rw (le-ltb 8192 (length s) h) p
-
--- put at the front of a run that it fits
-put-over : (l out : List ℕ) → length l ≤ length out → putAt 0 l out ≡ over l out
-put-over l out h =
-    let w : Written l (l ++ []) out out 0 = rw (append-nil l) (written-none h) in
-    written-all (written-put l w)
 
 -- ---- the ways out
 module _ (s : List ℕ) {out : List ℕ} where

@@ -4,9 +4,9 @@ use mathlib.Core.List.{List, append-assoc}
 use Prim.Native.Nat.{ℕ, _+_}
 use native.Mathlib.Omega.{arith}
 use lib.ListN.{length, length-append}
+use Rattle.common.specs.EntryLaws.{put-append}
 use Rattle.listing.specs.Listing.{regionLines, entries}
 use Rattle.listing.specs.Put.{Laid, Room}
-use Rattle.listing.specs.PutLaws.{put-append}
 use Rattle.listing.specs.Parts.{Parts, both, laterLines}
 
 pub both-parts : (first second : List ℕ → List ℕ) → Parts (both first second) first second

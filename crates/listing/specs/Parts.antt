@@ -1,4 +1,5 @@
 -- A listing in the parts that the functions put, one behind the other. Assumes nothing.
+-- The page's sentence stands in Listing.antt; here it is in parts.
 use mathlib.Core.Path.{_≡_}
 use mathlib.Core.List.{List, _++_}
 use Prim.Native.Nat.{ℕ}

@@ -1,4 +1,5 @@
 -- What is put at a place of a run. Assumes nothing.
+-- The page names no run: what lies past its end is counted and not written.
 use mathlib.Core.Path.{_≡_}
 use mathlib.Core.List.{List}
 use Prim.Native.Nat.{ℕ, _+_, _≤_}

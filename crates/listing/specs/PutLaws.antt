@@ -1,7 +1,7 @@
 -- Laws of what is put at a place of a run: one behind the other, and the rules of the functions that put bytes, numbers and lines. Assumes nothing.
 use mathlib.Core.Path.{_≡_, refl, sym, ap, _∙_}
 use mathlib.Core.List.{List, [], _∷_, _++_, append-assoc, append-nil}
-use Prim.Native.Nat.{ℕ, suc, _+_, _≤_, _<_, _/_, _%_}
+use Prim.Native.Nat.{ℕ, _+_, _≤_, _<_, _/_, _%_}
 use native.Mathlib.Omega.{arith}
 use lib.ListN.{length, set, length-append}
 use lib.Seq.{set-out}
@@ -9,18 +9,10 @@ use mir.Val.{Fits}
 use mir.Syntax.{w32}
 use Rattle.search.specs.Promise.{Gives}
 use Rattle.common.specs.Entry.{putAt}
+use Rattle.common.specs.EntryLaws.{put-append}
 use Rattle.listing.specs.Lines.{decimal, field, fields, line}
 use Rattle.listing.specs.LineLaws.{decimal-small, decimal-more, decimal-few}
 use Rattle.listing.specs.Put.{Put}
-
--- one list behind another
-pub put-append : (k : ℕ) (a b out : List ℕ) → putAt k (a ++ b) out ≡ putAt (k + length a) b (putAt k a out)
-put-append k [] b out =
-    let z : k + 0 ≡ k = omega arith in
-    rw z
-put-append k (x ∷ a) b out =
-    let z : k + suc (length a) ≡ k + 1 + length a = omega arith in
-    rw z (put-append (k + 1) a b (set out k x))
 
 -- ---- one byte
 module _ {b n : ℕ} {out : List ℕ} where

@@ -1,4 +1,6 @@
 -- The house rules of document 01. Assumes nothing.
+-- The page: "House grammar: line end 10, escape 92, separator 32, tab 9; fences backtick and tilde, min 3; symmetric backtick, count 1;
+-- asymmetric `<` `>`, count 1; markers `- * +`; delimiters `. )`; continuation `>`, nest 8."
 use mathlib.Core.List.{[], _∷_}
 use Prim.Native.Nat.{ℕ}
 use Rattle.common.specs.Grammars.{house}

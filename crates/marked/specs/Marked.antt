@@ -1,4 +1,5 @@
 -- The marked examples, all under one statement: the table computes from the definitions. Assumes nothing.
+-- The page: "P1 to P12 are proved from the definitions together, as one table under a single statement."
 use mathlib.Core.Path.{refl}
 use Rattle.search.specs.Search.{is, either, oneOf, other, holds, firstOf, firstPlace, find, back, lineStart}
 use Rattle.common.specs.Fences.{opensLine, closesTo, closing}

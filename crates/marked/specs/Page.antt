@@ -1,4 +1,5 @@
 -- The marked examples as rows of one table, and what a row says. Assumes nothing.
+-- The page: the section "Marked examples".
 use mathlib.Core.Path.{_≡_}
 use mathlib.Core.List.{List, [], _∷_}
 use Prim.Native.Nat.{ℕ, _/_}

@@ -1,4 +1,5 @@
 -- The state of the scanner of frames as a byte run. Assumes nothing.
+-- The page: "State fields follow the Rust's." and "each number of a list is four bytes, low byte first."
 use mathlib.Core.Path.{_≡_}
 use mathlib.Core.List.{List, [], _∷_, _++_}
 use Prim.Native.Nat.{ℕ, _+_, _*_}

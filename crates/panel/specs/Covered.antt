@@ -1,4 +1,6 @@
 -- What the cursor's entry answers. Assumes nothing.
+-- The page: "The cursor skips regions whose end is at or before the place, never goes back, and gives the next region's end if its start
+-- is at or before the place."
 use mathlib.Core.Bool.{cond}
 use mathlib.Core.List.{List, [], _∷_}
 use Prim.Native.Nat.{ℕ}

@@ -1,4 +1,5 @@
 -- What the entries of the leaves answer, where the core's answer is a record. Assumes nothing.
+-- The page: "calls building and scanning with numbers and byte runs".
 use mathlib.Core.List.{List, _∷_}
 use Prim.Native.Nat.{ℕ}
 use Rattle.common.specs.Refusals.{Outcome, given}

@@ -1,4 +1,5 @@
 -- States as byte runs, and what a scanner's entries return and leave. Assumes nothing.
+-- The page: "each step takes a state and gives the answer with the next state", "For a scanner: 1, 2."
 use mathlib.Core.Path.{_≡_}
 use mathlib.Core.Bool.{Bool, not, cond}
 use mathlib.Core.List.{List, [], _∷_}
@@ -7,12 +8,13 @@ use lib.Dec.{eqb}
 use lib.ListN.{length, getD}
 use Rattle.common.specs.Entry.{flatten}
 use Rattle.common.specs.Refusals.{Outcome, refuse, tooLong}
+use Rattle.common.specs.Scanning.{Fields}
 use Rattle.common.specs.Sets.{setOf}
 use Rattle.fence.specs.declared.FenceIter.{FenceIter}
 use Rattle.block_marker.specs.declared.BlockMarkerIter.{BlockMarkerIter}
-use Rattle.block_marker.specs.Marker.{answer as markerTold, state as markerNext}
+use Rattle.block_marker.specs.Marker as marker
 use Rattle.block_numbered.specs.declared.BlockNumberedIter.{BlockNumberedIter}
-use Rattle.block_numbered.specs.Numbered.{answer as numberedTold, state as numberedNext}
+use Rattle.block_numbered.specs.Numbered as numbered
 use Rattle.cells.specs.Bytes.{four, cells, asFlag, readable}
 use Rattle.cells.specs.Reply.{served, fitted, Replied}
 
@@ -53,39 +55,41 @@ abbrev pub markerLimits : List ℕ
 markerLimits = 255 ∷ 255 ∷ 255 ∷ 4294967295 ∷ 255 ∷ 255 ∷ 255 ∷ 4294967295 ∷ 1 ∷ []
 
 -- their cells: line end, separator, tab, place, three needles, the needles' count, and whether the scan streams
-abbrev pub itemCells : ℕ → ℕ → ℕ → ℕ → List ℕ → ℕ → Bool → List ℕ
-itemCells eol sep tab pos needles nn streaming = eol ∷ sep ∷ tab ∷ pos ∷ getD needles 0 0 ∷ getD needles 1 0 ∷ getD needles 2 0 ∷ nn ∷ asFlag streaming ∷ []
+abbrev pub itemCells : Fields → List ℕ
+itemCells f = f .eol ∷ f .sep ∷ f .tab ∷ f .pos ∷ getD (f .needles) 0 0 ∷ getD (f .needles) 1 0 ∷ getD (f .needles) 2 0 ∷ f .nn ∷ asFlag (f .streaming) ∷ []
 
--- what such cells make
-abbrev pub itemFrom : {G : Type 0} → (ℕ → ℕ → ℕ → ℕ → List ℕ → ℕ → Bool → G) → List ℕ → G
-itemFrom make l = make (getD l 0 0) (getD l 1 0) (getD l 2 0) (getD l 3 0) (getD l 4 0 ∷ getD l 5 0 ∷ getD l 6 0 ∷ []) (getD l 7 0) (eqb (getD l 8 0) 1)
-
-abbrev pub aMarker : ℕ → ℕ → ℕ → ℕ → List ℕ → ℕ → Bool → BlockMarkerIter
-aMarker eol sep tab pos needles nn streaming = record { eol = eol; sep = sep; tab = tab; pos = pos; needles = needles; nn = nn; streaming = streaming }
+-- the fields that such cells say
+abbrev pub itemFields : List ℕ → Fields
+itemFields l = record {
+  eol = getD l 0 0;
+  sep = getD l 1 0;
+  tab = getD l 2 0;
+  pos = getD l 3 0;
+  needles = getD l 4 0 ∷ getD l 5 0 ∷ getD l 6 0 ∷ [];
+  nn = getD l 7 0;
+  streaming = eqb (getD l 8 0) 1;
+}
 
 abbrev pub markerCells : BlockMarkerIter → List ℕ
-markerCells g = itemCells (g .eol) (g .sep) (g .tab) (g .pos) (g .needles) (g .nn) (g .streaming)
+markerCells g = itemCells (marker.scanner .fields g)
 
 unfoldable pub markerFrom : List ℕ → BlockMarkerIter
-markerFrom l = itemFrom aMarker l
+markerFrom l = marker.scanner .made (itemFields l)
 
 abbrev pub markerAnswer : List ℕ → BlockMarkerIter → List ℕ → Outcome
-markerAnswer accepted g s = markerTold g (setOf accepted) s
+markerAnswer accepted g s = marker.answer g (setOf accepted) s
 
 abbrev pub markerState : List ℕ → BlockMarkerIter → List ℕ → BlockMarkerIter
-markerState accepted g s = markerNext g (setOf accepted) s
-
-abbrev pub aNumbered : ℕ → ℕ → ℕ → ℕ → List ℕ → ℕ → Bool → BlockNumberedIter
-aNumbered eol sep tab pos needles nn streaming = record { eol = eol; sep = sep; tab = tab; pos = pos; needles = needles; nn = nn; streaming = streaming }
+markerState accepted g s = marker.state g (setOf accepted) s
 
 abbrev pub numberedCells : BlockNumberedIter → List ℕ
-numberedCells g = itemCells (g .eol) (g .sep) (g .tab) (g .pos) (g .needles) (g .nn) (g .streaming)
+numberedCells g = itemCells (numbered.scanner .fields g)
 
 unfoldable pub numberedFrom : List ℕ → BlockNumberedIter
-numberedFrom l = itemFrom aNumbered l
+numberedFrom l = numbered.scanner .made (itemFields l)
 
 abbrev pub numberedAnswer : List ℕ → BlockNumberedIter → List ℕ → Outcome
-numberedAnswer accepted g s = numberedTold g (setOf accepted) s
+numberedAnswer accepted g s = numbered.answer g (setOf accepted) s
 
 abbrev pub numberedState : List ℕ → BlockNumberedIter → List ℕ → BlockNumberedIter
-numberedState accepted g s = numberedNext g (setOf accepted) s
+numberedState accepted g s = numbered.state g (setOf accepted) s

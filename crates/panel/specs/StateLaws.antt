@@ -9,6 +9,7 @@ use lib.ListN.{length, getD, drop-of-length-le}
 use borrow.Author.Tests.{lt-ltb, le-ltb, eq-eqb, ne-eqb}
 use Rattle.search.specs.Promise.{Gives, Steps}
 use Rattle.common.specs.Entry.{flatten, over}
+use Rattle.common.specs.EntryLaws.{put-over}
 use Rattle.common.specs.Refusals.{Outcome, given, refused, numberOf}
 use Rattle.common.specs.RefusalLaws.{number-some}
 use Rattle.common.specs.Sets.{Index, setOf}
@@ -19,8 +20,8 @@ use Rattle.block_numbered.specs.declared.BlockNumberedIter.{BlockNumberedIter}
 use Rattle.block_numbered.specs.Numbered.{fresh as freshNumbered}
 use Rattle.cells.specs.Bytes.{four, cells, asFlag, readable}
 use Rattle.cells.specs.Reply.{LaidIf, fitted, Replied}
-use Rattle.panel.specs.State.{sized, Made, Moved, stepAnswer, fenceLimits, fenceFrom, markerLimits, markerCells, markerFrom, numberedCells, numberedFrom, itemCells, itemFrom, aMarker, aNumbered}
-use Rattle.cells.specs.ByteLaws.{length-four, put-over}
+use Rattle.panel.specs.State.{sized, Made, Moved, stepAnswer, fenceLimits, fenceFrom, markerLimits, markerCells, markerFrom, numberedCells, numberedFrom, itemCells, itemFields}
+use Rattle.cells.specs.ByteLaws.{length-four}
 use Rattle.cells.specs.ReplyLaws.{replied-unique, laid-there, too-short, enough, reply-short, refused-by}
 use Rattle.cells.specs.CellLaws.{readable-long, byte-field}
 
@@ -155,8 +156,8 @@ fence-read run a b c d e p h ga gb gc gd ge gp =
 
 module _ (run : List ℕ) (a b c p i j k n f : ℕ) (h : readable markerLimits run ≡ true) (ga : Gives (getD run 0 0) a) (gb : Gives (getD run 4 0) b) (gc : Gives (getD run 8 0) c) (gp : Gives (getD (cells run) 3 0) p)
     (gi : Gives (getD run 16 0) i) (gj : Gives (getD run 20 0) j) (gk : Gives (getD run 24 0) k) (gn : Gives (getD (cells run) 7 0) n) (gf : Gives (getD (cells run) 8 0) f) where
-  item-read : {G : Type 0} (make : ℕ → ℕ → ℕ → ℕ → List ℕ → ℕ → Bool → G) → make a b c p (i ∷ j ∷ k ∷ []) n (eqb f 1) ≡ itemFrom make (cells run)
-  item-read make =
+  item-read : record { eol = a; sep = b; tab = c; pos = p; needles = i ∷ j ∷ k ∷ []; nn = n; streaming = eqb f 1 } ≡ itemFields (cells run)
+  item-read =
       let x0 = byte-field markerLimits run 0 a h tt tt ga in
       let x1 = byte-field markerLimits run 1 b h tt tt gb in
       let x2 = byte-field markerLimits run 2 c h tt tt gc in
@@ -165,15 +166,15 @@ module _ (run : List ℕ) (a b c p i j k n f : ℕ) (h : readable markerLimits r
       let x6 = byte-field markerLimits run 6 k h tt tt gk in
       rw (x0, x1, x2, gp .answer, x4, x5, x6, gn .answer, gf .answer)
 
-  pub marker-read : aMarker a b c p (i ∷ j ∷ k ∷ []) n (eqb f 1) ≡ markerFrom (cells run)
+  pub marker-read : record { eol = a; sep = b; tab = c; pos = p; needles = i ∷ j ∷ k ∷ []; nn = n; streaming = eqb f 1 } ≡ markerFrom (cells run)
   unfolding markerFrom
-  marker-read = item-read aMarker
+  marker-read = ap (marker.scanner .made) item-read
 
-  pub numbered-read : aNumbered a b c p (i ∷ j ∷ k ∷ []) n (eqb f 1) ≡ numberedFrom (cells run)
+  pub numbered-read : record { eol = a; sep = b; tab = c; pos = p; needles = i ∷ j ∷ k ∷ []; nn = n; streaming = eqb f 1 } ≡ numberedFrom (cells run)
   unfolding numberedFrom
-  numbered-read = item-read aNumbered
+  numbered-read = ap (numbered.scanner .made) item-read
 
 -- a state's cells by what was read of it
 module _ (l : List ℕ) (streaming : Bool) (a b c p n i j k f : ℕ) (gi : Index (getD l 0 0) i) (gj : Index (getD l 1 0) j) (gk : Index (getD l 2 0) k) (gf : Gives (asFlag streaming) f) where
-  pub item-cells : a ∷ b ∷ c ∷ p ∷ i ∷ j ∷ k ∷ n ∷ f ∷ [] ≡ itemCells a b c p l n streaming
+  pub item-cells : a ∷ b ∷ c ∷ p ∷ i ∷ j ∷ k ∷ n ∷ f ∷ [] ≡ itemCells (record { eol = a; sep = b; tab = c; pos = p; needles = l; nn = n; streaming = streaming })
   item-cells = rw (gi .same, gj .same, gk .same, gf .answer)

@@ -1,4 +1,5 @@
 -- What building into a list in bytes answers and writes. Assumes nothing.
+-- The page: "For building: 1, 6, 3." and "each number of a list is four bytes, low byte first."
 use mathlib.Core.Path.{_≡_}
 use mathlib.Core.Bool.{Bool, not, cond, _||_}
 use mathlib.Core.List.{List, [], _∷_}

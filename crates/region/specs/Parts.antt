@@ -1,4 +1,5 @@
 -- The parts of a turn, by what each function is given. Assumes nothing.
+-- The page's sentences stand in Regions.antt; here are the parts, by what each function is given.
 use mathlib.Core.Bool.{Bool, true, false}
 use mathlib.Core.List.{List}
 use Prim.Native.Nat.{ℕ, _-_}

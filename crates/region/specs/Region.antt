@@ -1,4 +1,5 @@
 -- Regions and lists of regions: moved, kept before or from a place, reaching a place. Assumes nothing.
+-- The page: "region k has its start at 2k and its exclusive end at 2k+1."
 use mathlib.Core.Bool.{Bool, true, false, _||_, _&&_}
 use mathlib.Core.List.{List, [], _∷_, map}
 use Prim.Native.Nat.{ℕ, _+_, _≤_, _<_}

@@ -1,4 +1,6 @@
 -- The regions of a text, over an abstract grammar. Assumes nothing.
+-- The page, module 6: "A fence at a line start goes first, by the first rule with that byte; … A failed fence falls to the inline rule,
+-- symmetric before asymmetric, first match." and so on, a sentence to a definition.
 use mathlib.Core.Bool.{Bool, true, false}
 use mathlib.Core.List.{List}
 use Prim.Native.Nat.{ℕ, _+_, _-_, _%_}

@@ -1,4 +1,5 @@
 -- What the code's turns and answers say. Assumes nothing.
+-- The page: "For an answer that is an enum, a definition gives this paper's number and values for each of its cases".
 use mathlib.Core.List.{List, [], _∷_}
 use Prim.Native.Nat.{ℕ}
 use Rattle.common.specs.Turn.{Turn, go, stop, found}

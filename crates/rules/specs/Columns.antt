@@ -1,4 +1,6 @@
 -- The grammar of rules given as columns. Assumes nothing.
+-- The page: "Rules come as columns of numbers" and "Bytes searched for: fence bytes, symmetric bytes, asymmetric openers, in that order,
+-- without repeats, the first eleven kept."
 use mathlib.Core.Bool.{Bool, true, false, cond, _&&_, _||_}
 use mathlib.Core.List.{List, [], _∷_, _++_}
 use Prim.Native.Nat.{ℕ, _+_}

@@ -1,4 +1,5 @@
 -- The abstract grammar that regions are defined over. Assumes nothing.
+-- The page, module 6: what its sentences ask of rules, whatever gives them.
 use mathlib.Core.Bool.{Bool}
 use mathlib.Core.List.{List}
 use Prim.Native.Nat.{ℕ}

@@ -1,4 +1,5 @@
 -- All rules of the columns as tables over the byte, and the grammar that such tables make. Assumes nothing.
+-- The page: "by the first rule with that byte": all that a scan asks of the rules is a function of one byte.
 use mathlib.Core.List.{List, []}
 use Prim.Native.Nat.{ℕ}
 use lib.ListN.{length}

@@ -1,4 +1,5 @@
 -- Rules as tables over the bytes, and the grammar that tables make. Assumes nothing.
+-- The page: "by the first rule with that byte": all that a scan asks of the rules is a function of one byte.
 use mathlib.Core.Bool.{Bool, false}
 use mathlib.Core.List.{List}
 use Prim.Native.Nat.{ℕ}

@@ -1,4 +1,6 @@
 -- Searches that go by blocks: the tests of a byte that they make, and what each stage promises. Assumes nothing.
+-- The page: "`memchr`, `crate::swar::find_any` and `crate::span::Span` are only called there; here they are plain searches": these are
+-- proved equal to those.
 use mathlib.Core.Path.{_≡_}
 use mathlib.Core.Bool.{Bool, true, false, _||_}
 use mathlib.Core.List.{List}

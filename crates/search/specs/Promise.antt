@@ -1,4 +1,5 @@
 -- How a promise is written, with the laws that two answers which keep it are equal. Assumes nothing.
+-- The page: "For every input, refused ones too, the promise determines the answer".
 use mathlib.Core.Path.{_≡_, sym, _∙_}
 
 -- the promise of a function that only answers: its answer is x

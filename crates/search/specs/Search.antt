@@ -1,4 +1,6 @@
 -- Tests of bytes, searches forward and back, and lines: what each search answers. Assumes nothing.
+-- The page: "`memchr`, `crate::swar::find_any` … here they are plain searches", "`find_line_end`: first line-end byte at or after a
+-- place, else the length. `count_escape`: run of escape bytes just before."
 use mathlib.Core.Path.{_≡_}
 use mathlib.Core.Bool.{Bool, true, false, not, _||_, _&&_}
 use mathlib.Core.List.{List, [], _∷_}

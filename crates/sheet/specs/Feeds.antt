@@ -1,4 +1,5 @@
 -- Both scanners as one run of items: where it begins, and what is taken of it. Assumes nothing.
+-- The page: "both scanned from place 0", "by rising content start, the marker item first where two are equal".
 use mathlib.Core.Bool.{Bool, cond}
 use mathlib.Core.List.{List}
 use Prim.Native.Nat.{ℕ}

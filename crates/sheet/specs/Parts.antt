@@ -1,4 +1,5 @@
 -- What the parts of a work sheet ask and promise. Assumes nothing.
+-- The page's sentences stand in Sheet.antt; here are its parts, a function each.
 use mathlib.Core.Path.{_≡_}
 use mathlib.Core.Bool.{Bool, true, false}
 use mathlib.Core.List.{List, [], _∷_, map}

@@ -1,4 +1,6 @@
 -- The work sheet of a text: what it holds, and what making one answers and writes. Assumes nothing.
+-- The page: "It holds the marker and numbered items, both scanned from place 0, whose content start isn't inside a region, by rising
+-- content start, the marker item first where two are equal." and "For a work sheet: 1, 5, 3."
 use mathlib.Core.Path.{_≡_}
 use mathlib.Core.Bool.{Bool, true, false, _||_}
 use mathlib.Core.List.{List, [], _∷_, map}
