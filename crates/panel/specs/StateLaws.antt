@@ -15,9 +15,9 @@ use Rattle.common.specs.RefusalLaws.{number-some}
 use Rattle.common.specs.Sets.{Index, setOf}
 use Rattle.common.specs.declared.refusal.Refusal.{Refusal}
 use Rattle.block_marker.specs.declared.BlockMarkerIter.{BlockMarkerIter}
-use Rattle.block_marker.specs.Marker.{fresh as freshMarker}
+use Rattle.block_marker.specs.Marker as marker
 use Rattle.block_numbered.specs.declared.BlockNumberedIter.{BlockNumberedIter}
-use Rattle.block_numbered.specs.Numbered.{fresh as freshNumbered}
+use Rattle.block_numbered.specs.Numbered as numbered
 use Rattle.cells.specs.Bytes.{four, cells, asFlag, readable}
 use Rattle.cells.specs.Reply.{LaidIf, fitted, Replied}
 use Rattle.panel.specs.State.{sized, Made, Moved, stepAnswer, fenceLimits, fenceFrom, markerLimits, markerCells, markerFrom, numberedCells, numberedFrom, itemCells, itemFields}
@@ -54,13 +54,13 @@ module _ {G : Type 0} (show : G → List ℕ) where
   pub made-as : (x g : G) (next run run′ : List ℕ) (n : ℕ) → Gives x g → Gives (show g) next → Made next run run′ n → Made (show x) run run′ n
   made-as x g next run run′ n a b d = subst (λ (l : List ℕ). Made l run run′ n) (b .answer ∙ ap show (a .answer)) d
 
-pub made-marker : (eol sep tab : ℕ) (accepted : List ℕ) (set : List Bool) (g : BlockMarkerIter) (next run run′ : List ℕ) (n : ℕ) → Gives (setOf accepted) set → Gives (freshMarker eol sep tab set) g → Gives (markerCells g) next → Made next run run′ n
-    → Made (markerCells (freshMarker eol sep tab (setOf accepted))) run run′ n
-made-marker eol sep tab accepted set g next run run′ n s a b d = made-as markerCells (freshMarker eol sep tab (setOf accepted)) g next run run′ n (record { answer = a .answer ∙ ap (freshMarker eol sep tab) (s .answer) }) b d
+pub made-marker : (eol sep tab : ℕ) (accepted : List ℕ) (set : List Bool) (g : BlockMarkerIter) (next run run′ : List ℕ) (n : ℕ) → Gives (setOf accepted) set → Gives (marker.fresh eol sep tab set) g → Gives (markerCells g) next → Made next run run′ n
+    → Made (markerCells (marker.fresh eol sep tab (setOf accepted))) run run′ n
+made-marker eol sep tab accepted set g next run run′ n s a b d = made-as markerCells (marker.fresh eol sep tab (setOf accepted)) g next run run′ n (record { answer = a .answer ∙ ap (marker.fresh eol sep tab) (s .answer) }) b d
 
-pub made-numbered : (eol sep tab : ℕ) (accepted : List ℕ) (set : List Bool) (g : BlockNumberedIter) (next run run′ : List ℕ) (n : ℕ) → Gives (setOf accepted) set → Gives (freshNumbered eol sep tab set) g → Gives (numberedCells g) next → Made next run run′ n
-    → Made (numberedCells (freshNumbered eol sep tab (setOf accepted))) run run′ n
-made-numbered eol sep tab accepted set g next run run′ n s a b d = made-as numberedCells (freshNumbered eol sep tab (setOf accepted)) g next run run′ n (record { answer = a .answer ∙ ap (freshNumbered eol sep tab) (s .answer) }) b d
+pub made-numbered : (eol sep tab : ℕ) (accepted : List ℕ) (set : List Bool) (g : BlockNumberedIter) (next run run′ : List ℕ) (n : ℕ) → Gives (setOf accepted) set → Gives (numbered.fresh eol sep tab set) g → Gives (numberedCells g) next → Made next run run′ n
+    → Made (numberedCells (numbered.fresh eol sep tab (setOf accepted))) run run′ n
+made-numbered eol sep tab accepted set g next run run′ n s a b d = made-as numberedCells (numbered.fresh eol sep tab (setOf accepted)) g next run run′ n (record { answer = a .answer ∙ ap (numbered.fresh eol sep tab) (s .answer) }) b d
 
 -- ---- a step's values and next state
 module _ (vs next state run : List ℕ) (m : ℕ) (room : Gives (length run / 4) m) where
