@@ -1,64 +1,58 @@
-// Lists of so many cells that something is written into: 1, the count or 0, the refusal's number or 0, how many cells there are, and
-// these, which held other numbers before.
-use crate::numbers::number_of;
-use crate::numbers::put;
-use crate::numbers::put_two;
+// Lists that something is written into, and what they hold then.
+use crate::cuts::part;
+use crate::numbers::Numbers;
 use common::refusal::Answer;
 
-// The most cells, and the place of the first.
-const MOST: usize = 64;
+// The most cells of a list whose size is stated.
+pub(crate) const MOST: usize = 64;
 
-pub(crate) const START: usize = 4;
+// The most numbers of a list that is written whole, more than any stored answer has.
+pub(crate) const ROOM: usize = 2048;
 
-// Puts as many cells as are wanted, all different, and gives the end of the last; 0 where they are too many.
-pub(crate) fn put_marked(out: &mut [u32], size: usize) -> usize {
+// So many cells, and further ones behind them, each with a number of its own.
+pub(crate) fn marked(size: usize) -> [u32; MOST] {
+    let mut cells = [0u32; MOST];
+    let mut i = 0;
+    while i < MOST {
+        cells[i] = mark(size, i);
+        i += 1;
+    }
+    cells
+}
+
+fn mark(size: usize, i: usize) -> u32 {
     if size > MOST {
         return 0;
     }
-    let n = put(out, 3, number_of(size));
-    put_marks(out, n, size)
-}
-
-fn put_marks(out: &mut [u32], from: usize, size: usize) -> usize {
-    let mut n = from;
-    let mut left = size;
-    while left > 0 {
-        n = put(out, n, mark(left));
-        left -= 1;
+    if i < size {
+        return (size - i) as u32 + 1000;
     }
-    n
+    0
 }
 
-fn mark(left: usize) -> u32 {
-    if left > MOST {
-        return 0;
-    }
-    left as u32 + 1000
-}
-
-// What writing into them answered.
-pub(crate) fn put_answer(out: &mut [u32], answer: Answer) {
+// What writing into cells answered: 1, the count or 0, the refusal's number or 0, how many cells there are, and these.
+pub(crate) fn told(answer: Answer, cells: &[u32], reply: Numbers) -> Numbers {
     match answer {
-        Answer::Value(count) => {
-            put_two(out, 0, 1, number_of(count));
-            put(out, 2, 0);
-        }
-        Answer::Refused(r) => {
-            put_two(out, 0, 1, 0);
-            put(out, 2, r.number());
-        }
+        Answer::Value(count) => reply.value(count).and(0).list(cells),
+        Answer::Refused(r) => reply.and(1).and(0).and(r.number()).list(cells),
     }
 }
 
-// Where so many entries end that stand behind two numbers and have `width` numbers each, two or five; the room's end where they are
-// more than any stored answer has.
-pub(crate) fn behind_two(count: usize, width: usize, room: usize) -> usize {
+// What writing entries of `width` numbers answered: 1, their count, and these.
+pub(crate) fn entries(answer: Answer, cells: &[u32], width: usize, reply: Numbers) -> Numbers {
+    match answer {
+        Answer::Value(count) => reply.value(count).all(part(cells, 0, end_of(count, width))),
+        Answer::Refused(r) => reply.refused(r),
+    }
+}
+
+// Where so many entries of two or five numbers end; past every list where they are more than any stored answer has.
+fn end_of(count: usize, width: usize) -> usize {
     if count > 400 {
-        return room;
+        return ROOM + 1;
     }
-    match width {
-        2 => count * 2 + 2,
-        5 => count * 5 + 2,
-        _ => room,
+    if width == 2 {
+        return count * 2;
     }
+    count * 5
 }

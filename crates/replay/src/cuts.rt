@@ -35,7 +35,7 @@ pub(crate) fn are_entries(run: &[u32], width: usize) -> bool {
 }
 
 // The next place within entries of `width` numbers.
-pub(crate) fn next_within(k: usize, width: usize) -> usize {
+fn next_within(k: usize, width: usize) -> usize {
     if k < width {
         if k + 1 < width {
             return k + 1;
@@ -49,9 +49,6 @@ pub(crate) fn as_bytes(run: &[u32]) -> [u8; MOST] {
     let mut bytes = [0u8; MOST];
     let mut i = 0;
     while i < MOST {
-        if i >= run.len() {
-            return bytes;
-        }
         bytes[i] = byte_at(run, i);
         i += 1;
     }
@@ -72,9 +69,7 @@ pub(crate) fn after_list(run: &[u32], at: usize) -> usize {
 // The numbers of the list whose count stands at `at` and which ends at `end`.
 pub(crate) fn list(run: &[u32], at: usize, end: usize) -> &[u32] {
     if at < end {
-        if end <= run.len() {
-            return &run[at + 1..end];
-        }
+        return part(run, at + 1, end);
     }
     &run[0..0]
 }
@@ -82,9 +77,7 @@ pub(crate) fn list(run: &[u32], at: usize, end: usize) -> &[u32] {
 // The same of bytes.
 pub(crate) fn counted(bytes: &[u8], at: usize, end: usize) -> &[u8] {
     if at < end {
-        if end <= bytes.len() {
-            return &bytes[at + 1..end];
-        }
+        return bytes_part(bytes, at + 1, end);
     }
     &bytes[0..0]
 }

@@ -5,18 +5,25 @@ use crate::cuts::part;
 // The most lists that stand before a text.
 pub(crate) const LISTS: usize = 7;
 
+// The places of a text: it is asked of as a whole; from its start, from its second byte on, and from its start to one past its end.
+// At the last of them nothing is asked: the letter isn't known.
+pub(crate) const WHOLE: u8 = 0;
+
+pub(crate) const FROM_START: u8 = 1;
+
+pub(crate) const FROM_SECOND: u8 = 2;
+
+pub(crate) const BEYOND: u8 = 3;
+
+const UNKNOWN: u8 = 4;
+
 pub(crate) struct Form {
-    known: bool,
     // How many single numbers come first; of these, how many may be any numbers before the others, which are bytes.
-    singles: usize,
     wide: usize,
-    // How many lists follow, and which of them may hold any numbers; the others hold bytes.
+    singles: usize,
+    // How many lists follow.
     lists: usize,
-    free: [bool; LISTS],
-    // Whether a place follows the text. A block asks at all places from the first on, to one past the text where it goes beyond.
-    pub(crate) placed: bool,
-    pub(crate) first: usize,
-    pub(crate) beyond: bool,
+    pub(crate) places: u8,
 }
 
 // Where the parts of a question end: at place 0 the single numbers, then each list, and last the text. A list that the form doesn't
@@ -26,39 +33,18 @@ pub(crate) struct Ends {
 }
 
 impl Form {
-    pub(crate) fn new(wide: usize, singles: usize) -> Self {
+    pub(crate) fn new(wide: usize, singles: usize, lists: usize, places: u8) -> Self {
         Form {
-            known: true,
-            singles,
             wide,
-            lists: 0,
-            free: [false; LISTS],
-            placed: false,
-            first: 0,
-            beyond: false,
+            singles,
+            lists,
+            places,
         }
     }
 
     // A letter that asks nothing.
     pub(crate) fn unknown() -> Self {
-        let mut form = Form::new(0, 0);
-        form.known = false;
-        form
-    }
-
-    pub(crate) fn with_lists(self, lists: usize, free: [bool; LISTS]) -> Self {
-        let mut form = self;
-        form.lists = lists;
-        form.free = free;
-        form
-    }
-
-    pub(crate) fn at_places(self, first: usize, beyond: bool) -> Self {
-        let mut form = self;
-        form.placed = true;
-        form.first = first;
-        form.beyond = beyond;
-        form
+        Form::new(0, 0, 0, UNKNOWN)
     }
 
     pub(crate) fn ends(self, asked: &[u32]) -> Ends {
@@ -75,9 +61,17 @@ impl Form {
         Ends { at }
     }
 
+    // How many numbers stand behind the text of a question, which isn't a block's.
+    pub(crate) fn behind_text(self) -> usize {
+        if self.places == WHOLE {
+            return 0;
+        }
+        1
+    }
+
     // Whether a question's numbers are bytes wherever bytes are meant. The text has entries of `width` numbers, the first a byte.
-    pub(crate) fn is_sound(self, asked: &[u32], ends: Ends, width: usize) -> bool {
-        if !self.known {
+    pub(crate) fn is_sound(self, section: u32, asked: &[u32], ends: Ends, width: usize) -> bool {
+        if self.places == UNKNOWN {
             return false;
         }
         if !cuts::are_entries(part(asked, self.wide, self.singles), 1) {
@@ -86,21 +80,7 @@ impl Form {
         if !cuts::are_entries(ends.text(asked), width) {
             return false;
         }
-        self.has_sound_lists(asked, ends)
-    }
-
-    fn has_sound_lists(self, asked: &[u32], ends: Ends) -> bool {
-        let free = self.free;
-        let mut i = 0;
-        while i < LISTS {
-            if !free[i] {
-                if !cuts::are_entries(ends.list(asked, i), 1) {
-                    return false;
-                }
-            }
-            i += 1;
-        }
-        true
+        ends.are_sound(section, asked)
     }
 }
 
@@ -112,7 +92,34 @@ fn end_after(asked: &[u32], at: usize, is_there: bool) -> usize {
     at
 }
 
+// Whether list `i` of a section may hold any numbers: the cells of a frame scanner, the counts of inline rules, and regions. The
+// others hold bytes.
+fn is_free(section: u32, i: usize) -> bool {
+    match section {
+        5 | 7 => true,
+        6 => match i {
+            3 | 6 => true,
+            _ => false,
+        },
+        8 => i == 2,
+        _ => false,
+    }
+}
+
 impl Ends {
+    fn are_sound(self, section: u32, asked: &[u32]) -> bool {
+        let mut i = 0;
+        while i < LISTS {
+            if !is_free(section, i) {
+                if !cuts::are_entries(self.list(asked, i), 1) {
+                    return false;
+                }
+            }
+            i += 1;
+        }
+        true
+    }
+
     // The numbers of a list.
     pub(crate) fn list(self, asked: &[u32], i: usize) -> &[u32] {
         if i < LISTS {

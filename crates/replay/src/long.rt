@@ -1,6 +1,7 @@
 // Texts that are too long for a line: given in runs, or drawn.
 use crate::cuts::byte_at;
 use crate::cuts::number_at;
+use crate::texts::named;
 
 // The room for a text.
 pub(crate) const ROOM: usize = 8200;
@@ -70,12 +71,7 @@ impl Draw {
 
     // The byte of an alphabet that it names.
     fn byte(self, alphabet: &[u8]) -> u8 {
-        let high = (self.at / 65536) as usize;
-        let size = alphabet.len();
-        if size == 0 {
-            return 0;
-        }
-        search::byte_at(alphabet, high % size)
+        named((self.at / 65536) as usize, alphabet)
     }
 }
 

@@ -1,5 +1,6 @@
 // Replays stored answers. Standard input holds lists of questions with their answers; ours are asked the same, and each line whose
 // answer isn't the same is told. The head of each list says how to read it.
+mod answers; // an answer in a list's terms
 mod blocks; // a question asked of many texts
 mod cells; // lists of so many cells
 mod covers; // section 7: the cursor
@@ -23,25 +24,15 @@ mod regions; // section 6: regions, and the bytes that are searched for
 mod report; // what is printed
 mod sections; // which section asks what
 mod sheets; // section 8: the work sheet
-mod spans; // what a scanner of spans answers
 mod sums; // the checksums of a block
 mod tally; // what is counted
 mod texts; // the texts of a block
-mod told; // an answer in a list's terms
+
+use libc::STDIN_FILENO;
 
 fn main() {
-    let mut space = [0u8; input::ROOM];
-    let buffer: &mut [u8] = &mut space;
-    let mut state = input::start();
-    // A proved loop has to end, and nothing says that the input does. So the turns are counted down, from a number that no run
-    // uses up.
-    let mut turns = u64::MAX;
-    while turns > 0 {
-        state = input::turn(buffer, state);
-        if state.ended {
-            break;
-        }
-        turns -= 1;
-    }
-    input::finish(state);
+    let mut room = input::room();
+    let buffer: &mut [u8] = &mut room;
+    let n = io::read_full(STDIN_FILENO, buffer);
+    input::judged(cuts::bytes_part(&buffer[..], 0, n)).end();
 }

@@ -1,103 +1,93 @@
 // Section 4: the scanner of numbered items.
-use crate::cuts::byte_at;
+use crate::answers::STEPS;
 use crate::cuts::number_at;
 use crate::form::Ends;
 use crate::items;
-use crate::numbers::put;
-use crate::numbers::put_two;
-use crate::spans;
+use crate::numbers::Numbers;
 use block_numbered::BlockNumberedIter;
 use block_numbered::NumberedFound;
 use block_numbered::NumberedItem;
+use common::sets;
+use search::byte_at;
 
 // A fresh state, all items that it yields, or a step of a handmade state at a place.
 pub(crate) fn ask(
     letter: u8,
-    asked: &[u32],
     ends: Ends,
+    asked: &[u32],
+    bytes: &[u8],
     text: &[u8],
     place: usize,
-    out: &mut [u32],
-) -> usize {
-    let set = items::set_of(asked, ends);
+    reply: Numbers,
+) -> Numbers {
+    let cells = sets::byte_set(ends.bytes(bytes, 0));
+    let set: &[bool; 256] = &cells;
     match letter {
-        b'f' => {
-            let n = put(out, 0, 1);
-            put_state(out, n, fresh(asked, &set))
-        }
-        b'r' => run(fresh(asked, &set), text, &set, out),
-        _ => step(handmade(asked, place), text, &set, out),
+        b'f' => state(fresh(bytes, set), reply.and(1)),
+        b'r' => run(fresh(bytes, set), text, set, reply.entries()),
+        _ => step(
+            handmade(number_at(asked, 0) as usize, bytes, place),
+            text,
+            set,
+            reply,
+        ),
     }
 }
 
-fn fresh(asked: &[u32], set: &[bool; 256]) -> BlockNumberedIter {
-    BlockNumberedIter::new(byte_at(asked, 0), byte_at(asked, 1), byte_at(asked, 2), set)
+fn fresh(bytes: &[u8], set: &[bool; 256]) -> BlockNumberedIter {
+    BlockNumberedIter::new(byte_at(bytes, 0), byte_at(bytes, 1), byte_at(bytes, 2), set)
 }
 
-fn handmade(asked: &[u32], place: usize) -> BlockNumberedIter {
+fn handmade(nn: usize, bytes: &[u8], place: usize) -> BlockNumberedIter {
     BlockNumberedIter {
-        eol: byte_at(asked, 2),
-        sep: byte_at(asked, 3),
-        tab: byte_at(asked, 4),
+        eol: byte_at(bytes, 2),
+        sep: byte_at(bytes, 3),
+        tab: byte_at(bytes, 4),
         pos: place,
-        needles: items::needles_of(asked),
-        nn: number_at(asked, 0) as usize,
-        streaming: byte_at(asked, 1) > 0,
+        needles: items::needles_of(bytes),
+        nn,
+        streaming: byte_at(bytes, 1) > 0,
     }
 }
 
-fn put_state(out: &mut [u32], n: usize, state: BlockNumberedIter) -> usize {
-    let m = items::put_bounds(out, n, state.eol, state.sep, state.tab);
-    let needles = state.needles;
-    items::put_scan(out, m, &needles, state.nn, state.streaming, state.pos)
+fn state(s: BlockNumberedIter, reply: Numbers) -> Numbers {
+    let needles = s.needles;
+    items::state(reply, s.eol, s.sep, s.tab, needles, s.nn, s.streaming, s.pos)
 }
 
-fn put_item(out: &mut [u32], n: usize, item: NumberedItem) -> usize {
-    let m = put_two(out, n, item.number, item.delimiter as u32);
-    spans::put_span(out, m, item.span)
+fn item(item: NumberedItem, reply: Numbers) -> Numbers {
+    reply.and(item.number)
+        .byte(item.delimiter)
+        .span(item.span)
 }
 
-fn put_found(out: &mut [u32], found: NumberedFound) -> usize {
+fn found(found: NumberedFound, reply: Numbers) -> Numbers {
     match found {
-        NumberedFound::Item(item) => {
-            let n = put(out, 0, 1);
-            put_item(out, n, item)
-        }
-        NumberedFound::Nothing => put(out, 0, 2),
-        NumberedFound::Refused(r) => put_two(out, 0, 0, r.number()),
+        NumberedFound::Item(i) => item(i, reply.and(1)),
+        NumberedFound::Nothing => reply.nothing(),
+        NumberedFound::Refused(r) => reply.refused(r),
     }
 }
 
-// The item alone, behind the others of a run; nothing where there is none.
-fn put_next(out: &mut [u32], n: usize, found: NumberedFound) -> usize {
-    match found {
-        NumberedFound::Item(item) => put_item(out, n, item),
-        NumberedFound::Nothing => n,
-        NumberedFound::Refused(_) => n,
-    }
+fn step(from: BlockNumberedIter, text: &[u8], set: &[bool; 256], reply: Numbers) -> Numbers {
+    let step = from.next(text, set);
+    let given = step.found;
+    state(step.next, found(given, reply))
 }
 
-fn step(state: BlockNumberedIter, text: &[u8], set: &[bool; 256], out: &mut [u32]) -> usize {
-    let step = state.next(text, set);
-    let found = step.found;
-    let n = put_found(out, found);
-    put_state(out, n, step.next)
-}
-
-fn run(fresh: BlockNumberedIter, text: &[u8], set: &[bool; 256], out: &mut [u32]) -> usize {
+fn run(fresh: BlockNumberedIter, text: &[u8], set: &[bool; 256], begun: Numbers) -> Numbers {
     let mut state = fresh;
-    let mut n = 2;
-    let mut turns = spans::STEPS;
-    while turns > 0 {
+    let mut reply = begun;
+    let mut count = 0;
+    while count < STEPS {
         let step = state.next(text, set);
         let found = step.found;
-        let m = put_next(out, n, found);
-        if m == n {
-            return spans::put_head(out, n, 4);
-        }
-        n = m;
+        let NumberedFound::Item(i) = found else {
+            return reply.counted(count);
+        };
+        reply = item(i, reply);
         state = step.next;
-        turns -= 1;
+        count += 1;
     }
-    spans::put_head(out, n, 4)
+    reply.counted(count)
 }

@@ -1,28 +1,48 @@
-// Runs of numbers: those of a line, and answers.
+// Runs of numbers: those of a line, and answers. They are handed on by value: that is proved far faster than a lent list.
+use crate::sums::Sums;
 
 // The most numbers that a line has.
 pub(crate) const MOST: usize = 128;
 
-// The room for an answer.
-pub(crate) const ROOM: usize = 16384;
-
 pub(crate) struct Numbers {
+    // The first of them. An answer that is stored has no more.
     pub(crate) cells: [u32; MOST],
     pub(crate) count: usize,
     // Whether more came than there is room for.
     pub(crate) over: bool,
+    // Whether a refusal came, which the Rust tells by the number 0 alone.
+    pub(crate) cut: bool,
+    // What all of them, up to a refusal's 0, make of a block's sums.
+    pub(crate) sums: Sums,
 }
 
 impl Numbers {
     pub(crate) fn none() -> Self {
+        Numbers::after(Sums::new())
+    }
+
+    // No number yet of an answer whose question was fed to these sums.
+    pub(crate) fn after(sums: Sums) -> Self {
         Numbers {
             cells: [0; MOST],
             count: 0,
             over: false,
+            cut: false,
+            sums,
         }
     }
 
     pub(crate) fn and(self, x: u32) -> Self {
+        let mut all = self.kept(x);
+        if all.cut {
+            return all;
+        }
+        let sums = all.sums;
+        all.sums = sums.answer(x);
+        all
+    }
+
+    fn kept(self, x: u32) -> Self {
         let mut all = self;
         let n = all.count;
         if n < MOST {
@@ -33,37 +53,60 @@ impl Numbers {
         all.over = true;
         all
     }
-}
 
-// Writes a number behind the first `n` of an answer, and gives how many there are then. What finds no room is lost, and so the answer
-// is none that is stored.
-pub(crate) fn put(out: &mut [u32], n: usize, x: u32) -> usize {
-    if n < out.len() {
-        out[n] = x;
-        return n + 1;
+    pub(crate) fn byte(self, b: u8) -> Self {
+        self.and(b as u32)
     }
-    n
-}
 
-// Two numbers.
-pub(crate) fn put_two(out: &mut [u32], n: usize, x: u32, y: u32) -> usize {
-    let m = put(out, n, x);
-    put(out, m, y)
-}
-
-// A list of bytes.
-pub(crate) fn put_bytes(out: &mut [u32], n: usize, bytes: &[u8]) -> usize {
-    let mut m = put(out, n, number_of(bytes.len()));
-    let mut i = 0;
-    while i < bytes.len() {
-        m = put_byte(out, m, bytes[i]);
-        i += 1;
+    pub(crate) fn size(self, n: usize) -> Self {
+        self.and(number_of(n))
     }
-    m
-}
 
-fn put_byte(out: &mut [u32], n: usize, b: u8) -> usize {
-    put(out, n, b as u32)
+    pub(crate) fn flag(self, on: bool) -> Self {
+        self.and(on as u32)
+    }
+
+    pub(crate) fn all(self, run: &[u32]) -> Self {
+        let mut all = self;
+        let mut i = 0;
+        while i < run.len() {
+            all = all.and(run[i]);
+            i += 1;
+        }
+        all
+    }
+
+    // A list of numbers.
+    pub(crate) fn list(self, run: &[u32]) -> Self {
+        self.size(run.len()).all(run)
+    }
+
+    // A list of bytes.
+    pub(crate) fn bytes(self, bytes: &[u8]) -> Self {
+        let mut all = self.size(bytes.len());
+        let mut i = 0;
+        while i < bytes.len() {
+            all = all.byte(bytes[i]);
+            i += 1;
+        }
+        all
+    }
+
+    // An answer that begins with 1 and the count of the entries that follow; `counted` says how many these were.
+    pub(crate) fn entries(self) -> Self {
+        let mut all = self.and(1).kept(0);
+        let sums = all.sums;
+        all.sums = sums.count();
+        all
+    }
+
+    pub(crate) fn counted(self, count: u32) -> Self {
+        let mut all = self;
+        all.cells[1] = count;
+        let sums = all.sums;
+        all.sums = sums.counted(count);
+        all
+    }
 }
 
 // Whether two runs are the same.

@@ -5,25 +5,36 @@ use crate::cuts::number_at;
 use crate::form::Ends;
 use crate::form::Form;
 use crate::long;
+use crate::numbers::Numbers;
 use crate::sections;
+
+// The numbers that ask stand beside it, as they are and as bytes.
+pub(crate) struct Question {
+    pub(crate) section: u32,
+    // The letter that asks of one text.
+    pub(crate) letter: u8,
+    pub(crate) places: u8,
+    pub(crate) ends: Ends,
+}
 
 // What ours answer; no number where the section has no such question. A small letter asks of one text, which has a star where it
 // stands there in runs; a capital asks of all texts of a length, with a star of such as are drawn.
-pub(crate) fn reply(
-    section: u32,
-    letter: u8,
-    starred: bool,
-    asked: &[u32],
-    out: &mut [u32],
-) -> usize {
+pub(crate) fn reply(section: u32, letter: u8, starred: bool, asked: &[u32]) -> Numbers {
     let form = sections::form_of(section, small(letter));
-    if is_capital(letter) {
-        return many(section, small(letter), form, asked, starred, out);
+    let ends = form.ends(asked);
+    if ends.rest(asked).len() != behind_text(form, letter, starred) {
+        return Numbers::none();
     }
-    if starred {
-        return in_runs(section, letter, form, asked, out);
+    if !form.is_sound(section, asked, ends, width(letter, starred)) {
+        return Numbers::none();
     }
-    one(section, letter, form, asked, out)
+    let question = Question {
+        section,
+        letter: small(letter),
+        places: form.places,
+        ends,
+    };
+    of_texts(question, is_capital(letter), starred, asked)
 }
 
 // Whether a letter asks for a block.
@@ -45,72 +56,50 @@ fn small(letter: u8) -> u8 {
     letter + 32
 }
 
-// Whether the numbers make up a question whose text has entries of `width` numbers, with `more` numbers behind it.
-fn is_whole(form: Form, asked: &[u32], ends: Ends, width: usize, more: usize) -> bool {
-    if ends.rest(asked).len() != more {
-        return false;
+// How many numbers stand behind the text. A block has an alphabet where the text stands otherwise, and a length behind it; for texts
+// that are drawn, a seed and how many there are come last.
+fn behind_text(form: Form, letter: u8, starred: bool) -> usize {
+    if !is_capital(letter) {
+        return form.behind_text();
     }
-    form.is_sound(asked, ends, width)
+    if starred {
+        return 3;
+    }
+    1
 }
 
-fn places_of(form: Form) -> usize {
-    if form.placed {
+// How many numbers an entry of the text has.
+fn width(letter: u8, starred: bool) -> usize {
+    if is_capital(letter) {
         return 1;
     }
-    0
+    if starred {
+        return 2;
+    }
+    1
 }
 
-fn one(section: u32, letter: u8, form: Form, asked: &[u32], out: &mut [u32]) -> usize {
-    let ends = form.ends(asked);
-    if !is_whole(form, asked, ends, 1, places_of(form)) {
-        return 0;
-    }
+fn of_texts(question: Question, capital: bool, starred: bool, asked: &[u32]) -> Numbers {
     let cells = cuts::as_bytes(asked);
-    let place = number_at(ends.rest(asked), 0) as usize;
-    sections::ask(
-        section,
-        letter,
-        asked,
-        ends,
-        ends.text_bytes(&cells),
-        place,
-        out,
-    )
+    let bytes: &[u8] = &cells;
+    if capital {
+        return blocks::reply(question, asked, bytes, starred);
+    }
+    let ends = question.ends;
+    if starred {
+        return in_runs(question, asked, bytes, ends.text(asked));
+    }
+    one(question, asked, bytes, ends.text_bytes(bytes))
 }
 
-fn in_runs(section: u32, letter: u8, form: Form, asked: &[u32], out: &mut [u32]) -> usize {
-    let ends = form.ends(asked);
-    if !is_whole(form, asked, ends, 2, places_of(form)) {
-        return 0;
-    }
-    let text = long::in_runs(ends.text(asked));
-    let bytes = text.bytes;
+fn one(question: Question, asked: &[u32], bytes: &[u8], text: &[u8]) -> Numbers {
+    let ends = question.ends;
     let place = number_at(ends.rest(asked), 0) as usize;
-    let all = cuts::bytes_part(&bytes, 0, text.length);
-    sections::ask(section, letter, asked, ends, all, place, out)
+    sections::ask(question, asked, bytes, text, place, Numbers::none())
 }
 
-// A block has an alphabet where the text stands otherwise, and a length behind it; for texts that are drawn, a seed and how many
-// there are come last.
-fn many(
-    section: u32,
-    letter: u8,
-    form: Form,
-    asked: &[u32],
-    drawn: bool,
-    out: &mut [u32],
-) -> usize {
-    let ends = form.ends(asked);
-    let cells = cuts::as_bytes(asked);
-    let alphabet = ends.text_bytes(&cells);
-    if drawn {
-        if !is_whole(form, asked, ends, 1, 3) {
-            return 0;
-        }
-        return blocks::drawn(section, letter, form, asked, ends, alphabet, out);
-    }
-    if !is_whole(form, asked, ends, 1, 1) {
-        return 0;
-    }
-    blocks::all(section, letter, form, asked, ends, alphabet, out)
+fn in_runs(question: Question, asked: &[u32], bytes: &[u8], runs: &[u32]) -> Numbers {
+    let text = long::in_runs(runs);
+    let cells = text.bytes;
+    one(question, asked, bytes, cuts::bytes_part(&cells, 0, text.length))
 }

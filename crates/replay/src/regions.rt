@@ -1,15 +1,12 @@
 // Section 6: regions, and the bytes that are searched for.
+use crate::answers::STEPS;
 use crate::cells;
-use crate::cuts;
-use crate::cuts::byte_at;
 use crate::cuts::number_at;
+use crate::cuts::part;
 use crate::form::Ends;
 use crate::form::Form;
-use crate::numbers::number_of;
-use crate::numbers::put;
-use crate::numbers::put_bytes;
-use crate::numbers::put_two;
-use crate::spans;
+use crate::form::WHOLE;
+use crate::numbers::Numbers;
 use common::fence_tests::fence_tables;
 use common::grammar::Grammar;
 use common::refusal::Answer;
@@ -21,84 +18,143 @@ use region::next_region;
 use rules::search_bytes::search_bytes;
 use rules::tables::fence_rows;
 use rules::tables::inline_tables;
+use search::byte_at;
 
 pub(crate) fn form_of(letter: u8) -> Form {
-    // The counts of inline rules may be any numbers.
-    let free = [false, false, false, true, false, false, true];
     match letter {
-        b'r' | b'd' | b'n' | b'b' => Form::new(0, 4).with_lists(7, free),
-        b'c' => Form::new(1, 5).with_lists(7, free),
+        b'r' | b'd' | b'n' | b'b' => Form::new(0, 4, 7, WHOLE),
+        b'c' => Form::new(1, 5, 7, WHOLE),
         _ => Form::unknown(),
     }
 }
 
 // All regions as they are built, by columns or by records; or as steps give them with what made them; a list built into so many
 // cells; or the bytes that are searched for.
-pub(crate) fn ask(letter: u8, asked: &[u32], ends: Ends, text: &[u8], out: &mut [u32]) -> usize {
+pub(crate) fn ask(
+    letter: u8,
+    ends: Ends,
+    asked: &[u32],
+    bytes: &[u8],
+    text: &[u8],
+    reply: Numbers,
+) -> Numbers {
     match letter {
-        b'r' | b'd' => built(letter, asked, ends, text, out),
-        b'c' => built_into(number_at(asked, 0) as usize, asked, ends, text, out),
-        b'n' => stepped(asked, ends, text, out),
-        _ => searched(asked, ends, out),
+        b'r' | b'd' => built(letter, ends, asked, bytes, text, reply),
+        b'c' => built_into(number_at(asked, 0) as usize, ends, asked, bytes, text, reply),
+        b'n' => stepped(ends, asked, bytes, text, reply),
+        _ => searched(ends, bytes, reply),
     }
 }
 
-fn grammar_of(bytes: &[u32]) -> Grammar {
-    Grammar {
-        eol: byte_at(bytes, 0),
-        escape: byte_at(bytes, 1),
-        sep: byte_at(bytes, 2),
-        tab: byte_at(bytes, 3),
+// The grammar whose bytes begin at place `i`.
+fn grammar_of(bytes: &[u8], i: usize) -> Grammar {
+    if i > 1 {
+        return Grammar::house();
     }
+    Grammar {
+        eol: byte_at(bytes, i),
+        escape: byte_at(bytes, i + 1),
+        sep: byte_at(bytes, i + 2),
+        tab: byte_at(bytes, i + 3),
+    }
+}
+
+fn built(
+    letter: u8,
+    ends: Ends,
+    asked: &[u32],
+    bytes: &[u8],
+    text: &[u8],
+    reply: Numbers,
+) -> Numbers {
+    let mut space = [0u32; cells::ROOM];
+    let list: &mut [u32] = &mut space;
+    let g = grammar_of(bytes, 0);
+    if letter == b'd' {
+        let answer = build_recorded(ends, asked, bytes, g, text, list);
+        return cells::entries(answer, &list[..], 2, reply);
+    }
+    let answer = build(ends, asked, bytes, g, text, list);
+    cells::entries(answer, &list[..], 2, reply)
+}
+
+fn built_into(
+    size: usize,
+    ends: Ends,
+    asked: &[u32],
+    bytes: &[u8],
+    text: &[u8],
+    reply: Numbers,
+) -> Numbers {
+    let mut space = cells::marked(size);
+    let list: &mut [u32] = &mut space;
+    let answer = build_first(size, ends, asked, bytes, text, list);
+    cells::told(answer, part(&list[..], 0, size), reply)
+}
+
+// Builds into so many cells of a list.
+fn build_first(
+    size: usize,
+    ends: Ends,
+    asked: &[u32],
+    bytes: &[u8],
+    text: &[u8],
+    list: &mut [u32],
+) -> Answer {
+    let g = grammar_of(bytes, 1);
+    if size <= list.len() {
+        return build(ends, asked, bytes, g, text, &mut list[0..size]);
+    }
+    Answer::Value(0)
 }
 
 fn build(
-    letter: u8,
-    asked: &[u32],
     ends: Ends,
+    asked: &[u32],
+    bytes: &[u8],
     g: Grammar,
     text: &[u8],
-    out: &mut [u32],
+    list: &mut [u32],
 ) -> Answer {
-    if letter == b'd' {
-        return build_recorded(asked, ends, g, text, out);
-    }
-    let cells = cuts::as_bytes(asked);
-    let all: &[u8] = &cells;
     context::build(
         text,
         g,
-        ends.bytes(all, 0),
-        ends.bytes(all, 1),
-        ends.bytes(all, 2),
+        ends.bytes(bytes, 0),
+        ends.bytes(bytes, 1),
+        ends.bytes(bytes, 2),
         ends.list(asked, 3),
-        ends.bytes(all, 4),
-        ends.bytes(all, 5),
+        ends.bytes(bytes, 4),
+        ends.bytes(bytes, 5),
         ends.list(asked, 6),
-        out,
+        list,
     )
 }
 
-fn build_recorded(asked: &[u32], ends: Ends, g: Grammar, text: &[u8], out: &mut [u32]) -> Answer {
-    let cells = cuts::as_bytes(asked);
-    let all: &[u8] = &cells;
-    let fences = ends.list(asked, 0);
+fn build_recorded(
+    ends: Ends,
+    asked: &[u32],
+    bytes: &[u8],
+    g: Grammar,
+    text: &[u8],
+    list: &mut [u32],
+) -> Answer {
+    let fences = ends.bytes(bytes, 0);
     context::records::build_few(
         text,
         g,
-        records_of(fences, ends.list(asked, 1)),
+        records_of(fences, ends.bytes(bytes, 1)),
         fences.len(),
-        ends.bytes(all, 2),
+        ends.bytes(bytes, 2),
         ends.list(asked, 3),
-        ends.bytes(all, 4),
-        ends.bytes(all, 5),
+        ends.bytes(bytes, 4),
+        ends.bytes(bytes, 5),
         ends.list(asked, 6),
-        out,
+        list,
     )
 }
 
 // The fence rules as records.
-fn records_of(bytes: &[u32], mins: &[u32]) -> [FenceRule; 16] {
+fn records_of(bytes: &[u8], mins: &[u8]) -> [FenceRule; 16] {
     let mut rules = [FenceRule { byte: 0, min: 0 }; 16];
     let mut i = 0;
     while i < 16 {
@@ -111,76 +167,25 @@ fn records_of(bytes: &[u32], mins: &[u32]) -> [FenceRule; 16] {
     rules
 }
 
-// Builds into the cells of `out` from `start` up to `end`.
-fn build_within(
-    letter: u8,
-    asked: &[u32],
-    ends: Ends,
-    g: Grammar,
-    text: &[u8],
-    start: usize,
-    end: usize,
-    out: &mut [u32],
-) -> Answer {
-    if start <= end {
-        if end <= out.len() {
-            return build(letter, asked, ends, g, text, &mut out[start..end]);
-        }
-    }
-    Answer::Value(0)
-}
-
-fn built(letter: u8, asked: &[u32], ends: Ends, text: &[u8], out: &mut [u32]) -> usize {
-    let room = out.len();
-    match build_within(letter, asked, ends, grammar_of(asked), text, 2, room, out) {
-        Answer::Value(count) => {
-            put_two(out, 0, 1, number_of(count));
-            cells::behind_two(count, 2, room)
-        }
-        Answer::Refused(r) => put_two(out, 0, 0, r.number()),
-    }
-}
-
-fn built_into(size: usize, asked: &[u32], ends: Ends, text: &[u8], out: &mut [u32]) -> usize {
-    let end = cells::put_marked(out, size);
-    let answer = build_within(
-        b'c',
-        asked,
-        ends,
-        grammar_of(cuts::part(asked, 1, 5)),
-        text,
-        cells::START,
-        end,
-        out,
-    );
-    cells::put_answer(out, answer);
-    end
-}
-
-fn searched(asked: &[u32], ends: Ends, out: &mut [u32]) -> usize {
-    let cells = cuts::as_bytes(asked);
-    let all: &[u8] = &cells;
-    let searched = search_bytes(ends.bytes(all, 0), ends.bytes(all, 2), ends.bytes(all, 4));
-    let bytes = searched.bytes;
-    let n = put_two(out, 0, 1, number_of(searched.count));
-    put_bytes(out, n, &bytes)
+fn searched(ends: Ends, bytes: &[u8], reply: Numbers) -> Numbers {
+    let searched = search_bytes(ends.bytes(bytes, 0), ends.bytes(bytes, 2), ends.bytes(bytes, 4));
+    let needles = searched.bytes;
+    reply.value(searched.count).bytes(&needles)
 }
 
 // The tables that a step takes, and all steps from place 0 on.
-fn stepped(asked: &[u32], ends: Ends, text: &[u8], out: &mut [u32]) -> usize {
-    let cells = cuts::as_bytes(asked);
-    let all: &[u8] = &cells;
-    let fences = ends.bytes(all, 0);
-    let symmetric = ends.bytes(all, 2);
-    let openers = ends.bytes(all, 4);
+fn stepped(ends: Ends, asked: &[u32], bytes: &[u8], text: &[u8], reply: Numbers) -> Numbers {
+    let fences = ends.bytes(bytes, 0);
+    let symmetric = ends.bytes(bytes, 2);
+    let openers = ends.bytes(bytes, 4);
     let searched = search_bytes(fences, symmetric, openers);
-    let fenced = fence_tables(fences, ends.bytes(all, 1));
+    let fenced = fence_tables(fences, ends.bytes(bytes, 1));
     let rows = fence_rows(fences);
     let inline = inline_tables(
         symmetric,
         ends.list(asked, 3),
         openers,
-        ends.bytes(all, 5),
+        ends.bytes(bytes, 5),
         ends.list(asked, 6),
     );
     let needles = searched.bytes;
@@ -192,7 +197,7 @@ fn stepped(asked: &[u32], ends: Ends, text: &[u8], out: &mut [u32]) -> usize {
     let index = inline.index;
     run(
         text,
-        grammar_of(asked),
+        grammar_of(bytes, 0),
         &needles,
         searched.count,
         &has,
@@ -202,7 +207,7 @@ fn stepped(asked: &[u32], ends: Ends, text: &[u8], out: &mut [u32]) -> usize {
         &closer,
         &count,
         &index,
-        out,
+        reply.entries(),
     )
 }
 
@@ -218,12 +223,12 @@ fn run(
     closer: &[u8; 256],
     count: &[u32; 256],
     index: &[usize; 256],
-    out: &mut [u32],
-) -> usize {
+    begun: Numbers,
+) -> Numbers {
     let mut from = 0;
-    let mut n = 2;
-    let mut turns = spans::STEPS;
-    while turns > 0 {
+    let mut reply = begun;
+    let mut steps = 0;
+    while steps < STEPS {
         let next = next_region(
             text,
             from,
@@ -238,26 +243,24 @@ fn run(
             count,
             index,
         );
-        match next {
-            Next::Region(r, after) => {
-                n = put_region(out, n, r);
-                from = after;
-            }
-            Next::Nothing => {
-                return spans::put_head(out, n, 5);
-            }
-        }
-        turns -= 1;
+        let Next::Region(r, after) = next else {
+            return reply.counted(steps);
+        };
+        reply = region(r, reply);
+        from = after;
+        steps += 1;
     }
-    spans::put_head(out, n, 5)
+    reply.counted(steps)
 }
 
 // Start and end, the kind of the rule and its index, and whether a line closed it.
-fn put_region(out: &mut [u32], n: usize, r: Region) -> usize {
+fn region(r: Region, reply: Numbers) -> Numbers {
     let cause = r.cause;
-    let a = put_two(out, n, number_of(r.start), number_of(r.end));
-    let b = put_two(out, a, kind_of(cause), number_of(r.index));
-    put(out, b, r.closed as u32)
+    reply.size(r.start)
+        .size(r.end)
+        .and(kind_of(cause))
+        .size(r.index)
+        .flag(r.closed)
 }
 
 fn kind_of(cause: Cause) -> u32 {

@@ -1,7 +1,6 @@
 // The sections whose questions have a text: the form of a letter, and the question put to ours.
 use crate::covers;
 use crate::fences;
-use crate::form::Ends;
 use crate::form::Form;
 use crate::frames;
 use crate::items;
@@ -9,6 +8,8 @@ use crate::leaves;
 use crate::listings;
 use crate::markers;
 use crate::numbered;
+use crate::numbers::Numbers;
+use crate::question::Question;
 use crate::regions;
 use crate::sheets;
 
@@ -26,26 +27,29 @@ pub(crate) fn form_of(section: u32, letter: u8) -> Form {
     }
 }
 
-// Asks of a text, at a place where the question has one, and writes the answer. The other numbers that ask stand in `asked`.
+// Asks of a text, at a place where the question has one, and adds the answer. The numbers that ask stand in `asked`, and as bytes in
+// `bytes`.
 pub(crate) fn ask(
-    section: u32,
-    letter: u8,
+    question: Question,
     asked: &[u32],
-    ends: Ends,
+    bytes: &[u8],
     text: &[u8],
     place: usize,
-    out: &mut [u32],
-) -> usize {
+    reply: Numbers,
+) -> Numbers {
+    let letter = question.letter;
+    let ends = question.ends;
+    let section = question.section;
     match section {
-        1 => leaves::ask(letter, asked, ends, text, place, out),
-        2 => fences::ask(letter, asked, text, place, out),
-        3 => markers::ask(letter, asked, ends, text, place, out),
-        4 => numbered::ask(letter, asked, ends, text, place, out),
-        5 => frames::ask(letter, asked, ends, text, place, out),
-        6 => regions::ask(letter, asked, ends, text, out),
-        7 => covers::ask(letter, asked, ends, out),
-        8 => sheets::ask(letter, asked, ends, text, out),
-        9 => listings::ask(text, out),
-        _ => 0,
+        1 => leaves::ask(letter, ends, asked, bytes, text, place, reply),
+        2 => fences::ask(letter, bytes, text, place, reply),
+        3 => markers::ask(letter, ends, asked, bytes, text, place, reply),
+        4 => numbered::ask(letter, ends, asked, bytes, text, place, reply),
+        5 => frames::ask(letter, ends, asked, bytes, text, place, reply),
+        6 => regions::ask(letter, ends, asked, bytes, text, reply),
+        7 => covers::ask(letter, asked, ends.list(asked, 0), reply),
+        8 => sheets::ask(letter, ends, asked, bytes, text, reply),
+        9 => listings::ask(text, reply),
+        _ => reply,
     }
 }

@@ -1,15 +1,13 @@
--- `over_draws` is safe and ends: the texts left fall. Assumes nothing.
+-- `over_draws` is safe and ends: the texts that are left fall. Assumes nothing.
 use borrow.Author.Needs.{needs}
-use mathlib.Core.Path.{_≡_}
-use lib.ListN.{length}
 use Rattle.replay.proofs.blocks.over_draws.Statement.{statement}
 use Rattle.replay.proofs.blocks.over_draws.Tie as tie
 
 abbrev Inv-loop : tie.InvT-loop
-Inv-loop section letter form asked ends alphabet size times out₀ sums₀ draw₀ left₀ out sums draw left = length out ≡ length out₀
+Inv-loop question asked bytes alphabet size times sums₀ draw₀ left₀ sums draw left = Unit {0}
 
 abbrev μ-loop : tie.MeasureT-loop
-μ-loop section letter form asked ends alphabet size times out₀ sums₀ draw₀ left₀ out sums draw left = left
+μ-loop question asked bytes alphabet size times sums₀ draw₀ left₀ sums draw left = left
 
 new-requires : tie.Need-new-requires Inv-loop μ-loop
 new-requires c κs = search needs
@@ -38,9 +36,6 @@ loop-less c = search needs
 loop-again : tie.Need-loop-again Inv-loop μ-loop
 loop-again c = search needs
 
-same-length : tie.Need-same-length Inv-loop μ-loop
-same-length c = search needs
-
 returns : tie.Need-returns Inv-loop μ-loop
 returns c = search needs
 
@@ -59,5 +54,4 @@ over-draws-spec =
     sub-left
     loop-less
     loop-again
-    same-length
     returns)

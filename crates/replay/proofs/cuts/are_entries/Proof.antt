@@ -1,4 +1,4 @@
--- `are_entries` is safe and ends: a loop over the numbers. Assumes nothing.
+-- `are_entries` is safe and ends: a loop over the numbers of a run. Assumes nothing.
 use borrow.Author.Needs.{needs}
 use Prim.Native.Nat.{_-_}
 use lib.ListN.{length}

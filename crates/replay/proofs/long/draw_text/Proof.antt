@@ -1,14 +1,16 @@
--- `draw_text` is safe and ends: a loop over the places. Assumes nothing.
+-- `draw_text` is safe and ends: a loop over the bytes of a text. Assumes nothing.
 use borrow.Author.Needs.{needs}
+use mathlib.Core.Path.{_≡_}
 use Prim.Native.Nat.{_-_}
+use lib.ListN.{length}
 use Rattle.replay.proofs.long.draw_text.Statement.{statement}
 use Rattle.replay.proofs.long.draw_text.Tie as tie
 
 abbrev Inv-loop : tie.InvT-loop
-Inv-loop alphabet length bytes₀ draw₀ end i₀ bytes draw i = Unit {0}
+Inv-loop alphabet size bytes₀ draw₀ end i₀ bytes draw i = length bytes ≡ 8200
 
 abbrev μ-loop : tie.MeasureT-loop
-μ-loop alphabet length bytes₀ draw₀ end i₀ bytes draw i = end - i
+μ-loop alphabet size bytes₀ draw₀ end i₀ bytes draw i = end - i
 
 lesser-requires : tie.Need-lesser-requires Inv-loop μ-loop
 lesser-requires c κs = search needs

@@ -1,15 +1,14 @@
--- `run` is safe and ends: the turns fall. Assumes nothing.
+-- `run` is safe and ends: the steps are counted up to a bound. Assumes nothing.
 use borrow.Author.Needs.{needs}
-use mathlib.Core.Path.{_≡_}
-use lib.ListN.{length}
+use Prim.Native.Nat.{_-_}
 use Rattle.replay.proofs.numbered.run.Statement.{statement}
 use Rattle.replay.proofs.numbered.run.Tie as tie
 
 abbrev Inv-loop : tie.InvT-loop
-Inv-loop text set out₀ state₀ n₀ turns₀ out state n turns = length out ≡ length out₀
+Inv-loop text set state₀ reply₀ count₀ state reply count = Unit {0}
 
 abbrev μ-loop : tie.MeasureT-loop
-μ-loop text set out₀ state₀ n₀ turns₀ out state n turns = turns
+μ-loop text set state₀ reply₀ count₀ state reply count = 2000 - count
 
 loop-holds : tie.Need-loop-holds Inv-loop μ-loop
 loop-holds c = search needs
@@ -17,20 +16,20 @@ loop-holds c = search needs
 next-requires : tie.Need-next-requires Inv-loop μ-loop
 next-requires c κs = search needs
 
-put-next-requires : tie.Need-put-next-requires Inv-loop μ-loop
-put-next-requires c κs = search needs
+enum-known-found : tie.Need-enum-known-found Inv-loop μ-loop
+enum-known-found c = search needs
 
-put-head-requires : tie.Need-put-head-requires Inv-loop μ-loop
-put-head-requires c κs = search needs
-
-same-length : tie.Need-same-length Inv-loop μ-loop
-same-length c = search needs
+counted-requires : tie.Need-counted-requires Inv-loop μ-loop
+counted-requires c κs = search needs
 
 returns : tie.Need-returns Inv-loop μ-loop
 returns c = search needs
 
-sub-turns : tie.Need-sub-turns Inv-loop μ-loop
-sub-turns c = search needs
+item-requires : tie.Need-item-requires Inv-loop μ-loop
+item-requires c κs = search needs
+
+add-count : tie.Need-add-count Inv-loop μ-loop
+add-count c = search needs
 
 loop-less : tie.Need-loop-less Inv-loop μ-loop
 loop-less c = search needs
@@ -38,11 +37,8 @@ loop-less c = search needs
 loop-again : tie.Need-loop-again Inv-loop μ-loop
 loop-again c = search needs
 
-put-head-requires-2 : tie.Need-put-head-requires-2 Inv-loop μ-loop
-put-head-requires-2 c κs = search needs
-
-same-length-2 : tie.Need-same-length-2 Inv-loop μ-loop
-same-length-2 c = search needs
+counted-requires-2 : tie.Need-counted-requires-2 Inv-loop μ-loop
+counted-requires-2 c κs = search needs
 
 returns-2 : tie.Need-returns-2 Inv-loop μ-loop
 returns-2 c = search needs
@@ -55,13 +51,12 @@ run-spec =
     μ-loop
     loop-holds
     next-requires
-    put-next-requires
-    put-head-requires
-    same-length
+    enum-known-found
+    counted-requires
     returns
-    sub-turns
+    item-requires
+    add-count
     loop-less
     loop-again
-    put-head-requires-2
-    same-length-2
+    counted-requires-2
     returns-2)

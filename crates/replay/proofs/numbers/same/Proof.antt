@@ -1,4 +1,4 @@
--- `same` is safe and ends: a loop over two runs of one length. Assumes nothing.
+-- `same` is safe and ends: a loop over the numbers of both. Assumes nothing.
 use borrow.Author.Needs.{needs}
 use Prim.Native.Nat.{_-_}
 use lib.ListN.{length}

@@ -1,15 +1,14 @@
--- `run` is safe and ends: the turns fall. Assumes nothing.
+-- `run` is safe and ends: the steps are counted up to a bound. Assumes nothing.
 use borrow.Author.Needs.{needs}
-use mathlib.Core.Path.{_≡_}
-use lib.ListN.{length}
+use Prim.Native.Nat.{_-_}
 use Rattle.replay.proofs.regions.run.Statement.{statement}
 use Rattle.replay.proofs.regions.run.Tie as tie
 
 abbrev Inv-loop : tie.InvT-loop
-Inv-loop text g needles searched has least rows kind closer count index out₀ from₀ n₀ turns₀ out from n turns = length out ≡ length out₀
+Inv-loop text g needles searched has least rows kind closer count index from₀ reply₀ steps₀ from reply steps = Unit {0}
 
 abbrev μ-loop : tie.MeasureT-loop
-μ-loop text g needles searched has least rows kind closer count index out₀ from₀ n₀ turns₀ out from n turns = turns
+μ-loop text g needles searched has least rows kind closer count index from₀ reply₀ steps₀ from reply steps = 2000 - steps
 
 loop-holds : tie.Need-loop-holds Inv-loop μ-loop
 loop-holds c = search needs
@@ -20,23 +19,20 @@ next-region-requires c κs = search needs
 enum-known-next : tie.Need-enum-known-next Inv-loop μ-loop
 enum-known-next c = search needs
 
-put-region-requires : tie.Need-put-region-requires Inv-loop μ-loop
-put-region-requires c κs = search needs
-
 enum-told : tie.Need-enum-told Inv-loop μ-loop
 enum-told c = search needs
 
-put-head-requires : tie.Need-put-head-requires Inv-loop μ-loop
-put-head-requires c κs = search needs
-
-same-length : tie.Need-same-length Inv-loop μ-loop
-same-length c = search needs
+counted-requires : tie.Need-counted-requires Inv-loop μ-loop
+counted-requires c κs = search needs
 
 returns : tie.Need-returns Inv-loop μ-loop
 returns c = search needs
 
-sub-turns : tie.Need-sub-turns Inv-loop μ-loop
-sub-turns c = search needs
+region-requires : tie.Need-region-requires Inv-loop μ-loop
+region-requires c κs = search needs
+
+add-steps : tie.Need-add-steps Inv-loop μ-loop
+add-steps c = search needs
 
 loop-less : tie.Need-loop-less Inv-loop μ-loop
 loop-less c = search needs
@@ -44,11 +40,8 @@ loop-less c = search needs
 loop-again : tie.Need-loop-again Inv-loop μ-loop
 loop-again c = search needs
 
-put-head-requires-2 : tie.Need-put-head-requires-2 Inv-loop μ-loop
-put-head-requires-2 c κs = search needs
-
-same-length-2 : tie.Need-same-length-2 Inv-loop μ-loop
-same-length-2 c = search needs
+counted-requires-2 : tie.Need-counted-requires-2 Inv-loop μ-loop
+counted-requires-2 c κs = search needs
 
 returns-2 : tie.Need-returns-2 Inv-loop μ-loop
 returns-2 c = search needs
@@ -62,14 +55,12 @@ run-spec =
     loop-holds
     next-region-requires
     enum-known-next
-    put-region-requires
     enum-told
-    put-head-requires
-    same-length
+    counted-requires
     returns
-    sub-turns
+    region-requires
+    add-steps
     loop-less
     loop-again
-    put-head-requires-2
-    same-length-2
+    counted-requires-2
     returns-2)

@@ -1,4 +1,4 @@
--- `print_run` is safe and ends: a loop over the numbers. Assumes nothing.
+-- `print_run` is safe and ends: a loop over the numbers of a run. Assumes nothing.
 use borrow.Author.Needs.{needs}
 use Prim.Native.Nat.{_-_}
 use lib.ListN.{length}

@@ -1,11 +1,13 @@
--- `ends` is safe and ends: a loop over the lists. Assumes nothing.
+-- `ends` is safe and ends: the place rises to the last list. Assumes nothing.
 use borrow.Author.Needs.{needs}
+use mathlib.Core.Path.{_≡_}
 use Prim.Native.Nat.{_-_}
+use lib.ListN.{length}
 use Rattle.replay.proofs.form.Form.ends.Statement.{statement}
 use Rattle.replay.proofs.form.Form.ends.Tie as tie
 
 abbrev Inv-loop : tie.InvT-loop
-Inv-loop self asked singles at₀ end₀ i₀ at end i = Unit {0}
+Inv-loop self asked singles at₀ end₀ i₀ at end i = length at ≡ 9
 
 abbrev μ-loop : tie.MeasureT-loop
 μ-loop self asked singles at₀ end₀ i₀ at end i = 7 - i

@@ -1,4 +1,4 @@
--- `with_run` is safe and ends: the bytes left fall. Assumes nothing.
+-- `with_run` is safe and ends: the bytes that are left fall. Assumes nothing.
 use borrow.Author.Needs.{needs}
 use Rattle.replay.proofs.long.Long.with_run.Statement.{statement}
 use Rattle.replay.proofs.long.Long.with_run.Tie as tie

@@ -1,20 +1,20 @@
--- `has_sound_lists` is safe and ends: a loop over the lists. Assumes nothing.
+-- `are_sound` is safe and ends: the place rises to the last list. Assumes nothing.
 use borrow.Author.Needs.{needs}
 use Prim.Native.Nat.{_-_}
-use Rattle.replay.proofs.form.Form.has_sound_lists.Statement.{statement}
-use Rattle.replay.proofs.form.Form.has_sound_lists.Tie as tie
+use Rattle.replay.proofs.form.Ends.are_sound.Statement.{statement}
+use Rattle.replay.proofs.form.Ends.are_sound.Tie as tie
 
 abbrev Inv-loop : tie.InvT-loop
-Inv-loop asked ends free i₀ i = Unit {0}
+Inv-loop self section asked i₀ i = Unit {0}
 
 abbrev μ-loop : tie.MeasureT-loop
-μ-loop asked ends free i₀ i = 7 - i
+μ-loop self section asked i₀ i = 7 - i
 
 loop-holds : tie.Need-loop-holds Inv-loop μ-loop
 loop-holds c = search needs
 
-array-read-if1 : tie.Need-array-read-if1 Inv-loop μ-loop
-array-read-if1 c = search needs
+is-free-requires : tie.Need-is-free-requires Inv-loop μ-loop
+is-free-requires c κs = search needs
 
 list-requires : tie.Need-list-requires Inv-loop μ-loop
 list-requires c κs = search needs
@@ -37,14 +37,14 @@ loop-again c = search needs
 returns-2 : tie.Need-returns-2 Inv-loop μ-loop
 returns-2 c = search needs
 
-pub has-sound-lists-spec : {M : Type 1} → statement M
-has-sound-lists-spec =
+pub are-sound-spec : {M : Type 1} → statement M
+are-sound-spec =
     tie.close
     (tie.spec
     Inv-loop
     μ-loop
     loop-holds
-    array-read-if1
+    is-free-requires
     list-requires
     are-entries-requires
     returns
