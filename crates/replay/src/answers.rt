@@ -14,10 +14,6 @@ impl Numbers {
         self.and(1).size(v)
     }
 
-    pub(crate) fn nothing(self) -> Self {
-        self.and(2)
-    }
-
     pub(crate) fn refused(self, r: Refusal) -> Self {
         let mut all = self.and(0);
         all.cut = true;
@@ -34,7 +30,7 @@ impl Numbers {
     pub(crate) fn found(self, f: Found) -> Self {
         match f {
             Found::At(place) => self.value(place),
-            Found::Nothing => self.nothing(),
+            Found::Nothing => self.and(2),
             Found::Refused(r) => self.refused(r),
         }
     }
@@ -44,7 +40,7 @@ impl Numbers {
         if place < length {
             return self.value(place);
         }
-        self.nothing()
+        self.and(2)
     }
 
     pub(crate) fn span(self, s: Span) -> Self {
@@ -55,7 +51,7 @@ impl Numbers {
     pub(crate) fn span_found(self, f: SpanFound) -> Self {
         match f {
             SpanFound::At(s) => self.and(1).span(s),
-            SpanFound::Nothing => self.nothing(),
+            SpanFound::Nothing => self.and(2),
             SpanFound::Refused(r) => self.refused(r),
         }
     }

@@ -3,6 +3,7 @@ use crate::cuts::bytes_part;
 use crate::cuts::number_at;
 use crate::form::BEYOND;
 use crate::form::FROM_SECOND;
+use crate::form::TEXT;
 use crate::form::WHOLE;
 use crate::long;
 use crate::long::Draw;
@@ -17,7 +18,7 @@ use crate::texts::LONGEST;
 // No number where the texts are too long or there are none.
 pub(crate) fn reply(question: Question, asked: &[u32], bytes: &[u8], drawn: bool) -> Numbers {
     let ends = question.ends;
-    let alphabet = ends.text_bytes(bytes);
+    let alphabet = ends.bytes(bytes, TEXT);
     let rest = ends.rest(asked);
     let length = number_at(rest, 0) as usize;
     if alphabet.len() == 0 {

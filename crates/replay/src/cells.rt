@@ -7,7 +7,7 @@ use common::refusal::Answer;
 pub(crate) const MOST: usize = 64;
 
 // The most numbers of a list that is written whole, more than any stored answer has.
-pub(crate) const ROOM: usize = 2048;
+pub(crate) const ROOM: usize = 500;
 
 // So many cells, and further ones behind them, each with a number of its own.
 pub(crate) fn marked(size: usize) -> [u32; MOST] {

@@ -1,18 +1,9 @@
 // Section 7: the cursor, as a number and as a record that is lent.
 use crate::cuts::number_at;
-use crate::form::Form;
-use crate::form::WHOLE;
 use crate::numbers::Numbers;
 use context::cursor::Cover;
 use context::cursor::covering_end;
 use context::cursor::covers;
-
-pub(crate) fn form_of(letter: u8) -> Form {
-    match letter {
-        b'v' | b'w' => Form::new(3, 3, 1, WHOLE),
-        _ => Form::unknown(),
-    }
-}
 
 pub(crate) fn ask(letter: u8, asked: &[u32], list: &[u32], reply: Numbers) -> Numbers {
     let count = number_at(asked, 0) as usize;

@@ -1,20 +1,9 @@
 // Section 2: the fence scanner.
 use crate::answers::STEPS;
-use crate::form::BEYOND;
-use crate::form::Form;
-use crate::form::WHOLE;
 use crate::numbers::Numbers;
 use common::span::SpanFound;
 use fence::FenceIter;
 use search::byte_at;
-
-pub(crate) fn form_of(letter: u8) -> Form {
-    match letter {
-        b'f' | b'r' => Form::new(0, 5, 0, WHOLE),
-        b's' => Form::new(0, 5, 0, BEYOND),
-        _ => Form::unknown(),
-    }
-}
 
 // A fresh state, all spans that it yields, or a step of the state at a place.
 pub(crate) fn ask(letter: u8, bytes: &[u8], text: &[u8], place: usize, reply: Numbers) -> Numbers {
@@ -33,7 +22,8 @@ pub(crate) fn ask(letter: u8, bytes: &[u8], text: &[u8], place: usize, reply: Nu
 }
 
 fn state(state: FenceIter, reply: Numbers) -> Numbers {
-    reply.byte(state.byte)
+    reply
+        .byte(state.byte)
         .byte(state.min)
         .byte(state.eol)
         .byte(state.sep)

@@ -3,13 +3,16 @@ use crate::cuts;
 use crate::cuts::part;
 
 // The most lists that stand before a text.
-pub(crate) const LISTS: usize = 7;
+const LISTS: usize = 7;
+
+// The text is taken as one more list.
+pub(crate) const TEXT: usize = LISTS;
 
 // The places of a text: it is asked of as a whole; from its start, from its second byte on, and from its start to one past its end.
 // At the last of them nothing is asked: the letter isn't known.
 pub(crate) const WHOLE: u8 = 0;
 
-pub(crate) const FROM_START: u8 = 1;
+const FROM_START: u8 = 1;
 
 pub(crate) const FROM_SECOND: u8 = 2;
 
@@ -33,7 +36,7 @@ pub(crate) struct Ends {
 }
 
 impl Form {
-    pub(crate) fn new(wide: usize, singles: usize, lists: usize, places: u8) -> Self {
+    fn new(wide: usize, singles: usize, lists: usize, places: u8) -> Self {
         Form {
             wide,
             singles,
@@ -43,8 +46,70 @@ impl Form {
     }
 
     // A letter that asks nothing.
-    pub(crate) fn unknown() -> Self {
+    fn unknown() -> Self {
         Form::new(0, 0, 0, UNKNOWN)
+    }
+
+    // The form of a section's letter.
+    pub(crate) fn of(section: u32, letter: u8) -> Self {
+        match section {
+            1 => Form::of_leaf(letter),
+            2 => match letter {
+                b'f' | b'r' => Form::new(0, 5, 0, WHOLE),
+                b's' => Form::new(0, 5, 0, BEYOND),
+                _ => Form::unknown(),
+            },
+            3 | 4 => match letter {
+                b'f' | b'r' => Form::new(0, 3, 1, WHOLE),
+                b's' => Form::new(1, 8, 1, FROM_START),
+                _ => Form::unknown(),
+            },
+            5 => match letter {
+                b'f' | b'r' => Form::new(1, 5, 0, WHOLE),
+                b's' => Form::new(4, 8, 2, FROM_START),
+                _ => Form::unknown(),
+            },
+            _ => Form::of_list(section, letter),
+        }
+    }
+
+    fn of_leaf(letter: u8) -> Self {
+        match letter {
+            b'e' | b'c' => Form::new(0, 1, 0, BEYOND),
+            b'p' => Form::new(0, 2, 2, BEYOND),
+            b'a' => Form::new(1, 4, 0, FROM_START),
+            b'o' => Form::new(0, 1, 2, FROM_START),
+            b'k' => Form::new(0, 5, 0, FROM_START),
+            b's' => Form::new(0, 5, 0, FROM_SECOND),
+            b'b' => Form::new(0, 0, 0, WHOLE),
+            b'r' => Form::new(0, 5, 0, WHOLE),
+            _ => Form::unknown(),
+        }
+    }
+
+    // Regions, the cursor, the work sheet and the listing.
+    fn of_list(section: u32, letter: u8) -> Self {
+        match section {
+            6 => match letter {
+                b'r' | b'd' | b'n' | b'b' => Form::new(0, 4, 7, WHOLE),
+                b'c' => Form::new(1, 5, 7, WHOLE),
+                _ => Form::unknown(),
+            },
+            7 => match letter {
+                b'v' | b'w' => Form::new(3, 3, 1, WHOLE),
+                _ => Form::unknown(),
+            },
+            8 => match letter {
+                b'r' => Form::new(0, 3, 3, WHOLE),
+                b'c' => Form::new(2, 5, 3, WHOLE),
+                _ => Form::unknown(),
+            },
+            9 => match letter {
+                b'l' => Form::new(0, 0, 0, WHOLE),
+                _ => Form::unknown(),
+            },
+            _ => Form::unknown(),
+        }
     }
 
     pub(crate) fn ends(self, asked: &[u32]) -> Ends {
@@ -77,7 +142,7 @@ impl Form {
         if !cuts::are_entries(part(asked, self.wide, self.singles), 1) {
             return false;
         }
-        if !cuts::are_entries(ends.text(asked), width) {
+        if !cuts::are_entries(ends.list(asked, TEXT), width) {
             return false;
         }
         ends.are_sound(section, asked)
@@ -120,9 +185,9 @@ impl Ends {
         true
     }
 
-    // The numbers of a list.
+    // The numbers of a list, or of the text.
     pub(crate) fn list(self, asked: &[u32], i: usize) -> &[u32] {
-        if i < LISTS {
+        if i <= TEXT {
             return cuts::list(asked, self.at[i], self.at[i + 1]);
         }
         &asked[0..0]
@@ -130,18 +195,10 @@ impl Ends {
 
     // The same where all numbers of the question are given as bytes.
     pub(crate) fn bytes(self, cells: &[u8], i: usize) -> &[u8] {
-        if i < LISTS {
+        if i <= TEXT {
             return cuts::counted(cells, self.at[i], self.at[i + 1]);
         }
         &cells[0..0]
-    }
-
-    pub(crate) fn text(self, asked: &[u32]) -> &[u32] {
-        cuts::list(asked, self.at[LISTS], self.at[LISTS + 1])
-    }
-
-    pub(crate) fn text_bytes(self, cells: &[u8]) -> &[u8] {
-        cuts::counted(cells, self.at[LISTS], self.at[LISTS + 1])
     }
 
     // The numbers behind the text.

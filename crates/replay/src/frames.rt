@@ -3,9 +3,6 @@ use crate::answers::STEPS;
 use crate::cuts::number_at;
 use crate::cuts::part;
 use crate::form::Ends;
-use crate::form::FROM_START;
-use crate::form::Form;
-use crate::form::WHOLE;
 use crate::numbers::Numbers;
 use common::span::Span;
 use common::span::SpanFound;
@@ -13,14 +10,6 @@ use cont::ContIter;
 use search::byte_at;
 
 const DEPTH: usize = ContIter::MAX_DEPTH;
-
-pub(crate) fn form_of(letter: u8) -> Form {
-    match letter {
-        b'f' | b'r' => Form::new(1, 5, 0, WHOLE),
-        b's' => Form::new(4, 8, 2, FROM_START),
-        _ => Form::unknown(),
-    }
-}
 
 // A fresh state, all frames that it yields, or a step of a handmade state at a place.
 pub(crate) fn ask(
@@ -101,7 +90,8 @@ fn pending_of(list: &[u32]) -> [Span; DEPTH] {
 
 fn state(state: ContIter, reply: Numbers) -> Numbers {
     let open = state.open;
-    let opened = reply.byte(state.byte)
+    let opened = reply
+        .byte(state.byte)
         .byte(state.eol)
         .byte(state.sep)
         .byte(state.tab)

@@ -16,7 +16,12 @@ pub(crate) fn line(text: &[u8], before: Tally) -> Tally {
     match letter {
         b'#' => tally,
         b'@' => section(line::read(text), tally),
-        _ => asked(letter, search::is_at(text, 1, b'*'), line::read(text), tally),
+        _ => asked(
+            letter,
+            search::is_at(text, 1, b'*'),
+            line::read(text),
+            tally,
+        ),
     }
 }
 

@@ -1,11 +1,6 @@
 // Section 1: the leaves of common.rs, and the fence tests of context.rs.
 use crate::cuts::number_at;
-use crate::form::BEYOND;
 use crate::form::Ends;
-use crate::form::FROM_SECOND;
-use crate::form::FROM_START;
-use crate::form::Form;
-use crate::form::WHOLE;
 use crate::numbers::Numbers;
 use common::fence_tests;
 use common::fence_tests::Close;
@@ -13,20 +8,6 @@ use common::fence_tests::Opening;
 use common::grammar::Grammar;
 use common::sets;
 use search::byte_at;
-
-pub(crate) fn form_of(letter: u8) -> Form {
-    match letter {
-        b'e' | b'c' => Form::new(0, 1, 0, BEYOND),
-        b'p' => Form::new(0, 2, 2, BEYOND),
-        b'a' => Form::new(1, 4, 0, FROM_START),
-        b'o' => Form::new(0, 1, 2, FROM_START),
-        b'k' => Form::new(0, 5, 0, FROM_START),
-        b's' => Form::new(0, 5, 0, FROM_SECOND),
-        b'b' => Form::new(0, 0, 0, WHOLE),
-        b'r' => Form::new(0, 5, 0, WHOLE),
-        _ => Form::unknown(),
-    }
-}
 
 pub(crate) fn ask(
     letter: u8,
@@ -43,8 +24,24 @@ pub(crate) fn ask(
         b'c' => reply.answer(common::count_escape(text, place, first)),
         b'a' => any_of(number_at(asked, 0) as usize, bytes, text, place, reply),
         b'b' => probe(text, reply),
-        b'p' | b'o' => ruled(letter, bytes, ends.bytes(bytes, 0), ends.bytes(bytes, 1), text, place, reply),
-        _ => fenced(letter, first, byte_at(bytes, 1), grammar_of(bytes), text, place, reply),
+        b'p' | b'o' => ruled(
+            letter,
+            bytes,
+            ends.bytes(bytes, 0),
+            ends.bytes(bytes, 1),
+            text,
+            place,
+            reply,
+        ),
+        _ => fenced(
+            letter,
+            first,
+            byte_at(bytes, 1),
+            grammar_of(bytes),
+            text,
+            place,
+            reply,
+        ),
     }
 }
 
@@ -65,7 +62,7 @@ fn ruled(
     }
     match opening(text, place, first, rules, mins) {
         Opening::Opens(count, _) => reply.and(1).byte(count),
-        Opening::Not => reply.nothing(),
+        Opening::Not => reply.and(2),
     }
 }
 
@@ -129,11 +126,12 @@ fn opened(text: &[u8], byte: u8, least: u8, g: Grammar, reply: Numbers) -> Numbe
     match opening(text, 0, g.eol, &[byte], &[least]) {
         Opening::Opens(count, end) => {
             let from = search::next_line(text.len(), end);
-            reply.and(1)
+            reply
+                .and(1)
                 .byte(count)
                 .size(closed_at(text, from, byte, count, g))
         }
-        Opening::Not => reply.nothing(),
+        Opening::Not => reply.and(2),
     }
 }
 
@@ -145,5 +143,5 @@ fn probe(accepted: &[u8], reply: Numbers) -> Numbers {
     if probe.streaming {
         return reply.value(probe.nn).bytes(&needles);
     }
-    reply.nothing().bytes(&needles)
+    reply.and(2).bytes(&needles)
 }

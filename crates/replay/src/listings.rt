@@ -1,16 +1,7 @@
 // Section 9: what `spans` prints.
 use crate::cuts::bytes_part;
-use crate::form::Form;
-use crate::form::WHOLE;
 use crate::numbers::Numbers;
 use common::refusal::Answer;
-
-pub(crate) fn form_of(letter: u8) -> Form {
-    match letter {
-        b'l' => Form::new(0, 0, 0, WHOLE),
-        _ => Form::unknown(),
-    }
-}
 
 pub(crate) fn ask(text: &[u8], reply: Numbers) -> Numbers {
     let mut room = io::large_buffer();

@@ -52,7 +52,16 @@ fn handmade(nn: usize, bytes: &[u8], place: usize) -> BlockMarkerIter {
 
 fn state(s: BlockMarkerIter, reply: Numbers) -> Numbers {
     let needles = s.needles;
-    items::state(reply, s.eol, s.sep, s.tab, needles, s.nn, s.streaming, s.pos)
+    items::state(
+        reply,
+        s.eol,
+        s.sep,
+        s.tab,
+        needles,
+        s.nn,
+        s.streaming,
+        s.pos,
+    )
 }
 
 fn item(item: MarkerItem, reply: Numbers) -> Numbers {
@@ -62,7 +71,7 @@ fn item(item: MarkerItem, reply: Numbers) -> Numbers {
 fn found(found: MarkerFound, reply: Numbers) -> Numbers {
     match found {
         MarkerFound::Item(i) => item(i, reply.and(1)),
-        MarkerFound::Nothing => reply.nothing(),
+        MarkerFound::Nothing => reply.and(2),
         MarkerFound::Refused(r) => reply.refused(r),
     }
 }

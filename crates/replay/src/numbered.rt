@@ -52,19 +52,26 @@ fn handmade(nn: usize, bytes: &[u8], place: usize) -> BlockNumberedIter {
 
 fn state(s: BlockNumberedIter, reply: Numbers) -> Numbers {
     let needles = s.needles;
-    items::state(reply, s.eol, s.sep, s.tab, needles, s.nn, s.streaming, s.pos)
+    items::state(
+        reply,
+        s.eol,
+        s.sep,
+        s.tab,
+        needles,
+        s.nn,
+        s.streaming,
+        s.pos,
+    )
 }
 
 fn item(item: NumberedItem, reply: Numbers) -> Numbers {
-    reply.and(item.number)
-        .byte(item.delimiter)
-        .span(item.span)
+    reply.and(item.number).byte(item.delimiter).span(item.span)
 }
 
 fn found(found: NumberedFound, reply: Numbers) -> Numbers {
     match found {
         NumberedFound::Item(i) => item(i, reply.and(1)),
-        NumberedFound::Nothing => reply.nothing(),
+        NumberedFound::Nothing => reply.and(2),
         NumberedFound::Refused(r) => reply.refused(r),
     }
 }

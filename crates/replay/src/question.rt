@@ -4,6 +4,7 @@ use crate::cuts;
 use crate::cuts::number_at;
 use crate::form::Ends;
 use crate::form::Form;
+use crate::form::TEXT;
 use crate::long;
 use crate::numbers::Numbers;
 use crate::sections;
@@ -20,7 +21,7 @@ pub(crate) struct Question {
 // What ours answer; no number where the section has no such question. A small letter asks of one text, which has a star where it
 // stands there in runs; a capital asks of all texts of a length, with a star of such as are drawn.
 pub(crate) fn reply(section: u32, letter: u8, starred: bool, asked: &[u32]) -> Numbers {
-    let form = sections::form_of(section, small(letter));
+    let form = Form::of(section, small(letter));
     let ends = form.ends(asked);
     if ends.rest(asked).len() != behind_text(form, letter, starred) {
         return Numbers::none();
@@ -87,9 +88,9 @@ fn of_texts(question: Question, capital: bool, starred: bool, asked: &[u32]) -> 
     }
     let ends = question.ends;
     if starred {
-        return in_runs(question, asked, bytes, ends.text(asked));
+        return in_runs(question, asked, bytes, ends.list(asked, TEXT));
     }
-    one(question, asked, bytes, ends.text_bytes(bytes))
+    one(question, asked, bytes, ends.bytes(bytes, TEXT))
 }
 
 fn one(question: Question, asked: &[u32], bytes: &[u8], text: &[u8]) -> Numbers {
@@ -101,5 +102,10 @@ fn one(question: Question, asked: &[u32], bytes: &[u8], text: &[u8]) -> Numbers 
 fn in_runs(question: Question, asked: &[u32], bytes: &[u8], runs: &[u32]) -> Numbers {
     let text = long::in_runs(runs);
     let cells = text.bytes;
-    one(question, asked, bytes, cuts::bytes_part(&cells, 0, text.length))
+    one(
+        question,
+        asked,
+        bytes,
+        cuts::bytes_part(&cells, 0, text.length),
+    )
 }

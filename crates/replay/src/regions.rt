@@ -4,8 +4,6 @@ use crate::cells;
 use crate::cuts::number_at;
 use crate::cuts::part;
 use crate::form::Ends;
-use crate::form::Form;
-use crate::form::WHOLE;
 use crate::numbers::Numbers;
 use common::fence_tests::fence_tables;
 use common::grammar::Grammar;
@@ -20,14 +18,6 @@ use rules::tables::fence_rows;
 use rules::tables::inline_tables;
 use search::byte_at;
 
-pub(crate) fn form_of(letter: u8) -> Form {
-    match letter {
-        b'r' | b'd' | b'n' | b'b' => Form::new(0, 4, 7, WHOLE),
-        b'c' => Form::new(1, 5, 7, WHOLE),
-        _ => Form::unknown(),
-    }
-}
-
 // All regions as they are built, by columns or by records; or as steps give them with what made them; a list built into so many
 // cells; or the bytes that are searched for.
 pub(crate) fn ask(
@@ -40,7 +30,14 @@ pub(crate) fn ask(
 ) -> Numbers {
     match letter {
         b'r' | b'd' => built(letter, ends, asked, bytes, text, reply),
-        b'c' => built_into(number_at(asked, 0) as usize, ends, asked, bytes, text, reply),
+        b'c' => built_into(
+            number_at(asked, 0) as usize,
+            ends,
+            asked,
+            bytes,
+            text,
+            reply,
+        ),
         b'n' => stepped(ends, asked, bytes, text, reply),
         _ => searched(ends, bytes, reply),
     }
@@ -69,12 +66,7 @@ fn built(
 ) -> Numbers {
     let mut space = [0u32; cells::ROOM];
     let list: &mut [u32] = &mut space;
-    let g = grammar_of(bytes, 0);
-    if letter == b'd' {
-        let answer = build_recorded(ends, asked, bytes, g, text, list);
-        return cells::entries(answer, &list[..], 2, reply);
-    }
-    let answer = build(ends, asked, bytes, g, text, list);
+    let answer = build(letter, ends, asked, bytes, grammar_of(bytes, 0), text, list);
     cells::entries(answer, &list[..], 2, reply)
 }
 
@@ -103,12 +95,13 @@ fn build_first(
 ) -> Answer {
     let g = grammar_of(bytes, 1);
     if size <= list.len() {
-        return build(ends, asked, bytes, g, text, &mut list[0..size]);
+        return build(b'c', ends, asked, bytes, g, text, &mut list[0..size]);
     }
     Answer::Value(0)
 }
 
 fn build(
+    letter: u8,
     ends: Ends,
     asked: &[u32],
     bytes: &[u8],
@@ -116,6 +109,9 @@ fn build(
     text: &[u8],
     list: &mut [u32],
 ) -> Answer {
+    if letter == b'd' {
+        return build_recorded(ends, asked, bytes, g, text, list);
+    }
     context::build(
         text,
         g,
@@ -168,13 +164,18 @@ fn records_of(bytes: &[u8], mins: &[u8]) -> [FenceRule; 16] {
 }
 
 fn searched(ends: Ends, bytes: &[u8], reply: Numbers) -> Numbers {
-    let searched = search_bytes(ends.bytes(bytes, 0), ends.bytes(bytes, 2), ends.bytes(bytes, 4));
+    let searched = search_bytes(
+        ends.bytes(bytes, 0),
+        ends.bytes(bytes, 2),
+        ends.bytes(bytes, 4),
+    );
     let needles = searched.bytes;
     reply.value(searched.count).bytes(&needles)
 }
 
 // The tables that a step takes, and all steps from place 0 on.
 fn stepped(ends: Ends, asked: &[u32], bytes: &[u8], text: &[u8], reply: Numbers) -> Numbers {
+    let begun = reply.entries();
     let fences = ends.bytes(bytes, 0);
     let symmetric = ends.bytes(bytes, 2);
     let openers = ends.bytes(bytes, 4);
@@ -207,7 +208,7 @@ fn stepped(ends: Ends, asked: &[u32], bytes: &[u8], text: &[u8], reply: Numbers)
         &closer,
         &count,
         &index,
-        reply.entries(),
+        begun,
     )
 }
 
@@ -256,7 +257,8 @@ fn run(
 // Start and end, the kind of the rule and its index, and whether a line closed it.
 fn region(r: Region, reply: Numbers) -> Numbers {
     let cause = r.cause;
-    reply.size(r.start)
+    reply
+        .size(r.start)
         .size(r.end)
         .and(kind_of(cause))
         .size(r.index)

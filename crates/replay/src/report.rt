@@ -1,5 +1,5 @@
 // What is printed: the lines that differ, and one line for each section.
-use crate::tally::NO_SECTION;
+use crate::cuts::bytes_part;
 use crate::tally::Tally;
 use libc::STDOUT_FILENO;
 
@@ -14,13 +14,8 @@ fn print_number(n: u64) {
     io::print_decimal(STDOUT_FILENO, n);
 }
 
-fn print_line_number(line: u64) {
-    print(b"line ");
-    print_number(line);
-}
-
 pub(crate) fn differs(line: u64, found: &[u32]) {
-    print_line_number(line);
+    print_count(b"line ", line);
     print(b": found");
     print_run(found);
     print(b"\n");
@@ -35,49 +30,50 @@ fn print_run(run: &[u32]) {
 }
 
 fn print_parted(n: u32) {
-    print(b" ");
-    print_number(n as u64);
+    print_count(b" ", n as u64);
 }
 
 pub(crate) fn unknown(line: u64) {
-    print_line_number(line);
-    print(b": not a question of this section\n");
-}
-
-pub(crate) fn unended(line: u64) {
-    print_line_number(line);
-    print(b": too long, or broken off\n");
+    print_count(b"line ", line);
+    print(b": not a question of this section, or broken off\n");
 }
 
 pub(crate) fn summary(tally: Tally) {
     print_name(tally.section);
-    print(b": ");
-    print_number(tally.full);
-    print(b" answers in full, ");
-    print_number(tally.blocks);
-    print(b" blocks of ");
-    print_number(tally.inside);
-    print(b" answers, ");
-    print_number(tally.differ);
+    print_count(b": ", tally.full);
+    print_count(b" answers in full, ", tally.blocks);
+    print_count(b" blocks of ", tally.inside);
+    print_count(b" answers, ", tally.differ);
     print(b" differ\n");
 }
 
+fn print_count(before: &[u8], n: u64) {
+    print(before);
+    print_number(n);
+}
+
+// The names of the sections, one behind the other.
 fn print_name(section: u32) {
+    let names = b"refusalscommonfenceblock_markerblock_numberedcontcontextcursorsheetlisting";
+    if section < 10 {
+        print(bytes_part(names, name_start(section), name_start(section + 1)));
+        return;
+    }
+    print(b"no section");
+}
+
+fn name_start(section: u32) -> usize {
     match section {
-        0 => print(b"refusals"),
-        1 => print(b"common"),
-        2 => print(b"fence"),
-        3 => print(b"block_marker"),
-        4 => print(b"block_numbered"),
-        5 => print(b"cont"),
-        6 => print(b"context"),
-        7 => print(b"cursor"),
-        8 => print(b"sheet"),
-        9 => print(b"listing"),
-        NO_SECTION => print(b"before any section"),
-        _ => {
-            print(b"section ");
-            print_number(section as u64);
-        }
+        0 => 0,
+        1 => 8,
+        2 => 14,
+        3 => 19,
+        4 => 31,
+        5 => 45,
+        6 => 49,
+        7 => 56,
+        8 => 62,
+        9 => 67,
+        _ => 74,
     }
 }

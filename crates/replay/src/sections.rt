@@ -1,9 +1,7 @@
-// The sections whose questions have a text: the form of a letter, and the question put to ours.
+// The sections whose questions have a text.
 use crate::covers;
 use crate::fences;
-use crate::form::Form;
 use crate::frames;
-use crate::items;
 use crate::leaves;
 use crate::listings;
 use crate::markers;
@@ -12,20 +10,6 @@ use crate::numbers::Numbers;
 use crate::question::Question;
 use crate::regions;
 use crate::sheets;
-
-pub(crate) fn form_of(section: u32, letter: u8) -> Form {
-    match section {
-        1 => leaves::form_of(letter),
-        2 => fences::form_of(letter),
-        3 | 4 => items::form_of(letter),
-        5 => frames::form_of(letter),
-        6 => regions::form_of(letter),
-        7 => covers::form_of(letter),
-        8 => sheets::form_of(letter),
-        9 => listings::form_of(letter),
-        _ => Form::unknown(),
-    }
-}
 
 // Asks of a text, at a place where the question has one, and adds the answer. The numbers that ask stand in `asked`, and as bytes in
 // `bytes`.

@@ -3,21 +3,11 @@ use crate::cells;
 use crate::cuts::number_at;
 use crate::cuts::part;
 use crate::form::Ends;
-use crate::form::Form;
-use crate::form::WHOLE;
 use crate::numbers::Numbers;
 use common::grammar::Grammar;
 use common::refusal::Answer;
 use common::sets;
 use search::byte_at;
-
-pub(crate) fn form_of(letter: u8) -> Form {
-    match letter {
-        b'r' => Form::new(0, 3, 3, WHOLE),
-        b'c' => Form::new(2, 5, 3, WHOLE),
-        _ => Form::unknown(),
-    }
-}
 
 // All items of the sheet, or the sheet written into so many cells from a list with a stated count.
 pub(crate) fn ask(
@@ -42,7 +32,15 @@ pub(crate) fn ask(
 fn whole(ends: Ends, bytes: &[u8], regions: &[u32], text: &[u8], reply: Numbers) -> Numbers {
     let mut space = [0u32; cells::ROOM];
     let list: &mut [u32] = &mut space;
-    let answer = sheet(ends, bytes, grammar_of(bytes, 0), regions, regions.len() / 2, text, list);
+    let answer = sheet(
+        ends,
+        bytes,
+        grammar_of(bytes, 0),
+        regions,
+        regions.len() / 2,
+        text,
+        list,
+    );
     cells::entries(answer, &list[..], 5, reply)
 }
 

@@ -64,11 +64,7 @@ impl Tally {
 
     // The next line has no end, or none that there is room for.
     pub(crate) fn unended(self) -> Self {
-        let tally = self.next_line();
-        if tally.differ < report::MOST_TOLD {
-            report::unended(tally.line);
-        }
-        tally.one_more()
+        self.next_line().unknown()
     }
 
     fn one_more(self) -> Self {
