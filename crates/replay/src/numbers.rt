@@ -32,25 +32,20 @@ impl Numbers {
         }
     }
 
+    // One function does it all: a large struct that goes through several calls is copied at each, and takes its time.
     pub(crate) fn and(self, x: u32) -> Self {
-        let mut all = self.kept(x);
-        if all.cut {
-            return all;
-        }
-        let sums = all.sums;
-        all.sums = sums.answer(x);
-        all
-    }
-
-    fn kept(self, x: u32) -> Self {
         let mut all = self;
         let n = all.count;
-        if n < MOST {
-            all.cells[n] = x;
-            all.count = n + 1;
+        if n >= MOST {
+            all.over = true;
+            let sums = all.sums;
+            all.sums = sums.answer(x, all.cut);
             return all;
         }
-        all.over = true;
+        all.cells[n] = x;
+        all.count = n + 1;
+        let sums = all.sums;
+        all.sums = sums.answer(x, all.cut);
         all
     }
 
@@ -94,7 +89,7 @@ impl Numbers {
 
     // An answer that begins with 1 and the count of the entries that follow; `counted` says how many these were.
     pub(crate) fn entries(self) -> Self {
-        let mut all = self.and(1).kept(0);
+        let mut all = self.and(1).and(0);
         let sums = all.sums;
         all.sums = sums.count();
         all

@@ -43,17 +43,20 @@ impl Sums {
         self.feed(b as u32)
     }
 
-    // A number of an answer.
-    pub(crate) fn answer(self, x: u32) -> Self {
+    // A number of an answer; what stands behind a refusal isn't fed.
+    pub(crate) fn answer(self, x: u32, cut: bool) -> Self {
+        if cut {
+            return self;
+        }
         let mut sums = self.feed(x);
         sums.first_weight = (sums.first_weight as u64 * 65599 % 4294967291) as u32;
         sums.second_weight = (sums.second_weight as u64 * 69069 % 4294967279) as u32;
         sums
     }
 
-    // A count that is known only behind what it counts: 0 at first, and `counted` makes it so many.
+    // The number fed last is a count that is known only behind what it counts: 0 at first, and `counted` makes it so many.
     pub(crate) fn count(self) -> Self {
-        let mut sums = self.feed(0);
+        let mut sums = self;
         sums.first_weight = 1;
         sums.second_weight = 1;
         sums
