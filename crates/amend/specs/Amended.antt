@@ -15,7 +15,6 @@ use Rattle.rules.specs.Grammar.{Gram}
 use Rattle.region.specs.Regions.{regions}
 use Rattle.rules.specs.Columns.{Columns, gramOf}
 use Rattle.rules.specs.Columns.{unequal}
-use Rattle.context.specs.Build.{unless}
 use Rattle.context.specs.Shape.{misshapen}
 use Rattle.amend.specs.Amend.{Edit, joint}
 use Rattle.amend.specs.Local.{usesLineEnd}
@@ -93,7 +92,7 @@ module _ (g : Grammar) (c : Columns) (s l : List ℕ) (n : ℕ) (e : Edit) where
 -- "A refusal returns its number alone; lists, states and cursors keep their values. … Success writes the regions from place 0, returns
 -- their count and changes nothing beyond them.": the run that an outcome leaves of `out`, where the regions are l
 abbrev pub leaves : {T : Type 0} → Outcome → List ℕ → List (Region T) → List ℕ
-leaves o out l = unless (ltb 0 (o .number)) out (over (flatten pair l) out)
+leaves o out l = cond (ltb 0 (o .number)) out (over (flatten pair l) out)
 
 -- the promise of an amendment: its answer, and the list that it leaves
 pub record Amended (g : Grammar) (c : Columns) (s l : List ℕ) (n : ℕ) (e : Edit) (out out′ : List ℕ) (o : Outcome) : Type 0 where

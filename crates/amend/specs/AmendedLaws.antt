@@ -10,7 +10,7 @@ use lib.ListN.{length, getD, length-append, length-take, length-drop}
 use borrow.Author.Tests.{ltb-false, leb-true}
 use Rattle.search.specs.Promise.{Gives}
 use Rattle.search.specs.Search.{holds}
-use Rattle.search.specs.SearchLaws.{decide}
+use Rattle.search.specs.SearchLaws.{decide, neither}
 use Rattle.common.specs.Refusals.{Outcome, given, refused, refuse, tooLong, past, numberOf, told}
 use Rattle.common.specs.RefusalLaws.{answer-unique, found-unique}
 use Rattle.common.specs.declared.grammar.Grammar.{Grammar}
@@ -29,7 +29,6 @@ use Rattle.amend.specs.Local.{usesLineEnd}
 use Rattle.context.specs.Shape.{misshapen}
 use Rattle.amend.specs.Amended.{listed, plainRegions, edit, edited, follows, miscut, offJoint, amendedAnswer, Amended}
 use Rattle.amend.specs.Parts.{marks, judged, said, Judged, Ready, settledAnswer, Settled}
-use Rattle.amend.specs.Edits.{or-false}
 use Rattle.amend.specs.RowLaws.{orderly-told}
 use Rattle.amend.specs.JudgeLaws.{edited-length}
 use Rattle.amend.specs.declared.Verdict.{Verdict}
@@ -99,8 +98,8 @@ pub ready-told : (eol : ℕ) (s l : List ℕ) (n first second : ℕ) (r : List �
     → Ready l n first second (length s) r
 ready-told eol s l n first second r u m v e g =
     let p = passed eol s l n (edit first second r) u m (sym (g .answer) ∙ ap said e) in
-    let a = or-false (tooLong s) (tooLong r) (p .0) in
-    let b = or-false (ltb second first) (past s second) (p .2) in
+    let a = neither (tooLong s) (tooLong r) (p .0) in
+    let b = neither (ltb second first) (past s second) (p .2) in
     let cuts : first ≤ second = ltb-false second first (b .0) in
     let inside : second ≤ length s = ltb-false (length s) second (b .1) in
     record {

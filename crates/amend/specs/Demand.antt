@@ -8,7 +8,7 @@ use Prim.Native.Nat.{ℕ}
 use lib.Dec.{ltb}
 use lib.ListN.{length}
 use Rattle.search.specs.Search.{is}
-use Rattle.search.specs.SearchLaws.{clash, is-yes}
+use Rattle.search.specs.SearchLaws.{clash, is-yes, neither}
 use Rattle.common.specs.Rules.{hasRule, leastOf, onByte}
 use Rattle.common.specs.declared.grammar.Grammar.{Grammar}
 use Rattle.region.specs.Region.{Region, Plain, up, dropTag}
@@ -22,7 +22,7 @@ use Rattle.amend.specs.Amend.{Edit, finished, relist, Fits, Blank, Decid
 use Rattle.amend.specs.Amended.{plainRegions}
 use Rattle.amend.specs.Lists.{drop-up, drop-reaches, drop-order}
 use Rattle.amend.specs.Join.{regions-decided}
-use Rattle.amend.specs.Edits.{or-false, amended}
+use Rattle.amend.specs.Edits.{amended}
 
 -- where lists with tags join, so do the same lists without
 pub drop-joins : {T : Type 0} (eol : ℕ) (build : List ℕ → List (Region T)) → Joins eol build → Joins eol (λ s. map dropTag (build s))
@@ -56,10 +56,10 @@ module _ (g : Grammar) (c : Columns) (free : usesLineEnd g c ≡ false) where
   columns-apart = record { escape = λ e. clash (is-yes (g .eol) (g .escape) e) (w .0); opener = by (ltb (g .eol) 256) }
     where
       w : (is (g .eol) (g .escape) ≡ false) × ((hasRule (c .symBytes) (g .eol) || hasRule (c .openers) (g .eol)) ≡ false)
-      w = or-false (is (g .eol) (g .escape)) _ free
+      w = neither (is (g .eol) (g .escape)) _ free
 
       v : (hasRule (c .symBytes) (g .eol) ≡ false) × (hasRule (c .openers) (g .eol) ≡ false)
-      v = or-false (hasRule (c .symBytes) (g .eol)) _ (w .1)
+      v = neither (hasRule (c .symBytes) (g .eol)) _ (w .1)
 
       by : (t : Bool) → cond t (ruleOf c (g .eol)) plain ≡ plain
       by true = no-rule c (g .eol) (v .0) (v .1)

@@ -1,7 +1,7 @@
 -- The list that edits at joints leave is the list of the finished text; over any builder that joins, with any tag. Assumes nothing.
 -- The page: "mission demand 3 adds that the old list was built from the old text", here of any number of edits.
-use mathlib.Core.Path.{_≡_, refl, sym, ap, _∙_}
-use mathlib.Core.Bool.{Bool, true, false, not, _||_, _&&_}
+use mathlib.Core.Path.{_≡_, sym, ap, _∙_}
+use mathlib.Core.Bool.{true, false, not, _&&_}
 use mathlib.Core.List.{List, [], _∷_, _++_, map, append-nil}
 use mathlib.Core.Logic.{_⊎_, inl, inr, ⊎-elim}
 use Prim.Native.Nat.{ℕ, _+_, _-_, _≤_, _<_}
@@ -11,14 +11,10 @@ use lib.ListN.{length, getD, drop, take-append-drop, length-take, length-drop, d
 use lib.Seq.{getD-take, getD-drop, drop-drop}
 use borrow.Author.Tests.{ltb-true, ltb-false, leb-true, eqb-true, not-true}
 use Rattle.search.specs.Search.{is, holds}
-use Rattle.search.specs.SearchLaws.{decide, clash, and-true, is-true, holds-true}
+use Rattle.search.specs.SearchLaws.{decide, clash, and-true, is-true, holds-true, neither}
 use Rattle.region.specs.Region.{Region, move, up, reaches, keepBefore, keepFrom}
 use Rattle.amend.specs.Amend.{Edit, part, finished, relist, afterEmptyLine, joint, Joint, Sound, Fits, none, last, next, Blank, Joins}
 use Rattle.amend.specs.Lists.{up-append, up-up, up-zero, move-up, stay, reaches-append, reaches-up, reaches-zero, before-all, from-all, from-none, from-zero, before-up}
-
-pub or-false : (a b : Bool) → (a || b) ≡ false → (a ≡ false) × (b ≡ false)
-or-false true b e = absurd (clash refl e)
-or-false false b e = (refl, e)
 
 -- ---- what the test of a joint tells
 pub record Cut {T : Type 0} (eol : ℕ) (s : List ℕ) (l : List (Region T)) (k : ℕ) : Type 0 where
@@ -117,7 +113,7 @@ module _ {T : Type 0} (eol : ℕ) (build : List ℕ → List (Region T)) (joins 
     second-clear : (k : ℕ) → reaches (length a + k) (build (a ++ b)) ≡ false → reaches k (build b) ≡ false
     second-clear k more =
         sym (reaches-up (length a) k (build b))
-        ∙ or-false (reaches (length a + k) (build a)) (reaches (length a + k) (up (length a) (build b)))
+        ∙ neither (reaches (length a + k) (build a)) (reaches (length a + k) (up (length a) (build b)))
         (sym (reaches-append (length a + k) (build a) (up (length a) (build b))) ∙ ap (reaches (length a + k)) (sym both) ∙ more) .1
 
   -- ---- a text with a joint at q

@@ -2,7 +2,7 @@
 -- The page: what a joint is for: "place 0, or a place k of at least 2 whose two preceding bytes are line ends, where no region starting
 -- before k ends at k or later."
 use mathlib.Core.Path.{_≡_, refl, sym as inv, ap, subst, _∙_}
-use mathlib.Core.Bool.{Bool, true, false, and-false, or-true}
+use mathlib.Core.Bool.{Bool, true, false, cond, and-false, or-true}
 use mathlib.Core.List.{List, _∷_, _++_}
 use mathlib.Core.Logic.{_⊎_, inl, inr, ⊎-elim}
 use Prim.Native.Nat.{ℕ, zero, suc, _+_, _-_, _≤_, _<_}
@@ -13,6 +13,7 @@ use lib.ListN.{length, getD, length-append, List·getD-append}
 use borrow.Author.Tests.{ltb-true, ltb-false, lt-ltb, le-ltb, lt-leb}
 use Rattle.search.specs.Search.{find, is, other, holds, firstPlace, lineEnd, nextLine}
 use Rattle.search.specs.SearchLaws.{decide, is-yes, is-no, other-yes, holds-in, holds-prefix, first-ge, first-before, first-at, first-is, first-hit, first-prefix, first-past, find-ge, find-hit, find-prefix, find-past, back-prefix, Ends, start-zero, start-pos, back-after}
+use Rattle.common.specs.ItemLaws.{both}
 use Rattle.common.specs.Paragraph.{endsAt, paragraphEnd, nextIn}
 use Rattle.common.specs.Turn.{Turn, go, stop, found, thenCollect, collect, firstTurn, allFound, Adv, Leads, Has}
 use Rattle.common.specs.TurnLaws.{by-turn, collect-go, collect-found, collect-alike, scan-same, scan-fuel, has-is}
@@ -22,8 +23,8 @@ use Rattle.region.specs.declared.Cause.{Cause}
 use Rattle.region.specs.declared.Cause.the-variants.{Symmetric, Asymmetric}
 use Rattle.region.specs.Region.{Region, Caused, up, reaches}
 use Rattle.rules.specs.Grammar.{Rule, plain, sym, asym, Gram}
-use Rattle.region.specs.Regions.{pick, shutPlace, fencedTo, fenced, oddBefore, escaped, nextOf, symAfter, symTurn, asymAfter, asymTurn, pairOf, openPair, inline, regionAt, regionTurn, regions}
-use Rattle.region.specs.Ahead.{Lies, Meets, Met, both, next-met, symTurn-ahead, asymTurn-ahead, regionTurn-ahead}
+use Rattle.region.specs.Regions.{shutPlace, fencedTo, fenced, oddBefore, escaped, nextOf, symAfter, symTurn, asymAfter, asymTurn, pairOf, openPair, inline, regionAt, regionTurn, regions}
+use Rattle.region.specs.Ahead.{Lies, Meets, Met, next-met, symTurn-ahead, asymTurn-ahead, regionTurn-ahead}
 use Rattle.amend.specs.Local.{Linewise, Apart}
 use Rattle.amend.specs.LocalLaws.{find-either, line-in, line-same}
 use Rattle.amend.specs.Amend.{Blank, Decided}
@@ -312,7 +313,7 @@ module _ (g : Gram) (lines : Linewise (g .eol) (g .fences)) (a b : List ℕ) (tw
         opens : g .fences .opens (a ++ b) p ≡ g .fences .opens a p
         opens = lines .opens .within a b ends p h
 
-        by : (t : Bool) → g .fences .opens a p ≡ t → Decides step′ (length a) q (pick t (fenced g a p) (inline g a p c (g .rule c)))
+        by : (t : Bool) → g .fences .opens a p ≡ t → Decides step′ (length a) q (cond t (fenced g a p) (inline g a p c (g .rule c)))
         by true u = fenced-decides g lines a b ends p h step′ q (e ∙ rw (opens, u))
         by false u = decides-same step′ q (inline g a p c (g .rule c)) (inline-starts p c (g .rule c) h) (e ∙ rw (opens, u, List·getD-append a b 0 p h) (inline-same p (g .rule c) h refl))
 
@@ -323,11 +324,11 @@ module _ (g : Gram) (lines : Linewise (g .eol) (g .fences)) (a b : List ℕ) (tw
         p : ℕ
         p = find (g .trigger) a q
 
-        alike : (k : ℕ → List Caused) (t : Bool) (x : Turn Caused) (v w : ℕ) → thenCollect k (pick t x (stop v)) ≡ thenCollect k (pick t x (stop w))
+        alike : (k : ℕ → List Caused) (t : Bool) (x : Turn Caused) (v w : ℕ) → thenCollect k (cond t x (stop v)) ≡ thenCollect k (cond t x (stop w))
         alike k true x v w = refl
         alike k false x v w = refl
 
-        by : (t : Bool) → ltb p (length a) ≡ t → Decides (regionTurn g (a ++ b)) (length a) q (pick t (regionAt g a p) (stop q))
+        by : (t : Bool) → ltb p (length a) ≡ t → Decides (regionTurn g (a ++ b)) (length a) q (cond t (regionAt g a p) (stop q))
         by true u =
             let l = ltb-true p (length a) u in
             let m = longer in

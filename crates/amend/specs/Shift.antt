@@ -1,7 +1,7 @@
 -- Behind whole lines a text's regions are its own, moved up; over any fence reader that goes by lines. Assumes nothing.
 -- The page: "regions starting at or after it moved by the change in length".
 use mathlib.Core.Path.{_≡_, refl, sym as inv, ap, _∙_}
-use mathlib.Core.Bool.{Bool, true, false}
+use mathlib.Core.Bool.{Bool, true, false, cond}
 use mathlib.Core.List.{List, _++_}
 use Prim.Native.Nat.{ℕ, _+_, _≤_, _<_}
 use native.Mathlib.Nat.{add-zero, add-assoc}
@@ -21,7 +21,7 @@ use Rattle.region.specs.declared.Cause.{Cause}
 use Rattle.region.specs.declared.Cause.the-variants.{Symmetric, Asymmetric}
 use Rattle.region.specs.Region.{Caused, move, up}
 use Rattle.rules.specs.Grammar.{Rule, plain, sym, asym, Gram}
-use Rattle.region.specs.Regions.{pick, shutPlace, fencedTo, fenced, oddBefore, escaped, nextOf, symAfter, symTurn, asymAfter, asymTurn, pairOf, openPair, inline, regionAt, regionFrom, regionTurn, regions}
+use Rattle.region.specs.Regions.{shutPlace, fencedTo, fenced, oddBefore, escaped, nextOf, symAfter, symTurn, asymAfter, asymTurn, pairOf, openPair, inline, regionAt, regionFrom, regionTurn, regions}
 use Rattle.region.specs.Ahead.{Meets, symTurn-ahead, asymTurn-ahead, regionTurn-ahead}
 use Rattle.amend.specs.Local.{Linewise}
 use Rattle.amend.specs.Places.{ltb-up, leb-up, sub-up, min-up}
@@ -35,7 +35,7 @@ hit-if : (k : ℕ) (t : Bool) (q u : ℕ) → hitAt t (k + q) (k + u) ≡ moveHi
 hit-if k true q u = refl
 hit-if k false q u = refl
 
-move-if : {A B : Type 0} (f : A → B) (k : ℕ) (t : Bool) (x y : Turn A) → moveT f k (pick t x y) ≡ pick t (moveT f k x) (moveT f k y)
+move-if : {A B : Type 0} (f : A → B) (k : ℕ) (t : Bool) (x y : Turn A) → moveT f k (cond t x y) ≡ cond t (moveT f k x) (moveT f k y)
 move-if f k true x y = refl
 move-if f k false x y = refl
 

@@ -9,7 +9,7 @@ use native.Mathlib.Omega.{arith}
 use lib.Dec.{ltb}
 use lib.ListN.{length, getD, take, drop, length-map, List·getD-append}
 use borrow.Author.Tests.{le-ltb, ltb-false, not-false}
-use Rattle.search.specs.SearchLaws.{decide}
+use Rattle.search.specs.SearchLaws.{decide, neither}
 use Rattle.common.specs.Entry.{flatten, room, over}
 use Rattle.common.specs.EntryLaws.{length-flatten, rows-flatten}
 use Rattle.common.specs.Refusals.{Outcome, given, refuse, tooLong, past, told}
@@ -29,7 +29,7 @@ use Rattle.context.specs.Shape.{misshapen}
 use Rattle.amend.specs.Amended.{plainOf, listed, plainRegions, edit, edited, amendedRegions, miscut, offJoint, leftOpen, crowded, result, amendedAnswer, Amended}
 use Rattle.amend.specs.Lists.{drop-order}
 use Rattle.amend.specs.Starts.{unless-end}
-use Rattle.amend.specs.Edits.{or-false, relist-one}
+use Rattle.amend.specs.Edits.{relist-one}
 use Rattle.amend.specs.Demand.{demand-first}
 use Rattle.amend.specs.SettleLaws.{pair-two, flatten-drop}
 use Rattle.amend.specs.AmendedLaws.{refuse-pass}
@@ -83,7 +83,7 @@ accepted g c s l n e out k served =
     let p7 = refuse-pass 6 (offJoint (g .eol) s (listed n l) (e .first) (e .second)) _ v (p9 .1) in
     let p8 = refuse-pass 7 (leftOpen (g .eol) (plainRegions (gramOf g c)) (length s) e) _ v (p7 .1) in
     let p3 = refuse-pass 2 (crowded (result g c s l n e) out) _ v (p8 .1) in
-    let m = or-false (ltb (e .second) (e .first)) (past s (e .second)) (p4 .0) in
+    let m = neither (ltb (e .second) (e .first)) (past s (e .second)) (p4 .0) in
     record {
       equal = p6 .0;
       cuts = (ltb-false (e .second) (e .first) (m .0), ltb-false (length s) (e .second) (m .1));
@@ -100,7 +100,7 @@ module _ (g : Grammar) (c : Columns) (s l : List ℕ) (n : ℕ) (e : Edit) (out 
   both : (joint (g .eol) s (plainRegions (gramOf g c) s) (e .first) ≡ true) × ((ltb (e .second) (length s) && not (joint (g .eol) s (plainRegions (gramOf g c) s) (e .second))) ≡ false)
   unfolding offJoint
   both =
-      let w = or-false (not (joint (g .eol) s (listed n l) (e .first))) _ (a .joints) in
+      let w = neither (not (joint (g .eol) s (listed n l) (e .first))) _ (a .joints) in
       (subst (λ (z : List Plain). joint (g .eol) s z (e .first) ≡ true) holds (not-false _ (w .0)), subst (λ (z : List Plain). (ltb (e .second) (length s) && not (joint (g .eol) s z (e .second))) ≡ false) holds (w .1))
 
   fitting : Fits (g .eol) (plainRegions (gramOf g c)) s 0 (e ∷ [])

@@ -1,6 +1,6 @@
 -- Laws of numbers read from a byte run, and of the loop that holds them to limits. Assumes nothing.
 use mathlib.Core.Path.{_≡_, refl, sym, _∙_}
-use mathlib.Core.Bool.{Bool, true, false, _&&_, and-true, and-assoc}
+use mathlib.Core.Bool.{Bool, true, false, _&&_, and-true as with-true, and-assoc}
 use mathlib.Core.List.{List, [], _∷_}
 use Prim.Native.Nat.{ℕ, zero, suc, _+_, _*_, _/_, _%_, _≤_, _<_}
 use native.Mathlib.Numerals.{add-one}
@@ -9,6 +9,7 @@ use lib.Dec.{T, leb, ltb, eqb, leb→le, ltb→lt}
 use lib.ListN.{length, getD, drop, length-map, List·getD-map, List·getD-eq-default, drop-of-length-le}
 use lib.Seq.{drop-cons}
 use borrow.Author.Tests.{leb-true, eq-eqb, ne-eqb, eqb-true}
+use Rattle.search.specs.SearchLaws.{and-true}
 use Rattle.search.specs.Promise.{Gives}
 use Rattle.common.specs.Entry.{rows}
 use Rattle.common.specs.EntryLaws.{rows-at, length-rows}
@@ -41,17 +42,13 @@ module _ (run : List ℕ) (k : ℕ) where
   low-cell h l = omega (arith, cell-at h)
 
 -- ---- limits
-both : (a b : Bool) → (a && b) ≡ true → (a ≡ true) × (b ≡ true)
-both true b e = (refl, e)
-both false b e = let z : _≡_ {A = ℕ} 0 1 = cc in absurd (omega arith)
-
 pub within-at : (limits l : List ℕ) (k : ℕ) → within limits l ≡ true → getD l k 0 ≤ getD limits k 0
 unfolding within
 within-at [] [] k e = omega arith
 within-at [] (x ∷ l) k e = let z : _≡_ {A = ℕ} 0 1 = cc in absurd (omega arith)
 within-at (m ∷ limits) [] k e = let z : _≡_ {A = ℕ} 0 1 = cc in absurd (omega arith)
-within-at (m ∷ limits) (x ∷ l) zero e = leb-true x m (both (leb x m) (within limits l) e .0)
-within-at (m ∷ limits) (x ∷ l) (suc k) e = within-at limits l k (both (leb x m) (within limits l) e .1)
+within-at (m ∷ limits) (x ∷ l) zero e = leb-true x m (and-true (leb x m) (within limits l) e .0)
+within-at (m ∷ limits) (x ∷ l) (suc k) e = within-at limits l k (and-true (leb x m) (within limits l) e .1)
 
 module _ (limits run : List ℕ) where
   pub readable-size : (length run % 4 ≡ 0 → ⊥) → false ≡ readable limits run
@@ -89,15 +86,15 @@ module _ (limits run : List ℕ) where
     fitting-end h =
         let a : drop k limits ≡ [] = drop-of-length-le limits {i = k} h in
         let b : drop k (cells run) ≡ [] = drop-of-length-le (cells run) {i = k} (omega (arith, length-cells run, i .long)) in
-        rw (eq-eqb (length run) (length limits * 4) (i .long), i .same, a, b) (sym (and-true fit))
+        rw (eq-eqb (length run) (length limits * 4) (i .long), i .same, a, b) (sym (with-true fit))
 
   pub readable-long : readable limits run ≡ true → length run ≡ length limits * 4
   unfolding readable
-  readable-long e = eqb-true (length run) (length limits * 4) (both (eqb (length run) (length limits * 4)) (within limits (cells run)) e .0)
+  readable-long e = eqb-true (length run) (length limits * 4) (and-true (eqb (length run) (length limits * 4)) (within limits (cells run)) e .0)
 
   -- a field that is a byte
   pub byte-field : (k x : ℕ) → readable limits run ≡ true → T (ltb k (length limits)) → T (leb (getD limits k 0) 255) → Gives (getD run (k * 4) 0) x → x ≡ getD (cells run) k 0
   unfolding readable
   byte-field k x e h l g =
-      let w = within-at limits (cells run) k (both (eqb (length run) (length limits * 4)) (within limits (cells run)) e .1) in
+      let w = within-at limits (cells run) k (and-true (eqb (length run) (length limits * 4)) (within limits (cells run)) e .1) in
       g .answer ∙ low-cell run k (omega (arith, readable-long e, ltb→lt k (length limits) h)) (omega (arith, leb→le (getD limits k 0) 255 l))

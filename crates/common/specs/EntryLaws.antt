@@ -10,6 +10,7 @@ use lib.Dec.{T, leb, ltb, leb→le}
 use borrow.Author.Tests.{leb-true, ltb-true, le-leb, lt-ltb}
 use lib.ListN.{length, getD, take, drop, set, length-append, length-set, take-append-drop}
 use lib.Seq.{take-at, drop-at, getD-take, getD-drop, drop-drop, drop-set-lt, take-suc-set, length-take-le, append-snoc}
+use Rattle.search.specs.SearchLaws.{and-true}
 use Rattle.common.specs.Entry.{flatten, rows, startOf, stopOf, room, shaped, Shaped, over, putAt, Shaping, Written}
 
 -- ---- entries as rows
@@ -51,16 +52,12 @@ pub fits-room : (w n : ℕ) (out : List ℕ) → 0 < w → n * w ≤ length out 
 fits-room w n out p h = le-div-iff-mul-le p .1 h
 
 -- ---- places in order
-both : (a b : Bool) → (a && b) ≡ true → (a ≡ true) × (b ≡ true)
-both true b e = (refl, e)
-both false b e = let z : _≡_ {A = ℕ} 0 1 = cc in absurd (omega arith)
-
 pub shaped-holds : (from len : ℕ) (l : List (List ℕ)) → shaped from len l ≡ true → Shaped from len l
 shaped-holds from len [] e = tt
 shaped-holds from len (r ∷ l) e =
-    let x = both (leb from (startOf r) && ltb (startOf r) (stopOf r) && leb (stopOf r) len) (shaped (stopOf r) len l) e in
-    let y = both (leb from (startOf r) && ltb (startOf r) (stopOf r)) (leb (stopOf r) len) (x .0) in
-    let z = both (leb from (startOf r)) (ltb (startOf r) (stopOf r)) (y .0) in
+    let x = and-true (leb from (startOf r) && ltb (startOf r) (stopOf r) && leb (stopOf r) len) (shaped (stopOf r) len l) e in
+    let y = and-true (leb from (startOf r) && ltb (startOf r) (stopOf r)) (leb (stopOf r) len) (x .0) in
+    let z = and-true (leb from (startOf r)) (ltb (startOf r) (stopOf r)) (y .0) in
     (leb-true from (startOf r) (z .0), ltb-true (startOf r) (stopOf r) (z .1), leb-true (stopOf r) len (y .1), shaped-holds (stopOf r) len l (x .1))
 
 pub holds-shaped : (from len : ℕ) (l : List (List ℕ)) → Shaped from len l → shaped from len l ≡ true

@@ -1,6 +1,6 @@
 -- Laws of what lines say of fences: the ways out of the functions that ask. Assumes nothing.
 use mathlib.Core.Path.{_≡_, refl, sym, subst, _∙_}
-use mathlib.Core.Bool.{Bool, true, false, _&&_, and-false}
+use mathlib.Core.Bool.{Bool, true, false, cond, _&&_, and-false}
 use mathlib.Core.List.{List}
 use mathlib.Core.Logic.{_⊎_, inl, inr, ⊎-elim}
 use Prim.Native.Nat.{ℕ, _+_, _-_, _≤_, _<_, min}
@@ -11,7 +11,7 @@ use borrow.Author.Tests.{lt-ltb, le-ltb, ltb-true, ltb-false, le-leb, lt-leb}
 use Rattle.search.specs.Promise.{Gives}
 use Rattle.search.specs.Search.{is, either, other, holds, firstPlace, find, Sought, lineStart, lineEnd, nextLine}
 use Rattle.search.specs.SearchLaws.{decide, is-yes, is-no, is-true, is-false, either-true, either-false, other-yes, other-false, holds-in, holds-past, holds-true, first-none, first-end, first-over, first-here, find-ge, find-end, find-before, find-at, find-is, find-over, find-hit, line-one}
-use Rattle.common.specs.Fences.{runCount, opensTo, openingOf, opensLine, opening, pickOpening, closesTo, closing, closeScan}
+use Rattle.common.specs.Fences.{runCount, opensTo, openingOf, opensLine, opening, closesTo, closing, closeScan}
 use Rattle.common.specs.Steps.{CloseTurned}
 use Rattle.common.specs.declared.grammar.Grammar.{Grammar}
 use Rattle.common.specs.declared.fence_tests.Opening.{Opening}
@@ -123,12 +123,12 @@ module _ (eol : ℕ) (has : ℕ → Bool) (least : ℕ → ℕ) (s : List ℕ) (
 
 -- a line opens with its whole run, up to its line's end
 pub opening-is : (eol : ℕ) (has : ℕ → Bool) (least : ℕ → ℕ) (s : List ℕ) (p : ℕ)
-    → opening eol has least s p ≡ pickOpening (opensLine eol has least s p) (Opens (runCount p (min (find (other (is (getD s p 0))) s p) (lineEnd eol s p))) (lineEnd eol s p)) Not
+    → opening eol has least s p ≡ cond (opensLine eol has least s p) (Opens (runCount p (min (find (other (is (getD s p 0))) s p) (lineEnd eol s p))) (lineEnd eol s p)) Not
 unfolding opening openingOf opensLine
 opening-is eol has least s p = by (has (getD s p 0))
   where
-    by : (y : Bool) → pickOpening y (pickOpening (opensTo (getD s p 0) (least (getD s p 0)) s p (lineEnd eol s p)) (Opens (runCount p (min (find (other (is (getD s p 0))) s p) (lineEnd eol s p))) (lineEnd eol s p)) Not) Not
-        ≡ pickOpening (y && opensTo (getD s p 0) (least (getD s p 0)) s p (lineEnd eol s p)) (Opens (runCount p (min (find (other (is (getD s p 0))) s p) (lineEnd eol s p))) (lineEnd eol s p)) Not
+    by : (y : Bool) → cond y (cond (opensTo (getD s p 0) (least (getD s p 0)) s p (lineEnd eol s p)) (Opens (runCount p (min (find (other (is (getD s p 0))) s p) (lineEnd eol s p))) (lineEnd eol s p)) Not) Not
+        ≡ cond (y && opensTo (getD s p 0) (least (getD s p 0)) s p (lineEnd eol s p)) (Opens (runCount p (min (find (other (is (getD s p 0))) s p) (lineEnd eol s p))) (lineEnd eol s p)) Not
     by true = refl
     by false = refl
 

@@ -2,7 +2,7 @@
 -- The page: "A fence begins its line, has a run of at least min and at least 1, and no further fence byte on that line. It is closed by
 -- the first later line whose run is as long or longer and whose rest is separators or tabs." and "Run counts stop at 255."
 
-use mathlib.Core.Bool.{Bool, true, false, _&&_}
+use mathlib.Core.Bool.{Bool, true, false, cond, _&&_}
 use mathlib.Core.List.{List}
 use Prim.Native.Nat.{ℕ, _-_, min}
 use lib.Dec.{ltb, leb}
@@ -22,10 +22,6 @@ runEnd b s p e = min (find (other (is b)) s p) e
 abbrev pub runCount : ℕ → ℕ → ℕ
 runCount p j = min (j - p) 255
 
-abbrev pub pickOpening : Bool → Opening → Opening → Opening
-pickOpening true a b = a
-pickOpening false a b = b
-
 -- whether a fence byte's run from p up to j, in a line that ends at e, opens a fence: "a run of at least min and at least 1, and no
 -- further fence byte on that line"
 abbrev pub opensRun : ℕ → ℕ → List ℕ → ℕ → ℕ → ℕ → Bool
@@ -37,7 +33,7 @@ opensTo b least s p e = opensRun b least s p (runEnd b s p e) e
 
 -- its run, counted, and the line's end
 unfoldable pub openingOf : ℕ → ℕ → ℕ → List ℕ → ℕ → Opening
-openingOf eol b least s p = pickOpening (opensTo b least s p (lineEnd eol s p)) (Opens (runCount p (runEnd b s p (lineEnd eol s p))) (lineEnd eol s p)) Not
+openingOf eol b least s p = cond (opensTo b least s p (lineEnd eol s p)) (Opens (runCount p (runEnd b s p (lineEnd eol s p))) (lineEnd eol s p)) Not
 
 -- whether the line that begins at p opens a fence, by the rule of the byte that stands there: `has` says whether there is one, `least`
 -- its minimum
@@ -46,7 +42,7 @@ opensLine eol has least s p = has (getD s p 0) && opensTo (getD s p 0) (least (g
 
 -- and how
 unfoldable pub opening : ℕ → (ℕ → Bool) → (ℕ → ℕ) → List ℕ → ℕ → Opening
-opening eol has least s p = pickOpening (has (getD s p 0)) (openingOf eol (getD s p 0) (least (getD s p 0)) s p) Not
+opening eol has least s p = cond (has (getD s p 0)) (openingOf eol (getD s p 0) (least (getD s p 0)) s p) Not
 
 -- whether a run from q up to j, in a line that ends at e, closes a fence: it is "as long or longer", and the "rest is separators or
 -- tabs"

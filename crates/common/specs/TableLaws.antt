@@ -1,6 +1,6 @@
 -- Laws of tables of 256 entries: how a loop fills one, and the tables of fence rules and of byte sets. Assumes nothing.
 use mathlib.Core.Path.{_≡_, refl, sym, ap, _∙_, fun-ext}
-use mathlib.Core.Bool.{Bool, true, false, cond, _||_, _&&_, or-true}
+use mathlib.Core.Bool.{Bool, true, false, cond, _||_, _&&_, or-true, or-false}
 use mathlib.Core.List.{List, [], _∷_, _++_}
 use mathlib.Core.Logic.{_⊎_, inl, inr, ⊎-elim}
 use Prim.Native.Nat.{ℕ, zero, suc, _+_, _-_, _≤_, _<_}
@@ -11,6 +11,7 @@ use lib.Dec.{eqb, ltb}
 use lib.ListN.{length, getD, set, take, replicate, length-set, length-replicate, getD-replicate, length-append}
 use lib.Seq.{ext-getD, getD-set-same, getD-set-other, take-suc, take-all}
 use borrow.Author.Tests.{eq-eqb, ne-eqb, eqb-true, eqb-false, lt-ltb, le-ltb, ltb-true, ltb-false, le-leb, lt-leb}
+use Rattle.search.specs.NeedleLaws.{one-append}
 use Rattle.search.specs.Promise.{Gives}
 use Rattle.search.specs.Search.{is, oneOf, find}
 use Rattle.search.specs.SearchLaws.{decide, is-yes, is-no, find-here, find-next, find-end}
@@ -129,19 +130,6 @@ module _ (bytes mins : List ℕ) where
       simp (a, b)
 
 -- ---- a set that gains the accepted bytes: the first i of them
-one-append : (a b : List ℕ) (x : ℕ) → oneOf (a ++ b) x ≡ (oneOf a x || oneOf b x)
-unfolding oneOf
-one-append [] b x = refl
-one-append (y ∷ a) b x = ap (λ (t : Bool). eqb x y || t) (one-append a b x) ∙ assoc (eqb x y) (oneOf a x) (oneOf b x)
-  where
-    assoc : (p q r : Bool) → (p || (q || r)) ≡ ((p || q) || r)
-    assoc true q r = refl
-    assoc false q r = refl
-
-or-none : (t : Bool) → (t || false) ≡ t
-or-none true = refl
-or-none false = refl
-
 pub record Gained (all : List ℕ) (l : List Bool) (i : ℕ) : Type 0 where
   pub entries : Table false l (oneOf (take i all))
 
@@ -154,14 +142,14 @@ module _ (all : List ℕ) (l : List Bool) (i : ℕ) (h : i < length all) where
   unfolding oneOf
   more k =
       let e : take (i + 1) all ≡ take i all ++ (getD all i 0 ∷ []) = rw add-one (take-suc all i 0 h) in
-      ap (λ (z : List ℕ). oneOf z k) e ∙ one-append (take i all) (getD all i 0 ∷ []) k ∙ ap (λ (t : Bool). oneOf (take i all) k || t) (or-none (eqb k (getD all i 0)))
+      ap (λ (z : List ℕ). oneOf z k) e ∙ one-append (take i all) (getD all i 0 ∷ []) k ∙ ap (λ (t : Bool). oneOf (take i all) k || t) (or-false (eqb k (getD all i 0)))
 
   pub gained-again : (x : ℕ) → Index (getD all i 0) x → Gained all l i → Gained all (set l x true) (i + 1)
   gained-again x d w = rw (d .same) (record {
     entries =
         table-set false l (oneOf (take i all)) (oneOf (take (i + 1) all)) (getD all i 0) true (omega (arith, d .same, d .below))
         (more (getD all i 0) ∙ rw (eq-eqb (getD all i 0) (getD all i 0) refl) (or-true (oneOf (take i all) (getD all i 0))))
-        (λ k e. more k ∙ rw (ne-eqb k (getD all i 0) e) (or-none (oneOf (take i all) k))) (w .entries);
+        (λ k e. more k ∙ rw (ne-eqb k (getD all i 0) e) (or-false (oneOf (take i all) k))) (w .entries);
   })
 
 pub gained-all : (all : List ℕ) (l : List Bool) (i : ℕ) → length all ≤ i → Gained all l i → l ≡ setOf all

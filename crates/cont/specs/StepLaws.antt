@@ -1,7 +1,7 @@
 -- Laws of the step, the rules of the functions that make it, and that its promise leaves one result. Assumes nothing.
-use mathlib.Core.Path.{_≡_, refl, sym, ap, _∙_}
+use mathlib.Core.Path.{_≡_, sym, ap, _∙_}
 use mathlib.Core.List.{List}
-use mathlib.Core.Bool.{Bool, true, false, _||_}
+use mathlib.Core.Bool.{Bool, true, false}
 use Prim.Native.Nat.{ℕ, _-_, _≤_, _<_, min}
 use lib.Dec.{ltb}
 use lib.ListN.{length, replicate}
@@ -10,7 +10,7 @@ use Rattle.search.specs.Promise.{Gives, Steps, steps-unique}
 use Rattle.common.specs.Refusals.{Outcome, toldSpan, spanBack}
 use Rattle.common.specs.Items.{stepFor}
 use Rattle.common.specs.RefusalLaws.{span-unique}
-use Rattle.search.specs.SearchLaws.{clash}
+use Rattle.search.specs.SearchLaws.{neither}
 use Rattle.common.specs.Turn.{Step, yields, ends}
 use Rattle.common.specs.declared.span.Span.{Span}
 use Rattle.common.specs.declared.span.SpanFound.the-variants as spanned
@@ -48,18 +48,14 @@ module _ (len pos cap n k i : ℕ) where
 
 pub ruleset outside-rules = (outside-pos, outside-cap, outside-open, outside-pending, outside-last)
 
-or-false : (a b : Bool) → (a || b) ≡ false → (a ≡ false) × (b ≡ false)
-or-false true b e = absurd (clash refl e)
-or-false false b e = (refl, e)
-
 module _ (g : ContIter) (s : List ℕ) where
   pub served : {y : Bool} → y ≡ false → Gives (misplaced g s) y → length s ≤ 4294967295 → Served g s
   unfolding outside
   served t a h =
-      let b = or-false _ _ (sym (a .answer) ∙ t) in
-      let c = or-false _ _ (b .0) in
-      let d = or-false _ _ (c .0) in
-      let e = or-false _ _ (d .0) in
+      let b = neither _ _ (sym (a .answer) ∙ t) in
+      let c = neither _ _ (b .0) in
+      let d = neither _ _ (c .0) in
+      let e = neither _ _ (d .0) in
       record {
         short = h;
         inside = ltb-false (length s) (g .pos) (e .0);

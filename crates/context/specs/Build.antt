@@ -1,7 +1,7 @@
 -- What building answers and writes. Assumes nothing.
 -- The page: "For building: 1, 6, 3." and "Success writes the regions from place 0, returns their count and changes nothing beyond them."
 use mathlib.Core.Path.{_≡_}
-use mathlib.Core.Bool.{Bool, true, false}
+use mathlib.Core.Bool.{Bool, cond}
 use mathlib.Core.List.{List, [], _∷_}
 use Prim.Native.Nat.{ℕ, _+_, _*_, _≤_}
 use lib.Dec.{ltb}
@@ -32,14 +32,10 @@ pub record Wrote (l : List Caused) (out out′ : List ℕ) (n : ℕ) : Type 0 wh
 abbrev pub full : List Caused → List ℕ → Bool
 full l out = ltb (roomOf 2 out) (length l)
 
-abbrev pub unless : Bool → List ℕ → List ℕ → List ℕ
-unless true a b = a
-unless false a b = b
-
 -- what filling a run with regions answers and leaves
 pub record Filled (l : List Caused) (out out′ : List ℕ) (o : Outcome) : Type 0 where
   pub answer : o ≡ refuse 3 (full l out) (given (length l ∷ []))
-  pub list : out′ ≡ unless (full l out) out (over (flatten pair l) out)
+  pub list : out′ ≡ cond (full l out) out (over (flatten pair l) out)
 
 -- "For building: 1, 6, 3."; else the count
 unfoldable pub builtAnswer : Grammar → Columns → List ℕ → List ℕ → Outcome
@@ -47,7 +43,7 @@ builtAnswer g c s out = refuse 1 (tooLong s) (refuse 6 (unequal c) (refuse 3 (fu
 
 -- "Success writes the regions from place 0 … and changes nothing beyond them"; a refusal changes nothing
 unfoldable pub builtList : Grammar → Columns → List ℕ → List ℕ → List ℕ
-builtList g c s out = unless (tooLong s) out (unless (unequal c) out (unless (full (regions (gramOf g c) s) out) out (over (flatten pair (regions (gramOf g c) s)) out)))
+builtList g c s out = cond (tooLong s) out (cond (unequal c) out (cond (full (regions (gramOf g c) s) out) out (over (flatten pair (regions (gramOf g c) s)) out)))
 
 -- the promise of building: its answer, and the list that it leaves
 pub record Built (g : Grammar) (c : Columns) (s out out′ : List ℕ) (o : Outcome) : Type 0 where

@@ -1,6 +1,6 @@
 -- Laws of the cursor: its loop, the ways out of a query, and that on a list in order it is plain coverage. Assumes nothing.
 use mathlib.Core.Path.{_≡_, refl, sym, ap, _∙_}
-use mathlib.Core.Bool.{Bool, true, false, cond, _&&_}
+use mathlib.Core.Bool.{true, false, cond, _&&_, and-false}
 use mathlib.Core.List.{List, [], _∷_, map}
 use mathlib.Core.Logic.{_⊎_, inl, inr}
 use Prim.Native.Nat.{ℕ, zero, suc, _+_, _*_, _≤_, _<_}
@@ -85,10 +85,6 @@ cover-unique w l count index place {r} {r′} a b =
     ap (λ (f : Found). record { found = f; index = r .index }) (e .0) ∙ ap (λ (i : ℕ). record { found = r′ .found; index = i }) (e .1)
 
 -- ---- plain coverage of a list in order
-and-false : (a : Bool) → (a && false) ≡ false
-and-false true = refl
-and-false false = refl
-
 module _ (place : ℕ) where
   coverage-yes : (r : List ℕ) (l : List (List ℕ)) → covers place r ≡ true → coverage place (r ∷ l) ≡ stopOf r ∷ coverage place l
   unfolding coverage

@@ -1,7 +1,7 @@
 -- Fence rules as records: their columns, what gathering them makes, and building by what was gathered. Assumes nothing.
 -- The page: "afterwards a thin entry takes a lent run of fence rule records."
 use mathlib.Core.Path.{_≡_}
-use mathlib.Core.Bool.{Bool, true, false}
+use mathlib.Core.Bool.{true, false, cond}
 use mathlib.Core.List.{List, [], map}
 use Prim.Native.Nat.{ℕ}
 use lib.ListN.{length, set, replicate}
@@ -27,14 +27,10 @@ noRule = record { byte = 0; min = 0 }
 abbrev pub noRules : Gathered
 noRules = record { has = replicate 256 false; least = replicate 256 0; rows = replicate 256 0; searched = noBytes }
 
-abbrev pub unlessUsed : Bool → Gathered → Gathered → Gathered
-unlessUsed true a b = a
-unlessUsed false a b = b
-
 -- one rule more, at its index, also for a record made by hand: "by the first rule with that byte"
 unfoldable pub withRule : Gathered → FenceRule → ℕ → Gathered
 withRule f r i =
-    unlessUsed (entry false (f .has) (r .byte)) f (record { has = set (f .has) (r .byte) true; least = set (f .least) (r .byte) (r .min); rows = set (f .rows) (r .byte) i; searched = withByte (f .searched) (r .byte) })
+    cond (entry false (f .has) (r .byte)) f (record { has = set (f .has) (r .byte) true; least = set (f .least) (r .byte) (r .min); rows = set (f .rows) (r .byte) i; searched = withByte (f .searched) (r .byte) })
 
 -- what columns of bytes and minimums make: the tables of fence rules, their indices, and the bytes searched for
 abbrev pub gatheredOf : List ℕ → List ℕ → Gathered

@@ -1,11 +1,12 @@
 -- Laws of a list's shape: the ways out of the functions that test it, and what the test tells. Assumes nothing.
-use mathlib.Core.Path.{_≡_, refl}
-use mathlib.Core.Bool.{Bool, true, false, not, _||_}
+use mathlib.Core.Path.{_≡_}
+use mathlib.Core.Bool.{Bool, true, false, not}
 use mathlib.Core.List.{List}
 use Prim.Native.Nat.{ℕ, _+_, _*_, _/_, _≤_, _<_}
 use native.Mathlib.Omega.{arith}
 use lib.ListN.{length, getD}
 use borrow.Author.Tests.{lt-ltb, le-ltb, ltb-false, not-false}
+use Rattle.search.specs.SearchLaws.{neither}
 use Rattle.search.specs.Promise.{Gives}
 use Rattle.common.specs.Entry.{rows, room, shaped, Shaped, Shaping}
 use Rattle.common.specs.EntryLaws.{shaped-holds, shaping-again, shaping-early, shaping-empty, shaping-long}
@@ -41,10 +42,6 @@ module _ (l : List ℕ) (n len : ℕ) (h : n ≤ length l / 2) (y : Bool) where
   misshapen-yes e g = rw (le-ltb (length l / 2) n h, ← (g .answer), e)
 
 -- ---- a list that is not misshapen
-neither : (a b : Bool) → (a || b) ≡ false → (a ≡ false) × (b ≡ false)
-neither true b e = let z : _≡_ {A = ℕ} 0 1 = cc in absurd (omega arith)
-neither false b e = (refl, e)
-
 module _ (l : List ℕ) (n len : ℕ) (e : misshapen l n len ≡ false) where
   pub shape-fits : n ≤ room 2 l
   unfolding misshapen

@@ -20,7 +20,6 @@ use Rattle.common.specs.Scanning.{Scanner, fresh, items}
 use Rattle.block_marker.specs.Marker as marker
 use Rattle.block_numbered.specs.Numbered as numbered
 use Rattle.region.specs.Region.{Caused, pair}
-use Rattle.context.specs.Build.{unless}
 use Rattle.rules.specs.Columns.{Columns, columns, gramOf}
 use Rattle.region.specs.Regions as context
 use Rattle.sheet.specs.Sheet.{sheetOf}
@@ -99,7 +98,7 @@ listingAnswer s out = refuse 3 (ltb (length out) (length (listed s))) (given (le
 
 -- the listing over the front of the run, and nothing beyond it changed; a refusal changes nothing
 unfoldable pub listingRun : List ℕ → List ℕ → List ℕ
-listingRun s out = unless (ltb (length out) (length (listed s))) out (over (listed s) out)
+listingRun s out = cond (ltb (length out) (length (listed s))) out (over (listed s) out)
 
 pub record Listed (s out out′ : List ℕ) (o : Outcome) : Type 0 where
   pub answer : o ≡ listingAnswer s out

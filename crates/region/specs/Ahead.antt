@@ -9,6 +9,7 @@ use lib.ListN.{length, getD}
 use borrow.Author.Tests.{ltb-true, eq-eqb}
 use Rattle.search.specs.Search.{find, is, other, lineEnd, nextLine}
 use Rattle.search.specs.SearchLaws.{clash, and-true, is-yes, is-true, other-no, find-ge, find-le, find-next, find-at, first-ge, first-le}
+use Rattle.common.specs.ItemLaws.{both}
 use Rattle.common.specs.Paragraph.{endsAt, paragraphEnd, hitAt, nextIn}
 use Rattle.common.specs.Turn.{Turn, go, stop, found, thenCollect, collect, firstTurn, Ahead, Last, Adv}
 use Rattle.common.specs.TurnLaws.{by-turn, adv-weaken, scan-last}
@@ -18,7 +19,7 @@ use Rattle.region.specs.declared.Cause.{Cause}
 use Rattle.region.specs.declared.Cause.the-variants.{Symmetric, Asymmetric}
 use Rattle.region.specs.Region.{Region, InOrder}
 use Rattle.rules.specs.Grammar.{Rule, plain, sym, asym, Gram}
-use Rattle.region.specs.Regions.{pick, shutPlace, fencedTo, fenced, escaped, nextOf, symAfter, symTurn, asymAfter, asymTurn, pairOf, openPair, inline, regionTurn, regions}
+use Rattle.region.specs.Regions.{shutPlace, fencedTo, fenced, escaped, nextOf, symAfter, symTurn, asymAfter, asymTurn, pairOf, openPair, inline, regionTurn, regions}
 
 -- a region that is not empty, between the place that a turn stood at and the one that it goes on from
 abbrev pub Lies : {T : Type 0} → ℕ → ℕ → Region T → Type 0
@@ -36,11 +37,6 @@ Meets q n e = e ≡ n
 abbrev pub Met : ℕ → List ℕ → ℕ → ℕ → Hit → Type 0
 Met eol s x j (At q) = (j ≤ q) × (q < length s) × (getD s q 0 ≡ x) × (x ≡ eol → ⊥)
 Met eol s x j (End u) = (j ≤ u) × (u ≤ length s)
-
--- a property of one of two turns
-pub both : {A : Type 0} (P : Turn A → Type 0) (t : Bool) (a b : Turn A) → (t ≡ true → P a) → (t ≡ false → P b) → P (pick t a b)
-both P true a b f g = f refl
-both P false a b f g = g refl
 
 -- a run that begins at q is not empty
 pub run-past : (b : ℕ) (s : List ℕ) (q : ℕ) → q < length s → getD s q 0 ≡ b → q < find (other (is b)) s q

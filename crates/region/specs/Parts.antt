@@ -1,12 +1,12 @@
 -- The parts of a turn, by what each function is given. Assumes nothing.
 -- The page's sentences stand in Regions.antt; here are the parts, by what each function is given.
-use mathlib.Core.Bool.{Bool, true, false}
+use mathlib.Core.Bool.{Bool, true, false, cond}
 use mathlib.Core.List.{List}
 use Prim.Native.Nat.{ℕ, _-_}
 use lib.Dec.{eqb}
 use lib.ListN.{length, getD}
 use Rattle.search.specs.Search.{find, is, other, lineStart, nextLine}
-use Rattle.common.specs.Fences.{pickOpening, opening, closeScan}
+use Rattle.common.specs.Fences.{opening, closeScan}
 use Rattle.common.specs.Turn.{Turn, go, found, firstTurn}
 use Rattle.common.specs.Rules.{entry}
 use Rattle.common.specs.declared.grammar.Grammar.{Grammar}
@@ -18,7 +18,7 @@ use Rattle.rules.specs.Grammar.{plain, Gram}
 use Rattle.rules.specs.Columns.{first}
 use Rattle.rules.specs.Tables.{ruleBy}
 use Rattle.region.specs.Region.{Caused, caused}
-use Rattle.region.specs.Regions.{pick, pairOf, symTurn, asymTurn, inline}
+use Rattle.region.specs.Regions.{pairOf, symTurn, asymTurn, inline}
 use Rattle.region.specs.declared.Cause.the-variants.{Fence, Symmetric, Asymmetric}
 
 -- the grammar in which only paragraphs and fences are read: no byte is searched for, none opens a pair
@@ -34,7 +34,7 @@ fenceGram g has least = record {
 
 -- whether, and how, a fence's run begins at p
 unfoldable pub openingAt : ℕ → (ℕ → Bool) → (ℕ → ℕ) → List ℕ → ℕ → Opening
-openingAt eol has least s p = pickOpening (lineStart eol s p) (opening eol has least s p) Not
+openingAt eol has least s p = cond (lineStart eol s p) (opening eol has least s p) Not
 
 abbrev pub closedBy : Grammar → List ℕ → ℕ → ℕ → Close → Turn Caused
 closedBy g s p i (close.Closed q e) = found (caused Fence i true p e) (nextLine (length s) e)
@@ -47,11 +47,11 @@ fencedBy g s p count e i = closedBy g s p i (closeScan g (getD s p 0) count s (n
 -- a pair at an opener that is not escaped
 unfoldable pub symPair : Gram → List ℕ → ℕ → ℕ → ℕ → ℕ → Turn Caused
 symPair g s p b count i =
-    pick (eqb (find (other (is b)) s p - p) count) (pairOf Symmetric i p (find (other (is b)) s p) (firstTurn (symTurn g s b count) (length s) (find (other (is b)) s p))) (go (find (other (is b)) s p))
+    cond (eqb (find (other (is b)) s p - p) count) (pairOf Symmetric i p (find (other (is b)) s p) (firstTurn (symTurn g s b count) (length s) (find (other (is b)) s p))) (go (find (other (is b)) s p))
 
 unfoldable pub asymPair : Gram → List ℕ → ℕ → ℕ → ℕ → ℕ → ℕ → Turn Caused
 asymPair g s p b c count i =
-    pick (eqb (find (other (is b)) s p - p) count) (pairOf Asymmetric i p (find (other (is b)) s p) (firstTurn (asymTurn g s c) (length s) (find (other (is b)) s p))) (go (find (other (is b)) s p))
+    cond (eqb (find (other (is b)) s p - p) count) (pairOf Asymmetric i p (find (other (is b)) s p) (firstTurn (asymTurn g s c) (length s) (find (other (is b)) s p))) (go (find (other (is b)) s p))
 
 -- a byte at p that opens no fence, by the tables
 abbrev pub inlineBy : Gram → List ℕ → List ℕ → List ℕ → List ℕ → List ℕ → ℕ → Turn Caused

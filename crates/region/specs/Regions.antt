@@ -1,7 +1,7 @@
 -- The regions of a text, over an abstract grammar. Assumes nothing.
 -- The page, module 6: "A fence at a line start goes first, by the first rule with that byte; … A failed fence falls to the inline rule,
 -- symmetric before asymmetric, first match." and so on, a sentence to a definition.
-use mathlib.Core.Bool.{Bool, true, false}
+use mathlib.Core.Bool.{Bool, true, false, cond}
 use mathlib.Core.List.{List}
 use Prim.Native.Nat.{ℕ, _+_, _-_, _%_}
 use lib.Dec.{eqb, ltb}
@@ -15,10 +15,6 @@ use Rattle.region.specs.Region.{Caused, caused}
 use Rattle.rules.specs.Grammar.{Rule, plain, sym, asym, Gram}
 use Rattle.region.specs.declared.Cause.{Cause}
 use Rattle.region.specs.declared.Cause.the-variants.{Fence, Symmetric, Asymmetric}
-
-abbrev pub pick : {A : Type 0} → Bool → Turn A → Turn A → Turn A
-pick true a b = a
-pick false a b = b
 
 -- ---- fences
 -- the place of the first later line that closes the fence opened at p, else the text's end
@@ -47,10 +43,10 @@ nextOf g s x j = nextIn (g .eol) (g .fences .enters s) s x j
 
 -- "a symmetric close an unescaped run of exactly the count": a run from q up to t
 abbrev pub symRun : ℕ → ℕ → ℕ → Turn ℕ
-symRun count q t = pick (eqb (t - q) count) (found t t) (go t)
+symRun count q t = cond (eqb (t - q) count) (found t t) (go t)
 
 abbrev pub symAfter : Gram → List ℕ → ℕ → ℕ → Hit → Turn ℕ
-symAfter g s b count (At q) = pick (escaped g s q) (go (q + 1)) (symRun count q (find (other (is b)) s q))
+symAfter g s b count (At q) = cond (escaped g s q) (go (q + 1)) (symRun count q (find (other (is b)) s q))
 symAfter g s b count (End u) = stop u
 
 unfoldable pub symTurn : Gram → List ℕ → ℕ → ℕ → ℕ → Turn ℕ
@@ -58,7 +54,7 @@ symTurn g s b count j = symAfter g s b count (nextOf g s b j)
 
 -- "an asymmetric close is one unescaped close byte"
 abbrev pub asymAfter : Gram → List ℕ → Hit → Turn ℕ
-asymAfter g s (At q) = pick (escaped g s q) (go (q + 1)) (found (q + 1) (q + 1))
+asymAfter g s (At q) = cond (escaped g s q) (go (q + 1)) (found (q + 1) (q + 1))
 asymAfter g s (End u) = stop u
 
 unfoldable pub asymTurn : Gram → List ℕ → ℕ → ℕ → Turn ℕ
@@ -72,7 +68,7 @@ pairOf k i p r (found e n) = found (caused k i true p e) e
 
 -- "An escaped trigger (odd escape run) is passed. The opening run must be exactly the count."
 abbrev pub openPair : Gram → List ℕ → ℕ → ℕ → Cause → ℕ → (ℕ → Turn ℕ) → ℕ → Turn Caused
-openPair g s p count k i close r = pick (escaped g s p) (go (p + 1)) (pick (eqb (r - p) count) (pairOf k i p r (firstTurn close (length s) r)) (go r))
+openPair g s p count k i close r = cond (escaped g s p) (go (p + 1)) (cond (eqb (r - p) count) (pairOf k i p r (firstTurn close (length s) r)) (go r))
 
 -- a byte b at p that opens no fence, by its inline rule
 unfoldable pub inline : Gram → List ℕ → ℕ → ℕ → Rule → Turn Caused
@@ -82,10 +78,10 @@ inline g s p b (asym i c count) = openPair g s p count Asymmetric i (asymTurn g 
 
 -- ---- a turn: the next byte searched for, "a fence at a line start goes first … a failed fence falls to the inline rule"
 abbrev pub regionAt : Gram → List ℕ → ℕ → Turn Caused
-regionAt g s p = pick (g .fences .opens s p) (fenced g s p) (inline g s p (getD s p 0) (g .rule (getD s p 0)))
+regionAt g s p = cond (g .fences .opens s p) (fenced g s p) (inline g s p (getD s p 0) (g .rule (getD s p 0)))
 
 abbrev pub regionFrom : Gram → List ℕ → ℕ → ℕ → Turn Caused
-regionFrom g s q p = pick (ltb p (length s)) (regionAt g s p) (stop q)
+regionFrom g s q p = cond (ltb p (length s)) (regionAt g s p) (stop q)
 
 unfoldable pub regionTurn : Gram → List ℕ → ℕ → Turn Caused
 regionTurn g s q = regionFrom g s q (find (g .trigger) s q)

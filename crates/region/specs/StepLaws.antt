@@ -1,6 +1,6 @@
 -- Laws of the builder's turns: the ways out of the functions that take them. Assumes nothing.
 use mathlib.Core.Path.{_≡_, refl, sym as inv, ap, subst, _∙_, fun-ext}
-use mathlib.Core.Bool.{Bool, true, false, not, _&&_}
+use mathlib.Core.Bool.{Bool, true, false, cond, not, _&&_}
 use mathlib.Core.List.{List, []}
 use mathlib.Core.Logic.{_⊎_, inl, inr}
 use Prim.Native.Nat.{ℕ, _+_, _-_, _*_, _^_, _%_, _≤_, _<_}
@@ -14,7 +14,7 @@ use Rattle.search.specs.Promise.{Gives}
 use Rattle.search.specs.Search.{find, is, other, oneOf, back, Sought, lineStart, lineEnd, nextLine, firstPlace}
 use Rattle.search.specs.SearchLaws.{decide, find-end}
 use Rattle.common.specs.Rules.{entry}
-use Rattle.common.specs.Fences.{runCount, runEnd, pickOpening, opensLine, opening, closing, closeScan, closeAt}
+use Rattle.common.specs.Fences.{runCount, runEnd, opensLine, opening, closing, closeScan, closeAt}
 use Rattle.common.specs.FenceLaws.{opening-is}
 use Rattle.common.specs.Paragraph.{nextIn}
 use Rattle.common.specs.Turn.{Turn, go, stop, found, scan, firstTurn}
@@ -172,11 +172,11 @@ module _ (g : Grammar) (needles : List ℕ) (n : ℕ) (has : List Bool) (least r
     opened run e c = by (decide (lineStart (g .eol) s p)) (decide (opensLine (g .eol) (entry false has) (entry 0 least) s p)) (inv (hd .answer) ∙ c)
       where
         is-one : opening (g .eol) (entry false has) (entry 0 least) s p
-            ≡ pickOpening (opensLine (g .eol) (entry false has) (entry 0 least) s p) (Opens (runCount p (runEnd (getD s p 0) s p (lineEnd (g .eol) s p))) (lineEnd (g .eol) s p)) Not
+            ≡ cond (opensLine (g .eol) (entry false has) (entry 0 least) s p) (Opens (runCount p (runEnd (getD s p 0) s p (lineEnd (g .eol) s p))) (lineEnd (g .eol) s p)) Not
         is-one = opening-is (g .eol) (entry false has) (entry 0 least) s p
 
         by : (lineStart (g .eol) s p ≡ true) ⊎ (lineStart (g .eol) s p ≡ false) → (opensLine (g .eol) (entry false has) (entry 0 least) s p ≡ true) ⊎ (opensLine (g .eol) (entry false has) (entry 0 least) s p ≡ false)
-            → pickOpening (lineStart (g .eol) s p) (opening (g .eol) (entry false has) (entry 0 least) s p) Not ≡ Opens run e
+            → cond (lineStart (g .eol) s p) (opening (g .eol) (entry false has) (entry 0 least) s p) Not ≡ Opens run e
             → ((lineStart (g .eol) s p && opensLine (g .eol) (entry false has) (entry 0 least) s p) ≡ true) × (run ≡ runCount p (runEnd (getD s p 0) s p (lineEnd (g .eol) s p))) × (e ≡ lineEnd (g .eol) s p)
         by (inl u) (inl v) w =
             let z : Opens (runCount p (runEnd (getD s p 0) s p (lineEnd (g .eol) s p))) (lineEnd (g .eol) s p) ≡ Opens run e = rw (u, is-one, v) at w in
@@ -189,7 +189,7 @@ module _ (g : Grammar) (needles : List ℕ) (n : ℕ) (has : List Bool) (least r
     shut c = by (decide (lineStart (g .eol) s p)) (decide (opensLine (g .eol) (entry false has) (entry 0 least) s p)) (inv (hd .answer) ∙ c)
       where
         by : (lineStart (g .eol) s p ≡ true) ⊎ (lineStart (g .eol) s p ≡ false) → (opensLine (g .eol) (entry false has) (entry 0 least) s p ≡ true) ⊎ (opensLine (g .eol) (entry false has) (entry 0 least) s p ≡ false)
-            → pickOpening (lineStart (g .eol) s p) (opening (g .eol) (entry false has) (entry 0 least) s p) Not ≡ Not
+            → cond (lineStart (g .eol) s p) (opening (g .eol) (entry false has) (entry 0 least) s p) Not ≡ Not
             → (lineStart (g .eol) s p && opensLine (g .eol) (entry false has) (entry 0 least) s p) ≡ false
         by (inl u) (inl v) w =
             absurd (let z : Opens (runCount p (runEnd (getD s p 0) s p (lineEnd (g .eol) s p))) (lineEnd (g .eol) s p) ≡ Not = rw (u, opening-is (g .eol) (entry false has) (entry 0 least) s p, v) at w in let y : _≡_ {A = ℕ} 0 1 = cc in omega arith)

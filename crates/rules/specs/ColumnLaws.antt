@@ -18,7 +18,7 @@ use Rattle.common.specs.Sets.{padded, Index}
 use Rattle.common.specs.Rules.{tabulate}
 use Rattle.common.specs.TableLaws.{Table, table-is, table-same, table-set, table-start, table-of}
 use Rattle.rules.specs.Grammar.{Rule, plain, sym, asym}
-use Rattle.rules.specs.Columns.{gained, gainedAll, noBytes, withByte, gathered, asBytes, searchBytes, pickRule, openRule, symRule, fenceRow}
+use Rattle.rules.specs.Columns.{gained, gainedAll, noBytes, withByte, gathered, asBytes, searchBytes, openRule, symRule, fenceRow}
 use Rattle.rules.specs.Tables.{kindOf, closerOf, countOf, indexOf, tablesFor}
 use Rattle.rules.specs.declared.search_bytes.SearchBytes.{SearchBytes}
 use Rattle.rules.specs.declared.tables.InlineTables.{InlineTables}
@@ -130,7 +130,7 @@ ruled-is f kind closer count index w =
 
 -- ---- columns, filled from the last rule to the first: `made j` is what rule j makes, `below` what holds without one
 unfoldable pub rulesFrom : List ℕ → (ℕ → Rule) → (ℕ → Rule) → ℕ → ℕ → Rule
-rulesFrom bytes made below i b = pickRule (ltb (find (is b) bytes i) (length bytes)) (made (find (is b) bytes i)) (below b)
+rulesFrom bytes made below i b = cond (ltb (find (is b) bytes i) (length bytes)) (made (find (is b) bytes i)) (below b)
 
 pub record RulesFilled (bytes : List ℕ) (made below : ℕ → Rule) (kind closer count index : List ℕ) (i : ℕ) : Type 0 where
   pub within : i ≤ length bytes

@@ -1,7 +1,7 @@
 -- The grammar of rules given as columns. Assumes nothing.
 -- The page: "Rules come as columns of numbers" and "Bytes searched for: fence bytes, symmetric bytes, asymmetric openers, in that order,
 -- without repeats, the first eleven kept."
-use mathlib.Core.Bool.{Bool, true, false, cond, _&&_, _||_}
+use mathlib.Core.Bool.{Bool, false, cond, _&&_, _||_}
 use mathlib.Core.List.{List, [], _∷_, _++_}
 use Prim.Native.Nat.{ℕ, _+_}
 use lib.Dec.{leb}
@@ -37,13 +37,9 @@ abbrev pub unequal : Columns → Bool
 unequal c = differ (c .fenceBytes) (c .fenceMins) || unequalInline (c .symBytes) (c .symCounts) (c .openers) (c .closers) (c .openCounts)
 
 -- ---- the bytes searched for
-abbrev pub addByte : List ℕ → ℕ → Bool → List ℕ
-addByte l b true = l
-addByte l b false = l ++ (b ∷ [])
-
 -- a list that gains a byte, unless it has eleven already or has that byte
 abbrev pub gained : List ℕ → ℕ → List ℕ
-gained l b = addByte l b (leb 11 (length l) || oneOf l b)
+gained l b = cond (leb 11 (length l) || oneOf l b) l (l ++ (b ∷ []))
 
 abbrev pub gainedAll : List ℕ → List ℕ → List ℕ
 gainedAll l [] = l
@@ -57,13 +53,9 @@ searched c = gainedAll (gainedAll (gainedAll [] (c .fenceBytes)) (c .symBytes)) 
 abbrev pub noBytes : SearchBytes
 noBytes = record { bytes = padded 11 []; count = 0 }
 
-abbrev pub unlessHeld : Bool → SearchBytes → SearchBytes → SearchBytes
-unlessHeld true a b = a
-unlessHeld false a b = b
-
 -- one byte more, also for a record made by hand
 unfoldable pub withByte : SearchBytes → ℕ → SearchBytes
-withByte w b = unlessHeld (leb 11 (w .count) || oneOf (take (w .count) (w .bytes)) b) w (record { bytes = set (w .bytes) (w .count) b; count = w .count + 1 })
+withByte w b = cond (leb 11 (w .count) || oneOf (take (w .count) (w .bytes)) b) w (record { bytes = set (w .bytes) (w .count) b; count = w .count + 1 })
 
 unfoldable pub gathered : SearchBytes → List ℕ → SearchBytes
 gathered w [] = w
@@ -76,17 +68,13 @@ abbrev pub searchBytes : List ℕ → List ℕ → List ℕ → SearchBytes
 searchBytes fences symmetric openers = asBytes (gainedAll (gainedAll (gainedAll [] fences) symmetric) openers)
 
 -- ---- what a byte opens
-abbrev pub pickRule : Bool → Rule → Rule → Rule
-pickRule true a b = a
-pickRule false a b = b
-
 -- the first asymmetric rule with a byte, if any
 unfoldable pub openRule : List ℕ → List ℕ → List ℕ → ℕ → Rule
-openRule openers closers counts b = pickRule (hasRule openers b) (asym (row openers b) (getD closers (row openers b) 0) (getD counts (row openers b) 0)) plain
+openRule openers closers counts b = cond (hasRule openers b) (asym (row openers b) (getD closers (row openers b) 0) (getD counts (row openers b) 0)) plain
 
 -- the first symmetric rule with a byte, else another
 unfoldable pub symRule : List ℕ → List ℕ → (ℕ → Rule) → ℕ → Rule
-symRule bytes counts other b = pickRule (hasRule bytes b) (sym (row bytes b) (getD counts (row bytes b) 0)) (other b)
+symRule bytes counts other b = cond (hasRule bytes b) (sym (row bytes b) (getD counts (row bytes b) 0)) (other b)
 
 -- "the inline rule, symmetric before asymmetric, first match"
 abbrev pub ruleOf : Columns → ℕ → Rule

@@ -1,6 +1,6 @@
 -- Rules as tables over the bytes, and the grammar that tables make. Assumes nothing.
 -- The page: "by the first rule with that byte": all that a scan asks of the rules is a function of one byte.
-use mathlib.Core.Bool.{Bool, false}
+use mathlib.Core.Bool.{Bool, false, cond}
 use mathlib.Core.List.{List}
 use Prim.Native.Nat.{ℕ}
 use lib.Dec.{eqb}
@@ -9,7 +9,7 @@ use Rattle.search.specs.Search.{oneOf}
 use Rattle.common.specs.Rules.{tabulate, entry}
 use Rattle.common.specs.declared.grammar.Grammar.{Grammar}
 use Rattle.rules.specs.Grammar.{Rule, plain, sym, asym, Gram}
-use Rattle.rules.specs.Columns.{pickRule, first}
+use Rattle.rules.specs.Columns.{first}
 use Rattle.rules.specs.declared.tables.InlineTables.{InlineTables}
 
 -- the parts of a rule: 0 nothing, 1 symmetric, 2 asymmetric; the closing byte; the count; the index
@@ -44,7 +44,7 @@ tablesFor f = record {
 
 -- the rule that tables, also ones made by hand, give a byte
 abbrev pub ruleAt : ℕ → ℕ → ℕ → ℕ → Rule
-ruleAt kind closer count index = pickRule (eqb kind 0) plain (pickRule (eqb kind 1) (sym index count) (asym index closer count))
+ruleAt kind closer count index = cond (eqb kind 0) plain (cond (eqb kind 1) (sym index count) (asym index closer count))
 
 abbrev pub ruleBy : List ℕ → List ℕ → List ℕ → List ℕ → ℕ → Rule
 ruleBy kind closer count index b = ruleAt (entry 0 kind b) (entry 0 closer b) (entry 0 count b) (entry 0 index b)

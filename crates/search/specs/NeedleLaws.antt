@@ -65,7 +65,7 @@ module _ (l : List ℕ) (n j : ℕ) (some : 0 < n) where
   pub needle-short : (r : ℕ) → length l ≤ j → Gives (getD l 0 0) r → r ≡ padded (take n l) j
   needle-short r h g = first-else r (omega (arith, length-take n l)) g
 
-one-append : (a b : List ℕ) (x : ℕ) → oneOf (a ++ b) x ≡ (oneOf a x || oneOf b x)
+pub one-append : (a b : List ℕ) (x : ℕ) → oneOf (a ++ b) x ≡ (oneOf a x || oneOf b x)
 unfolding oneOf
 one-append [] b x = refl
 one-append (y ∷ ys) b x = ap (λ (z : Bool). eqb x y || z) (one-append ys b x) ∙ sym (or-assoc (eqb x y) (oneOf ys x) (oneOf b x))

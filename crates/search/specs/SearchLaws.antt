@@ -1,6 +1,6 @@
 -- Laws of the searches: bounds, hit, miss, what a text before or behind changes; of runs back; of lines. Assumes nothing.
 use mathlib.Core.Path.{_≡_, refl, sym, ap, _∙_}
-use mathlib.Core.Bool.{Bool, true, false, not, _&&_, or-true}
+use mathlib.Core.Bool.{Bool, true, false, not, _&&_, or-true, _||_}
 use mathlib.Core.List.{List, [], _∷_, _++_}
 use mathlib.Core.Logic.{_⊎_, inl, inr, ⊎-elim}
 use Prim.Native.Nat.{ℕ, zero, suc, _+_, _-_, _≤_, _<_, min, max}
@@ -25,6 +25,10 @@ clash p q = let z : _≡_ {A = ℕ} 0 1 = ap (λ (y : Bool). elim y as (λ x. �
 pub and-true : (a b : Bool) → (a && b) ≡ true → (a ≡ true) × (b ≡ true)
 and-true true b e = (refl, e)
 and-true false b e = absurd (clash e refl)
+
+pub neither : (a b : Bool) → (a || b) ≡ false → (a ≡ false) × (b ≡ false)
+neither true b e = absurd (clash refl e)
+neither false b e = (refl, e)
 
 -- ---- tests of a byte
 pub is-yes : (b x : ℕ) → x ≡ b → is b x ≡ true

@@ -1,7 +1,7 @@
 -- What the parts of a work sheet ask and promise. Assumes nothing.
 -- The page's sentences stand in Sheet.antt; here are its parts, a function each.
 use mathlib.Core.Path.{_≡_}
-use mathlib.Core.Bool.{Bool, true, false}
+use mathlib.Core.Bool.{Bool, true, false, cond}
 use mathlib.Core.List.{List, [], _∷_, map}
 use Prim.Native.Nat.{ℕ, _+_, _*_, _≤_, _<_}
 use lib.ListN.{length}
@@ -14,7 +14,6 @@ use Rattle.block_marker.specs.Marker as marker
 use Rattle.block_marker.specs.declared.BlockMarkerIter.{BlockMarkerIter}
 use Rattle.block_numbered.specs.Numbered as numbered
 use Rattle.block_numbered.specs.declared.BlockNumberedIter.{BlockNumberedIter}
-use Rattle.context.specs.Build.{unless}
 use Rattle.context.specs.Cursor.{Rising, Ended}
 use Rattle.sheet.specs.Sheet.{five, marked, counted, markItems, numberedItems, merge, placeOf, inside, outside, full}
 use Rattle.sheet.specs.declared.item.SheetItem.{SheetItem}
@@ -131,4 +130,4 @@ pub record Wrote (items : List SheetItem) (out out′ : List ℕ) (n : ℕ) : Ty
 -- what filling a run answers and leaves
 pub record Filled (items : List SheetItem) (out out′ : List ℕ) (o : Outcome) : Type 0 where
   pub answer : o ≡ refuse 3 (full items out) (given (length items ∷ []))
-  pub list : out′ ≡ unless (full items out) out (over (flatten five items) out)
+  pub list : out′ ≡ cond (full items out) out (over (flatten five items) out)

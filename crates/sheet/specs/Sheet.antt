@@ -2,7 +2,7 @@
 -- The page: "It holds the marker and numbered items, both scanned from place 0, whose content start isn't inside a region, by rising
 -- content start, the marker item first where two are equal." and "For a work sheet: 1, 5, 3."
 use mathlib.Core.Path.{_≡_}
-use mathlib.Core.Bool.{Bool, true, false, _||_}
+use mathlib.Core.Bool.{Bool, true, false, cond, _||_}
 use mathlib.Core.List.{List, [], _∷_, map}
 use Prim.Native.Nat.{ℕ}
 use lib.Dec.{ltb}
@@ -14,7 +14,6 @@ use Rattle.block_marker.specs.Marker as marker
 use Rattle.block_marker.specs.declared.MarkerItem.{MarkerItem}
 use Rattle.block_numbered.specs.Numbered as numbered
 use Rattle.block_numbered.specs.declared.NumberedItem.{NumberedItem}
-use Rattle.context.specs.Build.{unless}
 use Rattle.context.specs.Cursor.{covers}
 use Rattle.context.specs.Shape.{misshapen}
 use Rattle.sheet.specs.declared.item.SheetItem.{SheetItem}
@@ -75,7 +74,7 @@ sheetAnswer g markers delims l n s out =
 -- "Success writes the regions from place 0 … and changes nothing beyond them", here the items; a refusal changes nothing
 unfoldable pub sheetList : Grammar → List Bool → List Bool → List ℕ → ℕ → List ℕ → List ℕ → List ℕ
 sheetList g markers delims l n s out =
-    unless (tooLong s) out (unless (misshapen l n (length s)) out (unless (full (sheetOf g markers delims l n s) out) out (over (flatten five (sheetOf g markers delims l n s)) out)))
+    cond (tooLong s) out (cond (misshapen l n (length s)) out (cond (full (sheetOf g markers delims l n s) out) out (over (flatten five (sheetOf g markers delims l n s)) out)))
 
 -- the promise of a work sheet: its answer, and the run that it leaves
 pub record Sheeted (g : Grammar) (markers delims : List Bool) (l : List ℕ) (n : ℕ) (s out out′ : List ℕ) (o : Outcome) : Type 0 where

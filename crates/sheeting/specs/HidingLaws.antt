@@ -1,6 +1,6 @@
 -- Laws of the regions as they come: the loop that moves on to the next one, and the ways out of the test. Assumes nothing.
 use mathlib.Core.Path.{_≡_, refl, sym, ap, _∙_}
-use mathlib.Core.Bool.{Bool, true, false, _&&_, _||_}
+use mathlib.Core.Bool.{false, and-false, or-false}
 use mathlib.Core.List.{List, [], _∷_, map}
 use Prim.Native.Nat.{ℕ, suc, _-_, _≤_, _<_}
 use native.Mathlib.Omega.{arith}
@@ -21,14 +21,6 @@ use Rattle.region.specs.declared.Next.the-variants as next
 use Rattle.sheet.specs.Sheet.{inside}
 use Rattle.sheeting.specs.Hiding.{Stands, Passed}
 use Rattle.sheeting.specs.declared.hiding.Hider.{Hider}
-
-and-false : (a : Bool) → (a && false) ≡ false
-and-false true = refl
-and-false false = refl
-
-or-false : (a : Bool) → (a || false) ≡ a
-or-false true = refl
-or-false false = refl
 
 -- a region that ends at or before a place
 covers-past : (p a b : ℕ) → b ≤ p → covers p (a ∷ b ∷ []) ≡ false
