@@ -5,3 +5,5 @@ pub mod ReplyLaws
 pub mod CellLaws
 pub mod ByteRules
 pub mod RuleLaws
+pub mod Poured
+pub mod PouredLaws

@@ -2,7 +2,8 @@
 use pour::building::build_columns;
 use pour::building::build_rules;
 use sheeting::sheet_columns;
-ghost use Rattle.pour.specs.Building.{grammar, BuiltBytes, BuiltRules};
+ghost use Rattle.cells.specs.Poured.{grammar};
+ghost use Rattle.pour.specs.Building.{BuiltBytes, BuiltRules};
 ghost use Rattle.sheeting.specs.Sheeting.{SheetBytes};
 
 // Building by rules given as columns: fence bytes and minimums; symmetric bytes and counts; asymmetric openers, closers and counts. A

@@ -14,7 +14,8 @@ ghost use Rattle.rules.specs.Columns.{openRule, symRule};
 ghost use Rattle.rules.specs.Tables.{tablesFor, gramIn};
 ghost use Rattle.context.specs.Records.{ruleBytes, ruleMins};
 ghost use Rattle.cells.specs.Bytes.{cells};
-ghost use Rattle.pour.specs.Building.{grammar, regionBytes, PouredAs, PouredBy, BuiltBytes, BuiltRules};
+ghost use Rattle.cells.specs.Poured.{grammar, PouredAs};
+ghost use Rattle.pour.specs.Building.{regionBytes, PouredBy, BuiltBytes, BuiltRules};
 ghost use Rattle.cells.specs.ByteRules.{rulesOf};
 
 // The inline rules into tables, and on.

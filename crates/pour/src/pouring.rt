@@ -12,7 +12,8 @@ ghost use lib.ListN.{length};
 ghost use Rattle.search.specs.Promise.{Gives};
 ghost use Rattle.region.specs.Regions.{regions};
 ghost use Rattle.rules.specs.Tables.{gramBy};
-ghost use Rattle.pour.specs.Building.{regionBytes, Put, Wrote, PouredAs};
+ghost use Rattle.cells.specs.Poured.{Wrote, PouredAs};
+ghost use Rattle.pour.specs.Building.{regionBytes, Put};
 
 // How many regions a list of `len` bytes has room for.
 fn region_room(len: usize) -> usize

@@ -19,7 +19,7 @@ use Rattle.sheet.specs.Parts.{Within, ahead, seenThen, Beyond}
 use Rattle.sheet.specs.declared.item.SheetItem.{SheetItem}
 use Rattle.cells.specs.Bytes.{four}
 use Rattle.cells.specs.Reply.{Laid}
-use Rattle.pour.specs.Building.{PouredAs, BuiltAs, builtBy}
+use Rattle.cells.specs.Poured.{PouredAs, BuiltAs, builtBy}
 use Rattle.cells.specs.ByteRules.{uneven}
 use Rattle.sheeting.specs.Hiding.{Stands}
 use Rattle.sheeting.specs.declared.Walk.{Walk}

@@ -36,8 +36,8 @@ use Rattle.sheet.specs.declared.feed.Taken.{Taken}
 use Rattle.cells.specs.Bytes.{four, cells}
 use Rattle.cells.specs.Reply.{LaidIf, Replied}
 use Rattle.cells.specs.ReplyLaws.{laid-there}
-use Rattle.pour.specs.Building.{Wrote, builtBy}
-use Rattle.pour.specs.PourLaws.{pour-full, pour-done}
+use Rattle.cells.specs.Poured.{Wrote, builtBy}
+use Rattle.cells.specs.PouredLaws.{pour-full, pour-done}
 use Rattle.sheeting.specs.Hiding.{Stands, Passed}
 use Rattle.sheeting.specs.HidingLaws.{stands-first, stands-later}
 use Rattle.sheeting.specs.Sheeting.{itemBytes, sheetWith, SheetPoured, Put, left, Ready, Turned}

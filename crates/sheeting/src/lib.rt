@@ -28,7 +28,7 @@ ghost use Rattle.common.specs.Sets.{setOf};
 ghost use Rattle.region.specs.Regions.{regions};
 ghost use Rattle.rules.specs.Tables.{gramBy};
 ghost use Rattle.rules.specs.RuleTables.{gramOn};
-ghost use Rattle.pour.specs.Building.{grammar, Wrote, builtBy};
+ghost use Rattle.cells.specs.Poured.{grammar, Wrote, builtBy};
 ghost use Rattle.sheeting.specs.Sheeting.{itemBytes, Put, Ready, left, Turned, sheetWith, SheetPoured, SheetBytes};
 
 // Both scanners, and the region that may hide their next item.

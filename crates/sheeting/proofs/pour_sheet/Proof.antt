@@ -1,6 +1,6 @@
 -- `pour_sheet` meets its contract. Assumes nothing.
 use borrow.Author.Needs.{needs}
-use Rattle.pour.specs.PourLaws.{pour-room, pour-short}
+use Rattle.cells.specs.PouredLaws.{pour-room, pour-short}
 use Rattle.sheeting.specs.SheetingLaws.{sheet-ready, sheet-done, sheet-full}
 use Rattle.sheeting.proofs.pour_sheet.Statement.{statement}
 use Rattle.sheeting.proofs.pour_sheet.Tie as tie

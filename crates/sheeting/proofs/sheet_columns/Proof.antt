@@ -1,6 +1,6 @@
 -- `sheet_columns` meets its contract. Assumes nothing.
 use borrow.Author.Needs.{needs}
-use Rattle.pour.specs.PourLaws.{build-long, columns-differ, columns-uneven, columns-built}
+use Rattle.cells.specs.PouredLaws.{build-long, columns-differ, columns-uneven, columns-built}
 use Rattle.sheeting.proofs.sheet_columns.Statement.{statement}
 use Rattle.sheeting.proofs.sheet_columns.Tie as tie
 

@@ -1,6 +1,6 @@
 -- `build_columns` meets its contract. Assumes nothing.
 use borrow.Author.Needs.{needs}
-use Rattle.pour.specs.PourLaws.{build-long, columns-differ, columns-uneven, columns-built}
+use Rattle.cells.specs.PouredLaws.{build-long, columns-differ, columns-uneven, columns-built}
 use Rattle.pour.proofs.building.build_columns.Statement.{statement}
 use Rattle.pour.proofs.building.build_columns.Tie as tie
 

@@ -1,6 +1,7 @@
 -- `build_rules` meets its contract. Assumes nothing.
 use borrow.Author.Needs.{needs}
-use Rattle.pour.specs.PourLaws.{build-long, rules-odd, rules-uneven, rules-built}
+use Rattle.cells.specs.PouredLaws.{build-long}
+use Rattle.pour.specs.PourLaws.{rules-odd, rules-uneven, rules-built}
 use Rattle.pour.proofs.building.build_rules.Statement.{statement}
 use Rattle.pour.proofs.building.build_rules.Tie as tie
 

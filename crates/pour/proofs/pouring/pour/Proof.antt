@@ -1,5 +1,5 @@
 -- `pour` meets its contract. Assumes nothing.
-use Rattle.pour.specs.PourLaws.{pour-room, pour-done, pour-full, pour-short}
+use Rattle.cells.specs.PouredLaws.{pour-room, pour-done, pour-full, pour-short}
 use borrow.Author.Needs.{needs}
 use Rattle.pour.proofs.pouring.pour.Statement.{statement}
 use Rattle.pour.proofs.pouring.pour.Tie as tie
