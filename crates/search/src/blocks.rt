@@ -227,7 +227,7 @@ fn near(src: &[u8], from: usize, t: Three) -> usize
 }
 
 // The first of three at or after `from`, else the length. Two blocks whose least place is taken come first: near hits are what dense
-// notes consist of, and a byte tested alone costs as much as eight in a block.
+// notes consist of, and a byte tested alone costs more than one in a block.
 pub fn few(src: &[u8], from: usize, t: Three) -> usize
     ensures { λ r. ⌜ Sought (ofThree t) (now (src .entry)) from r ⌝ }
 {
