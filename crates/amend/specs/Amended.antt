@@ -15,7 +15,7 @@ use Rattle.rules.specs.Grammar.{Gram}
 use Rattle.region.specs.Regions.{regions}
 use Rattle.rules.specs.Columns.{Columns, gramOf}
 use Rattle.rules.specs.Columns.{unequal}
-use Rattle.context.specs.Shape.{misshapen}
+use Rattle.cover.specs.Shape.{misshapen}
 use Rattle.amend.specs.Amend.{Edit, joint}
 use Rattle.amend.specs.Local.{usesLineEnd}
 

@@ -26,7 +26,7 @@ use Rattle.rules.specs.RuleTableLaws.{rule-tables-gram}
 use Rattle.rules.specs.declared.rule_tables.RuleTables.{RuleTables}
 use Rattle.amend.specs.Amend.{Edit, afterEmptyLine, joint}
 use Rattle.amend.specs.Local.{usesLineEnd}
-use Rattle.context.specs.Shape.{misshapen}
+use Rattle.cover.specs.Shape.{misshapen}
 use Rattle.amend.specs.Amended.{listed, plainRegions, edit, edited, follows, miscut, offJoint, amendedAnswer, Amended}
 use Rattle.amend.specs.Parts.{marks, judged, said, Judged, Ready, settledAnswer, Settled}
 use Rattle.amend.specs.RowLaws.{orderly-told}

@@ -14,11 +14,11 @@ use borrow.Author.Tests.{ltb-true, ltb-false, lt-ltb, le-ltb, lt-leb}
 use Rattle.search.specs.Search.{find, is, other, holds, firstPlace, lineEnd, nextLine}
 use Rattle.search.specs.SearchLaws.{decide, is-yes, is-no, other-yes, holds-in, holds-prefix, first-ge, first-before, first-at, first-is, first-hit, first-prefix, first-past, find-ge, find-hit, find-prefix, find-past, back-prefix, Ends, start-zero, start-pos, back-after}
 use Rattle.common.specs.ItemLaws.{both}
-use Rattle.common.specs.Paragraph.{endsAt, paragraphEnd, nextIn}
+use Rattle.lines.specs.Paragraph.{endsAt, paragraphEnd, nextIn}
 use Rattle.common.specs.Turn.{Turn, go, stop, found, thenCollect, collect, firstTurn, allFound, Adv, Leads, Has}
 use Rattle.common.specs.TurnLaws.{by-turn, collect-go, collect-found, collect-alike, scan-same, scan-fuel, has-is}
-use Rattle.common.specs.declared.fence_tests.Hit.{Hit}
-use Rattle.common.specs.declared.fence_tests.Hit.the-variants.{At, End}
+use Rattle.lines.specs.declared.fence_tests.Hit.{Hit}
+use Rattle.lines.specs.declared.fence_tests.Hit.the-variants.{At, End}
 use Rattle.region.specs.declared.Cause.{Cause}
 use Rattle.region.specs.declared.Cause.the-variants.{Symmetric, Asymmetric}
 use Rattle.region.specs.Region.{Region, Caused, up, reaches}

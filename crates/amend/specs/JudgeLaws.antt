@@ -8,7 +8,7 @@ use lib.ListN.{length, take, drop, length-append, length-take, length-drop}
 use borrow.Author.Tests.{lt-ltb, le-ltb}
 use Rattle.search.specs.Promise.{Gives}
 use Rattle.common.specs.Refusals.{Outcome, refused, tooLong}
-use Rattle.context.specs.Shape.{misshapen}
+use Rattle.cover.specs.Shape.{misshapen}
 use Rattle.amend.specs.Amended.{listed, edit, edited, miscut, offJoint}
 use Rattle.amend.specs.Parts.{judged}
 

@@ -11,7 +11,7 @@ use lib.Seq.{getD-append-add}
 use borrow.Author.Tests.{ltb-true, ltb-false, le-leb}
 use Rattle.search.specs.Search.{find, is, other, either, lineEnd}
 use Rattle.search.specs.SearchLaws.{decide, holds-true, holds-prefix, holds-shift, find-ge, find-le, find-hit, find-prefix, find-past, find-shift, Ends, start-prefix, start-shift, last-byte}
-use Rattle.common.specs.Fences.{runEnd, opensLine, closesTo, closing}
+use Rattle.lines.specs.Fences.{runEnd, opensLine, closesTo, closing}
 use Rattle.common.specs.declared.grammar.Grammar.{Grammar}
 use Rattle.rules.specs.Columns.{first}
 use Rattle.amend.specs.Local.{Local, Linewise}

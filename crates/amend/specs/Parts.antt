@@ -13,7 +13,7 @@ use Rattle.region.specs.Region.{Region, Plain, pair, move, up, reaches, InOrder
 use Rattle.rules.specs.Grammar.{Gram}
 use Rattle.region.specs.Regions.{regions}
 use Rattle.amend.specs.Amend.{Edit, afterEmptyLine}
-use Rattle.context.specs.Shape.{misshapen}
+use Rattle.cover.specs.Shape.{misshapen}
 use Rattle.amend.specs.Amended.{listed, plainRegions, edited, amendedRegions, miscut, offJoint, leftOpen, crowded, leaves}
 use Rattle.amend.specs.declared.Verdict.{Verdict}
 use Rattle.amend.specs.declared.Verdict.the-variants as verdict

@@ -1,6 +1,6 @@
 -- Laws of lists as rows of two numbers: the regions that rows say, and the rules of the loops that search and copy rows. Assumes nothing.
 use mathlib.Core.Path.{_≡_, refl, sym, ap, subst, _∙_}
-use mathlib.Core.Bool.{Bool, false, not}
+use mathlib.Core.Bool.{Bool, false}
 use mathlib.Core.List.{List, [], _∷_, map}
 use Prim.Native.Nat.{ℕ, zero, suc, _+_, _-_, _*_, _/_, _≤_, _<_}
 use native.Mathlib.Nat.{sub-zero}
@@ -13,8 +13,8 @@ use Rattle.common.specs.Entry.{flatten, rows, startOf, stopOf, Shaped, putAt}
 use Rattle.common.specs.EntryLaws.{length-rows, rows-at, room-fits, length-put}
 use Rattle.region.specs.Region.{Region, Plain, pair, move, reaches, keepBefore, InOrder}
 use Rattle.context.specs.Build.{Puts, Put}
-use Rattle.context.specs.Shape.{misshapen}
-use Rattle.context.specs.ShapeLaws.{shape-fits, shape-order}
+use Rattle.cover.specs.Shape.{misshapen}
+use Rattle.cover.specs.ShapeLaws.{shape-fits, shape-order}
 use Rattle.amend.specs.Amended.{plainOf, listed}
 use Rattle.amend.specs.Parts.{Orderly, Fair, between, Laid, Moves, Copies, Copied}
 use Rattle.amend.specs.Starts.{order-later, order-longer, before-few, before-below, before-above, reach-none, reach-last}

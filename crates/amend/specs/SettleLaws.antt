@@ -14,6 +14,7 @@ use Rattle.common.specs.Refusals.{given, refused}
 use Rattle.common.specs.Entry.{flatten, over, putAt}
 use Rattle.common.specs.EntryLaws.{length-flatten, flatten-append, length-put, put-append, put-over}
 use Rattle.region.specs.Region.{Region, Plain, dropTag, pair, move, up, reaches, keepBefore, keepFrom, InOrder}
+use Rattle.region.specs.LoopLaws.{pair-two}
 use Rattle.rules.specs.Grammar.{Gram}
 use Rattle.region.specs.Regions.{regions}
 use Rattle.region.specs.Ahead.{regions-few}
@@ -26,9 +27,6 @@ use Rattle.amend.specs.RowLaws.{orderly-longer, listed-length, listed-ta
 use Rattle.amend.specs.declared.own.Counted.{Counted}
 
 -- ---- numbers written
-pub pair-two : {T : Type 0} (r : Region T) → length (pair r) ≡ 2
-pair-two r = refl
-
 -- the numbers of regions are those of the regions without their tags
 pub flatten-drop : {T : Type 0} (l : List (Region T)) → flatten pair (map dropTag l) ≡ flatten pair l
 flatten-drop [] = refl

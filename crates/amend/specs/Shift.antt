@@ -12,11 +12,11 @@ use lib.Seq.{getD-append-add}
 use borrow.Author.Tests.{ltb-true}
 use Rattle.search.specs.Search.{find, is, other, back, firstPlace, lineEnd, nextLine}
 use Rattle.search.specs.SearchLaws.{holds-shift, first-move, find-le, find-shift, back-shift, Ends}
-use Rattle.common.specs.Paragraph.{endsAt, paragraphEnd, hitAt, nextIn}
+use Rattle.lines.specs.Paragraph.{endsAt, paragraphEnd, hitAt, nextIn}
 use Rattle.common.specs.Turn.{Turn, go, stop, found, allFound, moveT, Adv}
 use Rattle.common.specs.TurnLaws.{firstTurn-move, allFound-move}
-use Rattle.common.specs.declared.fence_tests.Hit.{Hit}
-use Rattle.common.specs.declared.fence_tests.Hit.the-variants.{At, End}
+use Rattle.lines.specs.declared.fence_tests.Hit.{Hit}
+use Rattle.lines.specs.declared.fence_tests.Hit.the-variants.{At, End}
 use Rattle.region.specs.declared.Cause.{Cause}
 use Rattle.region.specs.declared.Cause.the-variants.{Symmetric, Asymmetric}
 use Rattle.region.specs.Region.{Caused, move, up}

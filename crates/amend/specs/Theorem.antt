@@ -19,19 +19,20 @@ use Rattle.common.specs.declared.refusal.Answer.{Answer}
 use Rattle.common.specs.declared.refusal.Answer.the-variants.{Value}
 use Rattle.region.specs.Region.{Region, Caused, Plain, dropTag, pair, up, keepBefore, InOrder}
 use Rattle.region.specs.Regions.{regions}
+use Rattle.region.specs.LoopLaws.{pair-two}
 use Rattle.rules.specs.Columns.{Columns, gramOf}
 use Rattle.region.specs.Ahead.{regions-in-order}
 use Rattle.rules.specs.Columns.{unequal}
 use Rattle.context.specs.Build.{full, builtAnswer, builtList, Built}
 use Rattle.amend.specs.Amend.{Edit, joint, Fits, none, last, next}
 use Rattle.amend.specs.Local.{usesLineEnd}
-use Rattle.context.specs.Shape.{misshapen}
+use Rattle.cover.specs.Shape.{misshapen}
 use Rattle.amend.specs.Amended.{plainOf, listed, plainRegions, edit, edited, amendedRegions, miscut, offJoint, leftOpen, crowded, result, amendedAnswer, Amended}
 use Rattle.amend.specs.Lists.{drop-order}
 use Rattle.amend.specs.Starts.{unless-end}
 use Rattle.amend.specs.Edits.{relist-one}
 use Rattle.amend.specs.Demand.{demand-first}
-use Rattle.amend.specs.SettleLaws.{pair-two, flatten-drop}
+use Rattle.amend.specs.SettleLaws.{flatten-drop}
 use Rattle.amend.specs.AmendedLaws.{refuse-pass}
 
 -- a list whose first n regions are those of a text, by a grammar and rules

@@ -2,7 +2,7 @@
 use crate::rows::END;
 use crate::rows::number;
 use crate::rows::starts_before;
-use search::find_byte;
+use find::find_byte;
 use search::is_at;
 ghost use lib.ListN.{length};
 ghost use Rattle.search.specs.Promise.{Gives};

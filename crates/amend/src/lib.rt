@@ -8,7 +8,7 @@ use common::grammar::Grammar;
 use common::refusal::Answer;
 use common::refusal::Refusal;
 use common::span::MAX_INPUT_LEN;
-use context::shape::is_misshapen;
+use cover::shape::is_misshapen;
 use joints::is_left_open;
 use joints::is_off_joint;
 use joints::marks_line_end;

@@ -7,7 +7,7 @@ use native.Mathlib.Numerals.{add-one}
 use native.Mathlib.Omega.{arith}
 use lib.ListN.{length, getD, take, set}
 use lib.Seq.{take-suc, take-all, length-take-le}
-use Rattle.common.specs.Entry.{flatten, over, putAt}
+use Rattle.common.specs.Entry.{flatten, putAt}
 use Rattle.common.specs.EntryLaws.{length-flatten, length-put, put-append, put-front, put-four}
 use Rattle.common.specs.Rules.{tabulate}
 use Rattle.common.specs.TableLaws.{length-tabulate}

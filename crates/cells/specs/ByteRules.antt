@@ -8,7 +8,7 @@ use lib.ListN.{length, getD}
 use Rattle.common.specs.Entry.{rows}
 use Rattle.common.specs.Refusals.{differ}
 use Rattle.common.specs.Rules.{tabulate, entry}
-use Rattle.context.specs.declared.records.FenceRule.{FenceRule}
+use Rattle.rules.specs.declared.records.FenceRule.{FenceRule}
 
 -- whether a run is four bytes for each number of a byte column
 abbrev pub fourfold : List ℕ → List ℕ → Bool

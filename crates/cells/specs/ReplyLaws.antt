@@ -10,7 +10,7 @@ use lib.ListN.{length, length-append}
 use borrow.Author.Tests.{lt-ltb, le-ltb, ltb-true, ltb-false}
 use Rattle.search.specs.Promise.{Gives}
 use Rattle.search.specs.SearchLaws.{decide}
-use Rattle.common.specs.Entry.{flatten, over}
+use Rattle.common.specs.Entry.{flatten}
 use Rattle.common.specs.EntryLaws.{flatten-append, put-append, put-over}
 use Rattle.common.specs.Refusals.{Outcome, given, refused, numberOf, told, toldFound}
 use Rattle.common.specs.RefusalLaws.{number-some}

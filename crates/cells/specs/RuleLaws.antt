@@ -17,9 +17,9 @@ use Rattle.common.specs.TableLaws.{table-is, table-same, table-of}
 use Rattle.rules.specs.Grammar.{Rule}
 use Rattle.rules.specs.Columns.{openRule, symRule}
 use Rattle.rules.specs.Tables.{kindOf, closerOf, countOf, indexOf, tablesFor}
-use Rattle.context.specs.Records.{noRule, withRule, ruleBytes, ruleMins, gatheredOf}
-use Rattle.context.specs.RecordLaws.{gather-again, gather-all}
-use Rattle.context.specs.declared.records.Gathered.{Gathered}
+use Rattle.rules.specs.Records.{noRule, withRule, ruleBytes, ruleMins, gatheredOf}
+use Rattle.rules.specs.RecordLaws.{gather-again, gather-all}
+use Rattle.rules.specs.declared.records.Gathered.{Gathered}
 use Rattle.rules.specs.declared.tables.InlineTables.{InlineTables}
 use Rattle.cells.specs.ByteRules.{uneven, countAt, countTable, ruleOf, rulesOf}
 use Rattle.cells.specs.ByteLaws.{Fills, fills-again, fills-all}

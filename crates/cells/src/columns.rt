@@ -1,9 +1,9 @@
 // Rules by byte, from byte runs: what the core's tables make of columns, where a count column is four bytes for each number and fence
 // rules may be two bytes each.
 use crate::cell;
-use common::fence_tests::fence_tables;
-use context::records::FenceRule;
-use context::records::Gathered;
+use lines::fence_tests::fence_tables;
+use rules::records::FenceRule;
+use rules::records::Gathered;
 use rules::rule_tables::RuleTables;
 use rules::search_bytes::search_bytes;
 use rules::tables::InlineTables;
@@ -17,7 +17,7 @@ ghost use Rattle.common.specs.Rules.{entry};
 ghost use Rattle.rules.specs.Columns.{openRule, symRule};
 ghost use Rattle.rules.specs.Tables.{tablesFor};
 ghost use Rattle.rules.specs.RuleTables.{ruleTables};
-ghost use Rattle.context.specs.Records.{ruleBytes, ruleMins, gatheredOf};
+ghost use Rattle.rules.specs.Records.{ruleBytes, ruleMins, gatheredOf};
 ghost use Rattle.cells.specs.Bytes.{cells};
 ghost use Rattle.cells.specs.ByteRules.{countAt, countTable, rulesOf, uneven};
 

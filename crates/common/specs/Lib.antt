@@ -3,15 +3,9 @@ pub mod Grammars
 pub mod Content
 pub mod Rules
 pub mod Sets
-pub mod Fences
-pub mod Paragraph
-pub mod Leaf
-pub mod Steps
 pub mod RefusalLaws
-pub mod FenceLaws
-pub mod ParagraphLaws
 pub mod TableLaws
-pub mod LeafLaws
+pub mod ContentLaws
 pub mod ClassLaws
 pub mod Turn
 pub mod TurnLaws

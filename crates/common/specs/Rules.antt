@@ -6,7 +6,6 @@ use Prim.Native.Nat.{ℕ, zero, suc}
 use lib.Dec.{ltb}
 use lib.ListN.{length, getD}
 use Rattle.search.specs.Search.{find, is}
-use Rattle.common.specs.declared.fence_tests.FenceTables.{FenceTables}
 
 -- the values of a function at n numbers from a on
 unfoldable pub tabulate : {B : Type 0} → (ℕ → B) → ℕ → ℕ → List B
@@ -32,7 +31,3 @@ entry d l b = getD l b d
 -- f of a byte, d of a larger number
 abbrev pub onByte : {B : Type 0} → B → (ℕ → B) → ℕ → B
 onByte d f b = cond (ltb b 256) (f b) d
-
--- both as tables over the bytes
-abbrev pub tablesOf : List ℕ → List ℕ → FenceTables
-tablesOf bytes mins = record { has = tabulate (hasRule bytes) 256 0; least = tabulate (leastOf bytes mins) 256 0 }

@@ -14,7 +14,7 @@ use Rattle.search.specs.Promise.{Gives, Steps}
 use Rattle.common.specs.Sets.{probe, accepted}
 use Rattle.common.specs.Refusals.{Outcome, refused}
 use Rattle.common.specs.RefusalLaws.{told-unique}
-use Rattle.common.specs.Turn.{Turn, found, thenCollect, firstTurn, allFound, Adv, Leads, Has, stepOf, thenDrain, drain}
+use Rattle.common.specs.Turn.{Turn, thenCollect, firstTurn, allFound, Adv, Leads, Has, stepOf, thenDrain, drain}
 use Rattle.common.specs.TurnLaws.{by-turn, by-last, last-fits, collect-scan, scan-ends, drain-answers, answers-take}
 use Rattle.common.specs.Items.{grammar, has, said, placeOf, stepFor}
 use Rattle.common.specs.ItemLaws.{both, needle-set, step-long, step-past, step-served, step-seen, step-taken}

@@ -3,7 +3,6 @@
 use mathlib.Core.Path.{_≡_}
 use mathlib.Core.List.{List, [], _∷_, _++_}
 use Prim.Native.Nat.{ℕ, zero, suc, _+_, _-_, _≤_, _<_}
-use lib.ListN.{length}
 
 -- a turn of a scan that stands at a place: on from a later place; an end, at a place; or a thing found and the place that the scan goes on from
 pub data Turn (A : Type 0) : Type 0 where

@@ -10,7 +10,7 @@ use common::refusal::Refusal;
 use common::span::MAX_INPUT_LEN;
 use common::span::Span;
 use common::span::SpanFound;
-use search::find_byte;
+use find::find_byte;
 use search::is_at;
 use search::is_blank;
 use search::lesser;

@@ -11,7 +11,9 @@ use Rattle.common.specs.Refusals.{Outcome, given, refuse, tooLong}
 use Rattle.common.specs.declared.grammar.Grammar.{Grammar}
 use Rattle.region.specs.Region.{Caused, pair}
 use Rattle.region.specs.Regions.{regions}
-use Rattle.rules.specs.Columns.{Columns, unequal, gramOf}
+use Rattle.rules.specs.Columns.{Columns, columns, unequal, gramOf}
+use Rattle.rules.specs.Records.{gatheredOf}
+use Rattle.rules.specs.declared.records.Gathered.{Gathered}
 
 -- a run with room for region n, whose two places fit 32 bits
 pub record Puts (n start end : ℕ) (out : List ℕ) : Type 0 where
@@ -49,3 +51,8 @@ builtList g c s out = cond (tooLong s) out (cond (unequal c) out (cond (full (re
 pub record Built (g : Grammar) (c : Columns) (s out out′ : List ℕ) (o : Outcome) : Type 0 where
   pub answer : o ≡ builtAnswer g c s out
   pub list : out′ ≡ builtList g c s out
+
+-- ---- by gathered rules
+-- building by gathered rules is building by the columns that they were gathered from
+pub record BuiltFor (g : Grammar) (f : Gathered) (y t o k n s out out′ : List ℕ) (a : Outcome) : Type 0 where
+  pub built : (bytes mins : List ℕ) → length bytes ≡ length mins → f ≡ gatheredOf bytes mins → Built g (columns bytes mins y t o k n) s out out′ a

@@ -1,5 +1,5 @@
 -- Laws of building: what the loops need, and the ways out of the entry. Assumes nothing.
-use mathlib.Core.Path.{_≡_, sym, subst, _∙_, refl}
+use mathlib.Core.Path.{_≡_, sym, subst, _∙_}
 use mathlib.Core.Bool.{Bool, true, false}
 use mathlib.Core.List.{List, [], _∷_}
 use Prim.Native.Nat.{ℕ, _/_, _≤_, _<_}
@@ -7,12 +7,13 @@ use borrow.Author.Tests.{lt-ltb, le-ltb}
 use native.Mathlib.Omega.{arith}
 use lib.ListN.{length}
 use Rattle.search.specs.Promise.{Gives}
-use Rattle.common.specs.Rules.{tabulate, tablesOf}
+use Rattle.common.specs.Rules.{tabulate}
+use Rattle.lines.specs.Fences.{tablesOf}
 use Rattle.common.specs.Refusals.{Outcome, given, refused, told}
 use Rattle.common.specs.RefusalLaws.{answer-unique}
 use Rattle.common.specs.declared.refusal.Answer.{Answer}
 use Rattle.common.specs.declared.grammar.Grammar.{Grammar}
-use Rattle.common.specs.declared.fence_tests.FenceTables.{FenceTables}
+use Rattle.lines.specs.declared.fence_tests.FenceTables.{FenceTables}
 use Rattle.common.specs.Entry.{room}
 use Rattle.rules.specs.Grammar.{Gram}
 use Rattle.rules.specs.Columns.{Columns, columns, unequal, searchBytes, openRule, symRule, fenceRow, gramOf}
@@ -30,9 +31,6 @@ use Rattle.region.specs.declared.Region.{Region as Told}
 use Rattle.region.specs.declared.Next.{Next}
 use Rattle.region.specs.declared.Next.the-variants as next
 use Rattle.context.specs.Build.{Puts, Put, Wrote, Filled, full, builtAnswer, builtList, Built}
-
-pub pair-two : (r : Caused) → length (pair r) ≡ 2
-pair-two r = refl
 
 -- ---- the loop that writes
 module _ (g : Gram) (s out₀ out : List ℕ) (n q : ℕ) (d : Next) (i : Pouring pair 2 g s out₀ out n q) (told′ : Gives (placed (nextRegion g s q)) (viewNext d)) where

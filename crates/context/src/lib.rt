@@ -1,13 +1,11 @@
-// Lists of opaque regions, after context.rs: building one from a text, and a cursor that tells what one covers.
-pub mod cursor; // what a list of regions covers
+// Lists of opaque regions, after context.rs: building one from a text.
 pub mod records; // fence rules as records
-pub mod shape; // what is asked of a list that is given
 
-use common::fence_tests::fence_tables;
 use common::grammar::Grammar;
 use common::refusal::Answer;
 use common::refusal::Refusal;
 use common::span::MAX_INPUT_LEN;
+use lines::fence_tests::fence_tables;
 use region::Next;
 use region::count_regions;
 use region::next_region;

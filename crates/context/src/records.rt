@@ -1,91 +1,19 @@
-// Fence rules as a lent run of records: gathered by byte, and building by them.
+// Building by a lent run of fence rule records.
 use crate::with_inline;
 use common::grammar::Grammar;
 use common::refusal::Answer;
 use common::refusal::Refusal;
-use common::sets::accepts;
-use common::sets::index;
 use common::span::MAX_INPUT_LEN;
+use rules::records::FenceRule;
+use rules::records::Gathered;
+use rules::records::gather;
 use rules::rule_tables::inline_columns_differ;
-use rules::search_bytes::SearchBytes;
 use search::lesser;
-ghost use Prim.Native.Nat.{_<_};
-ghost use lib.ListN.{length, getD, take};
-ghost use Rattle.search.specs.Promise.{Gives};
+ghost use lib.ListN.{take};
 ghost use Rattle.common.specs.Refusals.{told};
 ghost use Rattle.rules.specs.Columns.{columns};
-ghost use Rattle.context.specs.Build.{Built};
-ghost use Rattle.context.specs.Records.{noRule, noRules, withRule, ruleBytes, ruleMins, gatheredOf, BuiltFor};
-
-// A fence's byte, and the least length of its run.
-#[repr(C)]
-pub struct FenceRule {
-    pub byte: u8,
-    pub min: u8,
-}
-
-// What a builder asks of fence rules, by byte: whether there is one, the minimum and the index of the first; and the bytes that they
-// search for.
-pub struct Gathered {
-    pub has: [bool; 256],
-    pub least: [u8; 256],
-    pub rows: [usize; 256],
-    pub searched: SearchBytes,
-}
-
-impl Gathered {
-    pub fn new() -> Self
-        ensures { λ r. ⌜ Gives noRules r ⌝ }
-    {
-        Gathered {
-            has: [false; 256],
-            least: [0u8; 256],
-            rows: [0usize; 256],
-            searched: SearchBytes::new(),
-        }
-    }
-
-    // One rule more, whose index is `row`. A rule whose byte came before is never used.
-    pub fn with(self, rule: FenceRule, row: usize) -> Self
-        ensures { λ r. ⌜ Gives (withRule self rule row) r ⌝ }
-    {
-        let b = rule.byte;
-        let has = self.has;
-        if accepts(&has, b) {
-            return self;
-        }
-        let before = self.searched;
-        let searched = before.with(b);
-        let i = index(b);
-        let mut more = self;
-        more.has[i] = true;
-        more.least[i] = rule.min;
-        more.rows[i] = row;
-        more.searched = searched;
-        more
-    }
-}
-
-// A rule of the run.
-fn rule_at(rules: &[FenceRule], i: usize) -> FenceRule
-    requires { ⌜ i < length (now rules) ⌝ }
-    ensures { λ r. ⌜ Gives (getD (now (rules .entry)) i noRule) r ⌝ }
-{
-    rules[i]
-}
-
-// The whole run, gathered, each rule at its own index.
-fn gather(rules: &[FenceRule]) -> Gathered
-    ensures { λ r. ⌜ Gives (gatheredOf (ruleBytes (now (rules .entry))) (ruleMins (now (rules .entry)))) r ⌝ }
-{
-    let mut all = Gathered::new();
-    let mut i: usize = 0;
-    while i < rules.len() {
-        all = all.with(rule_at(rules, i), i);
-        i += 1;
-    }
-    all
-}
+ghost use Rattle.rules.specs.Records.{ruleBytes, ruleMins};
+ghost use Rattle.context.specs.Build.{Built, BuiltFor};
 
 // Building by gathered rules, which is building by the columns that they were gathered from.
 fn build_gathered(

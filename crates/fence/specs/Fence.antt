@@ -8,7 +8,7 @@ use Prim.Native.Nat.{ℕ, _+_}
 use lib.Dec.{ltb}
 use lib.ListN.{length}
 use Rattle.search.specs.Search.{find, is, other, holds, firstPlace, lineStart, lineEnd, nextLine}
-use Rattle.common.specs.Fences.{runCount, opensRun, closesRun}
+use Rattle.lines.specs.Fences.{runCount, opensRun, closesRun}
 use Rattle.common.specs.Refusals.{Outcome, spanValues}
 use Rattle.common.specs.Turn.{Turn, go, stop, found, firstTurn, allFound}
 use Rattle.common.specs.Items.{answerBy, stateBy}

@@ -11,7 +11,7 @@ use borrow.Author.Tests.{lt-ltb, le-ltb, ltb-true, ltb-false, le-leb, lt-leb, le
 use Rattle.search.specs.Promise.{Gives, Steps, steps-unique}
 use Rattle.search.specs.Search.{is, either, other, holds, firstPlace, find, Sought, lineStart, lineEnd, nextLine}
 use Rattle.search.specs.SearchLaws.{decide, clash, and-true, is-yes, either-true, either-false, other-no, holds-in, holds-past, holds-true, first-ge, first-none, first-end, first-over, first-here, find-ge, sought, find-before, find-at, find-over, find-hit, find-from, find-next, line-one}
-use Rattle.common.specs.Fences.{runCount, opensRun, closesRun}
+use Rattle.lines.specs.Fences.{runCount, opensRun, closesRun}
 use Rattle.common.specs.Refusals.{Outcome, refused, spanValues}
 use Rattle.common.specs.RefusalLaws.{span-unique}
 use Rattle.common.specs.Turn.{Turn, go, stop, found, firstTurn, Ahead, Adv}

@@ -12,11 +12,11 @@ use borrow.Author.Tests.{lt-ltb, le-ltb, ltb-true, ltb-false}
 use Rattle.search.specs.Promise.{Steps}
 use Rattle.search.specs.Search.{is, find, firstPlace, Sought, lineStart}
 use Rattle.search.specs.SearchLaws.{decide, and-true, first-ge, first-at, sought}
-use Rattle.common.specs.Fences.{runCount}
+use Rattle.lines.specs.Fences.{runCount}
 use Rattle.common.specs.Refusals.{Outcome, spanValues, spanBack, toldSpan}
 use Rattle.common.specs.Items.{stepFor}
 use Rattle.common.specs.ItemLaws.{step-taken}
-use Rattle.common.specs.Turn.{Turn, go, stop, found, thenCollect, firstTurn, allFound, Ahead, Adv, Step, yields, drain, stepOf}
+use Rattle.common.specs.Turn.{Turn, go, stop, found, thenCollect, firstTurn, allFound, Ahead, Adv, Step, drain, stepOf}
 use Rattle.common.specs.TurnLaws.{collect-stop, collect-found, collect-alike, drain-state, all-only}
 use Rattle.fence.specs.Fence.{Fence, fresh, at, runEnd, runLine, after, begins, opens, closes, closedAt, closeEnd, fenceAt, nextAt, nextFence, fences, openTurn, firstOpen, answer, state}
 use Rattle.fence.specs.Steps.{Kept, toldStep, stepped}

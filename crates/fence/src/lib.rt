@@ -6,14 +6,14 @@
 //
 // The scan is streaming: one search finds candidate fence bytes, and a look at the byte before keeps only those that begin a line,
 // for opening and for closing fences alike; content lines are never walked.
-use common::fence_tests::run_count;
 use common::refusal::Refusal;
 use common::span::MAX_INPUT_LEN;
 use common::span::Span;
 use common::span::SpanFound;
+use find::find_byte;
+use find::find_either;
+use lines::fence_tests::run_count;
 use search::blank_end;
-use search::find_byte;
-use search::find_either;
 use search::line_start;
 use search::next_line;
 use search::run_end;

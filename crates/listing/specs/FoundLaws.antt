@@ -9,7 +9,7 @@ use borrow.Author.Tests.{le-ltb, eq-eqb}
 use Rattle.search.specs.Promise.{Gives}
 use Rattle.search.specs.SearchLaws.{clash}
 use Rattle.common.specs.Grammars.{house}
-use Rattle.common.specs.Entry.{flatten, rows, room, Shaped, over}
+use Rattle.common.specs.Entry.{flatten, rows, Shaped, over}
 use Rattle.common.specs.EntryLaws.{length-flatten, rows-flatten, holds-shaped}
 use Rattle.common.specs.Refusals.{Outcome, given, refused, numberOf, told}
 use Rattle.common.specs.RefusalLaws.{number-some}
@@ -22,8 +22,9 @@ use Rattle.region.specs.Regions as context
 use Rattle.rules.specs.Columns.{gramOf}
 use Rattle.context.specs.Build.{builtAnswer, builtList, Built}
 use Rattle.region.specs.Ahead.{regions-few, regions-in-order}
-use Rattle.context.specs.Shape.{misshapen}
-use Rattle.sheet.specs.Sheet.{five, markItems, numberedItems, merge, sheetOf, sheetAnswer, sheetList, Sheeted}
+use Rattle.cover.specs.Shape.{misshapen}
+use Rattle.feed.specs.Items.{markItems, numberedItems, merge}
+use Rattle.sheet.specs.Sheet.{five, sheetOf, sheetAnswer, sheetList, Sheeted}
 use Rattle.sheet.specs.SheetLaws.{five-numbers}
 use Rattle.sheet.specs.RunLaws.{items-few, outside-few}
 use Rattle.listing.specs.Listing.{houseRules, houseMarkers, houseDelims, regions, shown}

@@ -20,8 +20,9 @@ use Rattle.block_marker.specs.Marker as marker
 use Rattle.block_marker.specs.declared.MarkerItem.{MarkerItem}
 use Rattle.block_numbered.specs.Numbered as numbered
 use Rattle.block_numbered.specs.declared.NumberedItem.{NumberedItem}
-use Rattle.sheet.specs.Sheet.{merge, inside, placeOf, outside}
-use Rattle.sheet.specs.declared.item.SheetItem.{SheetItem}
+use Rattle.feed.specs.Items.{merge, placeOf}
+use Rattle.sheet.specs.Sheet.{inside, outside}
+use Rattle.feed.specs.declared.item.SheetItem.{SheetItem}
 use Rattle.listing.specs.Listing.{houseMarkers, houseDelims}
 
 -- one of some bytes is a byte

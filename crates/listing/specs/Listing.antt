@@ -23,7 +23,7 @@ use Rattle.region.specs.Region.{Caused, pair}
 use Rattle.rules.specs.Columns.{Columns, columns, gramOf}
 use Rattle.region.specs.Regions as context
 use Rattle.sheet.specs.Sheet.{sheetOf}
-use Rattle.sheet.specs.declared.item.SheetItem.{SheetItem}
+use Rattle.feed.specs.declared.item.SheetItem.{SheetItem}
 use Rattle.listing.specs.Lines.{line, lines}
 
 -- ---- "House grammar: line end 10, escape 92, separator 32, tab 9" (`house`)

@@ -10,7 +10,6 @@ use lib.ListN.{length, length-append}
 use borrow.Author.Tests.{ltb-false}
 use Rattle.common.specs.Grammars.{house}
 use Rattle.common.specs.Entry.{flatten, rows}
-use Rattle.search.specs.Search.{find}
 use Rattle.common.specs.Turn.{Turn, go, stop, found, thenCollect, collect, Adv, Each, OnFound}
 use Rattle.common.specs.TurnLaws.{by-turn, collect-each}
 use Rattle.common.specs.ItemLaws.{both}
@@ -30,8 +29,9 @@ use Rattle.block_marker.specs.declared.MarkerItem.{MarkerItem}
 use Rattle.block_numbered.specs.Numbered as numbered
 use Rattle.block_numbered.specs.NumberedRun as numberedRun
 use Rattle.block_numbered.specs.declared.NumberedItem.{NumberedItem}
-use Rattle.sheet.specs.Sheet.{marked, counted, markItems, numberedItems, merge, sheetOf}
-use Rattle.sheet.specs.declared.item.SheetItem.{SheetItem}
+use Rattle.feed.specs.Items.{marked, counted, markItems, numberedItems, merge}
+use Rattle.sheet.specs.Sheet.{sheetOf}
+use Rattle.feed.specs.declared.item.SheetItem.{SheetItem}
 use Rattle.listing.specs.Lines.{decimal, field, fields, line, lines}
 use Rattle.listing.specs.LineLaws.{decimal-few}
 use Rattle.listing.specs.Put.{Room}

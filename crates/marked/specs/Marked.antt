@@ -2,8 +2,8 @@
 -- The page: "P1 to P12 are proved from the definitions together, as one table under a single statement."
 use mathlib.Core.Path.{refl}
 use Rattle.search.specs.Search.{is, either, oneOf, other, holds, firstOf, firstPlace, find, back, lineStart}
-use Rattle.common.specs.Fences.{opensLine, closesTo, closing}
-use Rattle.common.specs.Paragraph.{endsAt, paragraphEnd, nextIn}
+use Rattle.lines.specs.Fences.{opensLine, closesTo, closing}
+use Rattle.lines.specs.Paragraph.{endsAt, paragraphEnd, nextIn}
 use Rattle.common.specs.Turn.{scan, collect, gather}
 use Rattle.region.specs.Regions.{shutPlace, oddBefore, symTurn, asymTurn, inline, regionTurn, regions}
 use Rattle.rules.specs.Columns.{searched, openRule, symRule}
@@ -12,7 +12,7 @@ use Rattle.common.specs.Items.{leading, beyond, itemAt, itemsOf}
 use Rattle.block_numbered.specs.Numbered.{digit, decimalFrom, numberLine}
 use Rattle.cont.specs.Frames.{markAt, afterMark, marksFrom, marks, begun, ending, frames}
 use Rattle.region.specs.Region.{reaches, keepBefore, keepFrom}
-use Rattle.context.specs.Shape.{misshapen}
+use Rattle.cover.specs.Shape.{misshapen}
 use Rattle.amend.specs.Amend.{joint}
 use Rattle.amend.specs.Amended.{listed, amendedRegions, offJoint, leftOpen, amendedAnswer}
 use Rattle.marked.specs.Page.{All, page}

@@ -5,7 +5,7 @@ use mathlib.Core.Bool.{cond}
 use mathlib.Core.List.{List, [], _∷_}
 use Prim.Native.Nat.{ℕ}
 use Rattle.common.specs.Refusals.{Outcome}
-use Rattle.context.specs.Cursor.{coverAnswer, coverNext}
+use Rattle.cover.specs.Cursor.{coverAnswer, coverNext}
 use Rattle.cells.specs.Bytes.{cells}
 use Rattle.cells.specs.Reply.{served}
 

@@ -17,8 +17,8 @@ use Rattle.common.specs.RefusalLaws.{number-some}
 use Rattle.common.specs.declared.refusal.Refusal.{Refusal}
 use Rattle.common.specs.declared.refusal.Found.{Found}
 use Rattle.common.specs.declared.refusal.Found.the-variants as found
-use Rattle.context.specs.Cursor.{after, passed, endAt, coverAnswer, coverNext}
-use Rattle.context.specs.CursorLaws.{Passes, passes-again, passes-found, passes-end, cover-refused, cover-past}
+use Rattle.cover.specs.Cursor.{after, passed, endAt, coverAnswer, coverNext}
+use Rattle.cover.specs.CursorLaws.{Passes, passes-again, passes-found, passes-end, cover-refused, cover-past}
 use Rattle.cells.specs.Bytes.{cells}
 use Rattle.cells.specs.Reply.{Replied}
 use Rattle.panel.specs.Covered.{behind, covered}

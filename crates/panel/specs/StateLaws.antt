@@ -8,7 +8,7 @@ use lib.Dec.{eqb}
 use lib.ListN.{length, getD, drop-of-length-le}
 use borrow.Author.Tests.{lt-ltb, le-ltb, eq-eqb, ne-eqb}
 use Rattle.search.specs.Promise.{Gives, Steps}
-use Rattle.common.specs.Entry.{flatten, over}
+use Rattle.common.specs.Entry.{flatten}
 use Rattle.common.specs.EntryLaws.{put-over}
 use Rattle.common.specs.Refusals.{Outcome, given, refused, numberOf}
 use Rattle.common.specs.RefusalLaws.{number-some}

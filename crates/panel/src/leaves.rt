@@ -3,7 +3,7 @@ use cells::reply;
 use common::sets::byte_set;
 use common::sets::probe_matcher;
 use rules::search_bytes::search_bytes;
-ghost use Rattle.common.specs.Leaf.{findLineEnd, countEscape, nextInParagraph};
+ghost use Rattle.lines.specs.Leaf.{findLineEnd, countEscape, nextInParagraph};
 ghost use Rattle.common.specs.Sets.{probe};
 ghost use Rattle.cells.specs.Reply.{Replied};
 ghost use Rattle.panel.specs.Leaves.{probed, searched};
@@ -13,7 +13,7 @@ ghost use Rattle.panel.specs.Leaves.{probed, searched};
 pub extern "C" fn rack_find_line_end(text: &[u8], from: usize, eol: u8, answer: &mut [u8]) -> u32
     ensures { λ r. ⌜ Replied (findLineEnd (now (text .entry)) from eol) (now (answer .entry)) (now (answer .exit)) r ⌝ }
 {
-    reply::number(common::find_line_end(text, from, eol), answer)
+    reply::number(lines::find_line_end(text, from, eol), answer)
 }
 
 // How many escape bytes stand just before a place.
@@ -21,7 +21,7 @@ pub extern "C" fn rack_find_line_end(text: &[u8], from: usize, eol: u8, answer: 
 pub extern "C" fn rack_count_escape(text: &[u8], pos: usize, escape: u8, answer: &mut [u8]) -> u32
     ensures { λ r. ⌜ Replied (countEscape (now (text .entry)) pos escape) (now (answer .entry)) (now (answer .exit)) r ⌝ }
 {
-    reply::number(common::count_escape(text, pos, escape), answer)
+    reply::number(lines::count_escape(text, pos, escape), answer)
 }
 
 // The next needle at or after a place within the paragraph, by the fence rules of two columns; no value where there is none.
@@ -38,7 +38,7 @@ pub extern "C" fn rack_next_in_paragraph(
     ensures { λ r. ⌜ Replied (nextInParagraph (now (text .entry)) from needle eol (now (fences .entry)) (now (mins .entry))) (now (answer .entry)) (now (answer .exit)) r ⌝ }
 {
     reply::found(
-        common::next_in_paragraph(text, from, needle, eol, fences, mins),
+        lines::next_in_paragraph(text, from, needle, eol, fences, mins),
         answer,
     )
 }

@@ -10,7 +10,7 @@ use Rattle.common.specs.Entry.{flatten}
 use Rattle.common.specs.Refusals.{differ}
 use Rattle.common.specs.declared.grammar.Grammar.{Grammar}
 use Rattle.region.specs.Region.{Caused, pair}
-use Rattle.context.specs.Records.{ruleBytes, ruleMins}
+use Rattle.rules.specs.Records.{ruleBytes, ruleMins}
 use Rattle.cells.specs.ByteRules.{uneven, rulesOf}
 use Rattle.cells.specs.Bytes.{four}
 use Rattle.cells.specs.Poured.{PouredAs, BuiltAs, builtBy}

@@ -2,23 +2,24 @@
 use mathlib.Core.Path.{_≡_, refl, sym, ap, subst, _∙_}
 use mathlib.Core.Bool.{Bool, true, false, not, _||_}
 use mathlib.Core.List.{List, [], _∷_}
-use Prim.Native.Nat.{ℕ, _+_, _-_, _*_, _/_, _%_, _≤_, _<_}
+use Prim.Native.Nat.{ℕ, _+_, _*_, _/_, _%_, _≤_, _<_}
 use native.Mathlib.Omega.{arith}
 use lib.Dec.{eqb, leb}
 use lib.ListN.{length}
 use borrow.Author.Tests.{le-leb, eq-eqb, ne-eqb}
 use Rattle.search.specs.Promise.{Gives}
 use Rattle.common.specs.Entry.{flatten}
-use Rattle.common.specs.Rules.{tabulate, tablesOf}
+use Rattle.common.specs.Rules.{tabulate}
+use Rattle.lines.specs.Fences.{tablesOf}
 use Rattle.common.specs.declared.grammar.Grammar.{Grammar}
-use Rattle.common.specs.declared.fence_tests.FenceTables.{FenceTables}
+use Rattle.lines.specs.declared.fence_tests.FenceTables.{FenceTables}
 use Rattle.region.specs.Region.{Caused}
 use Rattle.rules.specs.Grammar.{Gram}
 use Rattle.region.specs.Regions.{nextRegion, regions}
 use Rattle.rules.specs.Columns.{columns, gainedAll, gathered, asBytes, searchBytes, openRule, symRule, fenceRow, gramOf}
 use Rattle.rules.specs.ColumnLaws.{gathered-list}
 use Rattle.rules.specs.Tables.{tablesFor, gramIn}
-use Rattle.context.specs.Records.{ruleBytes, ruleMins, gatheredOf}
+use Rattle.rules.specs.Records.{ruleBytes, ruleMins, gatheredOf}
 use Rattle.region.specs.LoopLaws.{Pouring, counting-end, pouring-next, pouring-end}
 use Rattle.region.specs.Ahead.{regions-few}
 use Rattle.rules.specs.RuleTableLaws.{gram-same}
@@ -28,7 +29,7 @@ use Rattle.region.specs.declared.Next.{Next}
 use Rattle.region.specs.declared.Next.the-variants as next
 use Rattle.rules.specs.declared.search_bytes.SearchBytes.{SearchBytes}
 use Rattle.rules.specs.declared.tables.InlineTables.{InlineTables}
-use Rattle.context.specs.declared.records.Gathered.{Gathered}
+use Rattle.rules.specs.declared.records.Gathered.{Gathered}
 use Rattle.cells.specs.Bytes.{four, cells}
 use Rattle.cells.specs.Reply.{LaidIf}
 use Rattle.cells.specs.Poured.{Wrote, PouredAs, builtBy}

@@ -10,11 +10,11 @@ use borrow.Author.Tests.{ltb-true, eq-eqb}
 use Rattle.search.specs.Search.{find, is, other, lineEnd, nextLine}
 use Rattle.search.specs.SearchLaws.{clash, and-true, is-yes, is-true, other-no, find-ge, find-le, find-next, find-at, first-ge, first-le}
 use Rattle.common.specs.ItemLaws.{both}
-use Rattle.common.specs.Paragraph.{endsAt, paragraphEnd, hitAt, nextIn}
+use Rattle.lines.specs.Paragraph.{endsAt, paragraphEnd, hitAt, nextIn}
 use Rattle.common.specs.Turn.{Turn, go, stop, found, thenCollect, collect, firstTurn, Ahead, Last, Adv}
 use Rattle.common.specs.TurnLaws.{by-turn, adv-weaken, scan-last}
-use Rattle.common.specs.declared.fence_tests.Hit.{Hit}
-use Rattle.common.specs.declared.fence_tests.Hit.the-variants.{At, End}
+use Rattle.lines.specs.declared.fence_tests.Hit.{Hit}
+use Rattle.lines.specs.declared.fence_tests.Hit.the-variants.{At, End}
 use Rattle.region.specs.declared.Cause.{Cause}
 use Rattle.region.specs.declared.Cause.the-variants.{Symmetric, Asymmetric}
 use Rattle.region.specs.Region.{Region, InOrder}

@@ -1,5 +1,5 @@
 -- Laws of loops over the regions of a text, by steps of `next_region`: one that counts them, and one that writes each as so many numbers. Assumes nothing.
-use mathlib.Core.Path.{_≡_, ap}
+use mathlib.Core.Path.{_≡_, refl, ap}
 use mathlib.Core.List.{List, _++_}
 use Prim.Native.Nat.{ℕ, _+_, _-_, _*_, _/_, _≤_, _<_}
 use native.Mathlib.Omega.{arith}
@@ -8,7 +8,7 @@ use Rattle.search.specs.Promise.{Gives}
 use Rattle.common.specs.Entry.{flatten, room, over, putAt, Written}
 use Rattle.common.specs.EntryLaws.{length-flatten, room-fits, rows-next, written-none, written-put, written-all, written-room}
 use Rattle.rules.specs.Grammar.{Gram}
-use Rattle.region.specs.Region.{Caused, regionOf}
+use Rattle.region.specs.Region.{Region, Caused, pair, regionOf}
 use Rattle.region.specs.Regions.{nextRegion, regions}
 use Rattle.region.specs.Views.{viewNext, placed}
 use Rattle.region.specs.Ahead.{regions-few}
@@ -16,6 +16,10 @@ use Rattle.region.specs.NextLaws.{regionsFrom, from-start, next-none, ne
 use Rattle.region.specs.declared.Region.{Region as Told}
 use Rattle.region.specs.declared.Next.{Next}
 use Rattle.region.specs.declared.Next.the-variants as next
+
+-- a region is two numbers of a list
+pub pair-two : {T : Type 0} (r : Region T) → length (pair r) ≡ 2
+pair-two r = refl
 
 -- a loop at q that has passed n regions
 pub record Counting (g : Gram) (s : List ℕ) (n q : ℕ) : Type 0 where

@@ -6,14 +6,14 @@ use Prim.Native.Nat.{ℕ, _-_}
 use lib.Dec.{eqb}
 use lib.ListN.{length, getD}
 use Rattle.search.specs.Search.{find, is, other, lineStart, nextLine}
-use Rattle.common.specs.Fences.{opening, closeScan}
+use Rattle.lines.specs.Fences.{opening, closeScan}
 use Rattle.common.specs.Turn.{Turn, go, found, firstTurn}
 use Rattle.common.specs.Rules.{entry}
 use Rattle.common.specs.declared.grammar.Grammar.{Grammar}
-use Rattle.common.specs.declared.fence_tests.Opening.{Opening}
-use Rattle.common.specs.declared.fence_tests.Opening.the-variants.{Not}
-use Rattle.common.specs.declared.fence_tests.Close.{Close}
-use Rattle.common.specs.declared.fence_tests.Close.the-variants as close
+use Rattle.lines.specs.declared.fence_tests.Opening.{Opening}
+use Rattle.lines.specs.declared.fence_tests.Opening.the-variants.{Not}
+use Rattle.lines.specs.declared.fence_tests.Close.{Close}
+use Rattle.lines.specs.declared.fence_tests.Close.the-variants as close
 use Rattle.rules.specs.Grammar.{plain, Gram}
 use Rattle.rules.specs.Columns.{first}
 use Rattle.rules.specs.Tables.{ruleBy}

@@ -7,10 +7,10 @@ use Prim.Native.Nat.{ℕ, _+_, _-_, _%_}
 use lib.Dec.{eqb, ltb}
 use lib.ListN.{length, getD}
 use Rattle.search.specs.Search.{find, is, other, back, firstPlace, lineEnd, nextLine}
-use Rattle.common.specs.Paragraph.{nextIn}
+use Rattle.lines.specs.Paragraph.{nextIn}
 use Rattle.common.specs.Turn.{Turn, go, stop, found, firstTurn, allFound}
-use Rattle.common.specs.declared.fence_tests.Hit.{Hit}
-use Rattle.common.specs.declared.fence_tests.Hit.the-variants.{At, End}
+use Rattle.lines.specs.declared.fence_tests.Hit.{Hit}
+use Rattle.lines.specs.declared.fence_tests.Hit.the-variants.{At, End}
 use Rattle.region.specs.Region.{Caused, caused}
 use Rattle.rules.specs.Grammar.{Rule, plain, sym, asym, Gram}
 use Rattle.region.specs.declared.Cause.{Cause}

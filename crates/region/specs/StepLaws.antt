@@ -1,6 +1,6 @@
 -- Laws of the builder's turns: the ways out of the functions that take them. Assumes nothing.
 use mathlib.Core.Path.{_≡_, refl, sym as inv, ap, subst, _∙_, fun-ext}
-use mathlib.Core.Bool.{Bool, true, false, cond, not, _&&_}
+use mathlib.Core.Bool.{Bool, true, false, cond, _&&_}
 use mathlib.Core.List.{List, []}
 use mathlib.Core.Logic.{_⊎_, inl, inr}
 use Prim.Native.Nat.{ℕ, _+_, _-_, _*_, _^_, _%_, _≤_, _<_}
@@ -14,17 +14,17 @@ use Rattle.search.specs.Promise.{Gives}
 use Rattle.search.specs.Search.{find, is, other, oneOf, back, Sought, lineStart, lineEnd, nextLine, firstPlace}
 use Rattle.search.specs.SearchLaws.{decide, find-end}
 use Rattle.common.specs.Rules.{entry}
-use Rattle.common.specs.Fences.{runCount, runEnd, opensLine, opening, closing, closeScan, closeAt}
-use Rattle.common.specs.FenceLaws.{opening-is}
-use Rattle.common.specs.Paragraph.{nextIn}
+use Rattle.lines.specs.Fences.{runCount, runEnd, opensLine, opening, closing, closeScan, closeAt}
+use Rattle.lines.specs.FenceLaws.{opening-is}
+use Rattle.lines.specs.Paragraph.{nextIn}
 use Rattle.common.specs.Turn.{Turn, go, stop, found, scan, firstTurn}
 use Rattle.common.specs.declared.grammar.Grammar.{Grammar}
-use Rattle.common.specs.declared.fence_tests.Hit.{Hit}
-use Rattle.common.specs.declared.fence_tests.Hit.the-variants as hit
-use Rattle.common.specs.declared.fence_tests.Opening.{Opening}
-use Rattle.common.specs.declared.fence_tests.Opening.the-variants.{Opens, Not}
-use Rattle.common.specs.declared.fence_tests.Close.{Close}
-use Rattle.common.specs.declared.fence_tests.Close.the-variants as close
+use Rattle.lines.specs.declared.fence_tests.Hit.{Hit}
+use Rattle.lines.specs.declared.fence_tests.Hit.the-variants as hit
+use Rattle.lines.specs.declared.fence_tests.Opening.{Opening}
+use Rattle.lines.specs.declared.fence_tests.Opening.the-variants.{Opens, Not}
+use Rattle.lines.specs.declared.fence_tests.Close.{Close}
+use Rattle.lines.specs.declared.fence_tests.Close.the-variants as close
 use Rattle.region.specs.Region.{Caused, caused}
 use Rattle.rules.specs.Grammar.{Rule, plain, sym, asym, Gram}
 use Rattle.region.specs.Regions.{oddBefore, symAfter, symTurn, asymAfter, asymTurn, pairOf, openPair, inline, shutPlace, fencedTo, fenced, regionTurn, nextRegion}

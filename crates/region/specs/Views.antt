@@ -3,8 +3,8 @@
 use mathlib.Core.List.{List, [], _∷_}
 use Prim.Native.Nat.{ℕ}
 use Rattle.common.specs.Turn.{Turn, go, stop, found}
-use Rattle.common.specs.declared.fence_tests.Hit.{Hit}
-use Rattle.common.specs.declared.fence_tests.Hit.the-variants as hit
+use Rattle.lines.specs.declared.fence_tests.Hit.{Hit}
+use Rattle.lines.specs.declared.fence_tests.Hit.the-variants as hit
 use Rattle.region.specs.Region.{Caused, regionOf}
 use Rattle.region.specs.declared.pairs.PairTurn.{PairTurn}
 use Rattle.region.specs.declared.pairs.PairTurn.the-variants as pairTurn

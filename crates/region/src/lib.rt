@@ -3,20 +3,20 @@
 // region, so that overlapping candidates are resolved leftmost first.
 mod pairs; // where an inline pair closes
 
-use common::fence_tests::Close;
-use common::fence_tests::Hit;
-use common::fence_tests::Opening;
-use common::fence_tests::fence_close_scan;
-use common::fence_tests::fence_opens;
 use common::grammar::Grammar;
 use common::sets::number_of;
+use find::find_needle;
+use lines::fence_tests::Close;
+use lines::fence_tests::Hit;
+use lines::fence_tests::Opening;
+use lines::fence_tests::fence_close_scan;
+use lines::fence_tests::fence_opens;
 use pairs::asym_close;
 use pairs::is_escaped;
 use pairs::sym_close;
 use rules::tables::count_of;
 use rules::tables::row_of;
 use search::byte_at;
-use search::find_needle;
 use search::line_start;
 use search::next_line;
 use search::run_end;

@@ -1,8 +1,8 @@
 // Pairs within a paragraph, after context.rs: the search for the close of a symmetric or an asymmetric pair. Both cross single line
 // ends, and give up at an empty line, at a line that opens a fence, or at the end of input; then they say where the paragraph ended.
-use common::fence_tests::Hit;
-use common::fence_tests::next_in;
 use common::grammar::Grammar;
+use lines::fence_tests::Hit;
+use lines::fence_tests::next_in;
 use search::run_before;
 use search::run_end;
 ghost use Prim.Native.Nat.{_≤_};

@@ -1,9 +1,9 @@
 // Section 7: the cursor, as a number and as a record that is lent.
 use crate::cuts::number_at;
 use crate::numbers::Numbers;
-use context::cursor::Cover;
-use context::cursor::covering_end;
-use context::cursor::covers;
+use cover::cursor::Cover;
+use cover::cursor::covering_end;
+use cover::cursor::covers;
 
 pub(crate) fn ask(letter: u8, asked: &[u32], list: &[u32], reply: Numbers) -> Numbers {
     let count = number_at(asked, 0) as usize;

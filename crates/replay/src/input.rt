@@ -18,7 +18,7 @@ pub(crate) fn judged(text: &[u8]) -> Tally {
     let mut tally = Tally::new(0, NO_SECTION);
     let mut at = 0;
     while at < text.len() {
-        let end = search::find_byte(text, at, EOL);
+        let end = find::find_byte(text, at, EOL);
         if end >= text.len() {
             return tally.unended();
         }

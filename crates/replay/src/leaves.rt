@@ -2,11 +2,11 @@
 use crate::cuts::number_at;
 use crate::form::Ends;
 use crate::numbers::Numbers;
-use common::fence_tests;
-use common::fence_tests::Close;
-use common::fence_tests::Opening;
 use common::grammar::Grammar;
 use common::sets;
+use lines::fence_tests;
+use lines::fence_tests::Close;
+use lines::fence_tests::Opening;
 use search::byte_at;
 
 pub(crate) fn ask(
@@ -20,8 +20,8 @@ pub(crate) fn ask(
 ) -> Numbers {
     let first = byte_at(bytes, 0);
     match letter {
-        b'e' => reply.answer(common::find_line_end(text, place, first)),
-        b'c' => reply.answer(common::count_escape(text, place, first)),
+        b'e' => reply.answer(lines::find_line_end(text, place, first)),
+        b'c' => reply.answer(lines::count_escape(text, place, first)),
         b'a' => any_of(number_at(asked, 0) as usize, bytes, text, place, reply),
         b'b' => probe(text, reply),
         b'p' | b'o' => ruled(
@@ -58,7 +58,7 @@ fn ruled(
     let first = byte_at(bytes, 0);
     if letter == b'p' {
         let second = byte_at(bytes, 1);
-        return reply.found(common::next_in_paragraph(text, place, first, second, rules, mins));
+        return reply.found(lines::next_in_paragraph(text, place, first, second, rules, mins));
     }
     match opening(text, place, first, rules, mins) {
         Opening::Opens(count, _) => reply.and(1).byte(count),
@@ -85,10 +85,7 @@ fn fenced(
 
 fn any_of(count: usize, bytes: &[u8], text: &[u8], place: usize, reply: Numbers) -> Numbers {
     let needles = [byte_at(bytes, 1), byte_at(bytes, 2), byte_at(bytes, 3)];
-    reply.sought(
-        search::find_any_of(&needles, count, text, place),
-        text.len(),
-    )
+    reply.sought(find::find_any_of(&needles, count, text, place), text.len())
 }
 
 fn opening(text: &[u8], place: usize, eol: u8, bytes: &[u8], mins: &[u8]) -> Opening {
@@ -109,7 +106,7 @@ fn grammar_of(bytes: &[u8]) -> Grammar {
 }
 
 fn closes(text: &[u8], place: usize, byte: u8, count: u8, g: Grammar) -> bool {
-    let end = search::find_byte(text, place, g.eol);
+    let end = find::find_byte(text, place, g.eol);
     fence_tests::fence_closes(text, place, end, byte, count, g)
 }
 

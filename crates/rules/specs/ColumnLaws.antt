@@ -8,7 +8,7 @@ use native.Mathlib.Nat.{not-suc-le-zero}
 use native.Mathlib.Numerals.{add-one}
 use native.Mathlib.Omega.{arith}
 use lib.Dec.{leb, ltb}
-use lib.ListN.{length, getD, take, drop, set, length-append, drop-of-length-le, replicate, List·getD-eq-default}
+use lib.ListN.{length, getD, take, drop, set, length-append, drop-of-length-le, replicate}
 use lib.Seq.{drop-cons}
 use borrow.Author.Tests.{le-leb, lt-leb, leb-false, lt-ltb, le-ltb}
 use Rattle.search.specs.Promise.{Gives}
@@ -251,7 +251,3 @@ module _ (bytes : List ℕ) where
   pub rows-all : (l : List ℕ) (i : ℕ) → Rows bytes l i → i ≤ 0 → l ≡ tabulate (fenceRow bytes) 256 0
   unfolding rowFrom
   rows-all l i w h = let z : i ≡ 0 = omega arith in table-is 0 l (fenceRow bytes) (table-same 0 l (rowFrom bytes i) (fenceRow bytes) (λ k m. rw z) (w .entries))
-
--- a number of a column, or 0 past its end
-pub past-end : (l : List ℕ) (i : ℕ) → length l ≤ i → 0 ≡ getD l i 0
-past-end l i h = inv (List·getD-eq-default l 0 {n = i} h)

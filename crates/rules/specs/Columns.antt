@@ -10,7 +10,7 @@ use Rattle.common.specs.Refusals.{differ}
 use Rattle.common.specs.Sets.{padded}
 use Rattle.search.specs.Search.{oneOf, lineStart, lineEnd}
 use Rattle.common.specs.Rules.{row, hasRule, leastOf, onByte}
-use Rattle.common.specs.Fences.{runCount, runEnd, opensLine, closing}
+use Rattle.lines.specs.Fences.{runCount, runEnd, opensLine, closing}
 use Rattle.common.specs.declared.grammar.Grammar.{Grammar}
 use Rattle.rules.specs.Grammar.{Rule, plain, sym, asym, Fences, Gram}
 use Rattle.rules.specs.declared.search_bytes.SearchBytes.{SearchBytes}

@@ -4,3 +4,5 @@ pub mod Tables
 pub mod ColumnLaws
 pub mod RuleTables
 pub mod RuleTableLaws
+pub mod Records
+pub mod RecordLaws

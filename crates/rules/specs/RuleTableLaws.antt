@@ -11,11 +11,12 @@ use borrow.Author.Tests.{eq-eqb, ne-eqb}
 use Rattle.search.specs.Promise.{Gives}
 use Rattle.search.specs.Search.{oneOf}
 use Rattle.search.specs.SearchLaws.{decide}
-use Rattle.common.specs.Rules.{tabulate, entry, onByte, hasRule, leastOf, tablesOf}
+use Rattle.common.specs.Rules.{tabulate, entry, onByte, hasRule, leastOf}
+use Rattle.lines.specs.Fences.{tablesOf}
 use Rattle.common.specs.TableLaws.{table-entry}
 use Rattle.common.specs.Sets.{padded}
 use Rattle.common.specs.declared.grammar.Grammar.{Grammar}
-use Rattle.common.specs.declared.fence_tests.FenceTables.{FenceTables}
+use Rattle.lines.specs.declared.fence_tests.FenceTables.{FenceTables}
 use Rattle.rules.specs.Grammar.{Rule, plain, sym, asym, Gram}
 use Rattle.rules.specs.Columns.{columns, unequalInline, unequal, gainedAll, searched, searchBytes, openRule, symRule, fenceRow, first, gramOf}
 use Rattle.rules.specs.ColumnLaws.{pad-take, gathered-list}

@@ -2,8 +2,8 @@
 use crate::search_bytes::search_bytes;
 use crate::tables::fence_rows;
 use crate::tables::inline_tables;
-use common::fence_tests::fence_tables;
 use common::grammar::Grammar;
+use lines::fence_tests::fence_tables;
 ghost use Rattle.search.specs.Promise.{Gives};
 ghost use Rattle.rules.specs.Columns.{columns, unequalInline, unequal};
 ghost use Rattle.rules.specs.RuleTables.{ruleTables};

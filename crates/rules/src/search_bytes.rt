@@ -1,6 +1,6 @@
 // The bytes a builder searches for: an array of eleven and a count, handed over and handed back whole, without repeats.
 use common::grammar::Grammar;
-use search::is_one_of;
+use find::is_one_of;
 ghost use Rattle.search.specs.Promise.{Gives};
 ghost use Rattle.rules.specs.Columns.{noBytes, withByte, gathered, searchBytes};
 

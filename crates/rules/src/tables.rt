@@ -6,7 +6,7 @@ ghost use lib.ListN.{getD};
 ghost use Rattle.search.specs.Promise.{Gives};
 ghost use Rattle.common.specs.Rules.{tabulate};
 ghost use Rattle.rules.specs.Columns.{openRule, symRule, fenceRow};
-ghost use Rattle.rules.specs.Tables.{tablesFor, ruleBy};
+ghost use Rattle.rules.specs.Tables.{tablesFor};
 
 // What a byte opens within a paragraph: kind 0 nothing, 1 a symmetric pair, 2 an asymmetric one; the closing byte of an asymmetric
 // pair; the count; and the rule's index.

@@ -1,6 +1,6 @@
 -- Laws of the searches: bounds, hit, miss, what a text before or behind changes; of runs back; of lines. Assumes nothing.
 use mathlib.Core.Path.{_≡_, refl, sym, ap, _∙_}
-use mathlib.Core.Bool.{Bool, true, false, not, _&&_, or-true, _||_}
+use mathlib.Core.Bool.{Bool, true, false, not, _&&_, or-true, or-assoc, _||_}
 use mathlib.Core.List.{List, [], _∷_, _++_}
 use mathlib.Core.Logic.{_⊎_, inl, inr, ⊎-elim}
 use Prim.Native.Nat.{ℕ, zero, suc, _+_, _-_, _≤_, _<_, min, max}
@@ -8,7 +8,7 @@ use native.Mathlib.Nat.{not-suc-le-zero, add-zero, add-suc}
 use native.Mathlib.Numerals.{add-one, sub-one}
 use native.Mathlib.Omega.{arith}
 use lib.Dec.{eqb, ltb}
-use lib.ListN.{length, getD, take, drop, length-append, length-take, drop-of-length-le, List·getD-append}
+use lib.ListN.{length, getD, take, drop, length-append, length-take, drop-of-length-le, List·getD-append, List·getD-eq-default}
 use lib.Seq.{getD-append-add, drop-cons, getD-take}
 use borrow.Author.Tests.{eq-eqb, ne-eqb, eqb-true, eqb-false, lt-ltb, le-ltb, ltb-true, ltb-false}
 use Rattle.search.specs.Promise.{Gives}
@@ -29,6 +29,10 @@ and-true false b e = absurd (clash e refl)
 pub neither : (a b : Bool) → (a || b) ≡ false → (a ≡ false) × (b ≡ false)
 neither true b e = absurd (clash refl e)
 neither false b e = (refl, e)
+
+-- ---- a number of a list, or 0 past its end
+pub past-end : (l : List ℕ) (i : ℕ) → length l ≤ i → 0 ≡ getD l i 0
+past-end l i h = sym (List·getD-eq-default l 0 {n = i} h)
 
 -- ---- tests of a byte
 pub is-yes : (b x : ℕ) → x ≡ b → is b x ≡ true
@@ -114,6 +118,11 @@ one-next y ys x e = rw (ne-eqb x y e)
 one-none : (x : ℕ) → oneOf [] x ≡ false
 unfolding oneOf
 one-none x = refl
+
+pub one-append : (a b : List ℕ) (x : ℕ) → oneOf (a ++ b) x ≡ (oneOf a x || oneOf b x)
+unfolding oneOf
+one-append [] b x = refl
+one-append (y ∷ ys) b x = ap (λ (z : Bool). eqb x y || z) (one-append ys b x) ∙ sym (or-assoc (eqb x y) (oneOf ys x) (oneOf b x))
 
 -- ---- the invariant of a loop over the first n numbers of a list, and its rules
 pub record Among (l : List ℕ) (n x k : ℕ) : Type 0 where

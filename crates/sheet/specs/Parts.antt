@@ -7,20 +7,13 @@ use Prim.Native.Nat.{ℕ, _+_, _*_, _≤_, _<_}
 use lib.ListN.{length}
 use Rattle.common.specs.Entry.{flatten, rows, room, Shaped, over, putAt}
 use Rattle.common.specs.Refusals.{Outcome, given, refuse}
-use Rattle.common.specs.declared.grammar.Grammar.{Grammar}
 use Rattle.common.specs.declared.refusal.Found.{Found}
 use Rattle.common.specs.declared.refusal.Found.the-variants as found
-use Rattle.block_marker.specs.Marker as marker
-use Rattle.block_marker.specs.declared.BlockMarkerIter.{BlockMarkerIter}
-use Rattle.block_numbered.specs.Numbered as numbered
-use Rattle.block_numbered.specs.declared.BlockNumberedIter.{BlockNumberedIter}
-use Rattle.context.specs.Cursor.{Rising, Ended}
-use Rattle.sheet.specs.Sheet.{five, marked, counted, markItems, numberedItems, merge, placeOf, inside, outside, full}
-use Rattle.sheet.specs.declared.item.SheetItem.{SheetItem}
-use Rattle.sheet.specs.declared.feed.Head.{Head}
-use Rattle.sheet.specs.declared.feed.Head.the-variants as head
-use Rattle.sheet.specs.declared.feed.Feed.{Feed}
-use Rattle.sheet.specs.declared.feed.Taken.{Taken}
+use Rattle.cover.specs.Cursor.{Rising, Ended}
+use Rattle.feed.specs.Items.{placeOf}
+use Rattle.feed.specs.Ahead.{Within, ahead}
+use Rattle.sheet.specs.Sheet.{five, inside, outside, full}
+use Rattle.feed.specs.declared.item.SheetItem.{SheetItem}
 use Rattle.sheet.specs.declared.Query.{Query}
 use Rattle.sheet.specs.declared.item.Seen.{Seen}
 use Rattle.sheet.specs.declared.item.Seen.the-variants as seen
@@ -31,46 +24,6 @@ use Rattle.sheet.specs.declared.Step.{Step}
 pub record Put (n : ℕ) (i : SheetItem) (out out′ : List ℕ) (r : ℕ) : Type 0 where
   pub next : r ≡ n + 1
   pub list : out′ ≡ putAt (n * 5) (five i) out
-
--- ---- one scanner, one item ahead
--- the items that a state's scan has before it
-unfoldable pub marksOf : BlockMarkerIter → List Bool → List ℕ → List SheetItem
-marksOf g set s = map marked (marker.items g set s)
-
-unfoldable pub numbersOf : BlockNumberedIter → List Bool → List ℕ → List SheetItem
-numbersOf g set s = map counted (numbered.items g set s)
-
--- a head, and the items behind it; nothing is behind the end
-abbrev pub headed : Head → List SheetItem → List SheetItem
-headed (head.Item i) l = i ∷ l
-headed head.End l = []
-
--- of all items the first, and the rest of them from a place of the text on
-pub record Led (all : List SheetItem) (len : ℕ) (h : Head) (rest : List SheetItem) (pos : ℕ) : Type 0 where
-  pub same : all ≡ headed h rest
-  pub inside : pos ≤ len
-
--- ---- both
--- scanners that stand within a text that is not too long
-pub record Within (f : Feed) (len : ℕ) : Type 0 where
-  pub marks : f .marks .rest .pos ≤ len
-  pub numbers : f .numbers .rest .pos ≤ len
-  pub short : len ≤ 4294967295
-
-module _ (markers delims : List Bool) where
-  -- the items that both have before them
-  unfoldable pub ahead : List ℕ → Feed → List SheetItem
-  ahead s f = merge (headed (f .marks .head) (marksOf (f .marks .rest) markers s)) (headed (f .numbers .head) (numbersOf (f .numbers .rest) delims s))
-
-  -- the next of them, and the others
-  pub record Took (s : List ℕ) (f : Feed) (t : Taken) : Type 0 where
-    pub same : ahead s f ≡ headed (t .head) (ahead s (t .rest))
-    pub within : Within (t .rest) (length s)
-
--- the beginning: all items
-pub record Started (g : Grammar) (markers delims : List Bool) (s : List ℕ) (f : Feed) : Type 0 where
-  pub same : ahead markers delims s f ≡ merge (markItems g markers s) (numberedItems g delims s)
-  pub within : Within f (length s)
 
 -- ---- with the list
 -- a list with its first n regions in order

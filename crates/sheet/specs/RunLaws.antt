@@ -17,10 +17,11 @@ use Rattle.block_marker.specs.Marker as marker
 use Rattle.block_marker.specs.MarkerRun as marker-run
 use Rattle.block_numbered.specs.Numbered as numbered
 use Rattle.block_numbered.specs.NumberedRun as numbered-run
-use Rattle.context.specs.Cursor.{Rising}
-use Rattle.sheet.specs.Sheet.{marked, counted, markItems, numberedItems, merge, placeOf, inside, outside}
-use Rattle.sheet.specs.FeedLaws.{merge-number, merge-mark}
-use Rattle.sheet.specs.declared.item.SheetItem.{SheetItem}
+use Rattle.cover.specs.Cursor.{Rising}
+use Rattle.feed.specs.Items.{marked, counted, markItems, numberedItems, merge, placeOf}
+use Rattle.sheet.specs.Sheet.{inside, outside}
+use Rattle.feed.specs.FeedLaws.{merge-number, merge-mark}
+use Rattle.feed.specs.declared.item.SheetItem.{SheetItem}
 
 -- items whose content starts never fall, none of them before `low`
 abbrev Rises : ℕ → List SheetItem → Type 0

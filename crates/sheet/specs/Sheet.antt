@@ -3,50 +3,24 @@
 -- content start, the marker item first where two are equal." and "For a work sheet: 1, 5, 3."
 use mathlib.Core.Path.{_≡_}
 use mathlib.Core.Bool.{Bool, true, false, cond, _||_}
-use mathlib.Core.List.{List, [], _∷_, map}
+use mathlib.Core.List.{List, [], _∷_}
 use Prim.Native.Nat.{ℕ}
 use lib.Dec.{ltb}
 use lib.ListN.{length}
 use Rattle.common.specs.Entry.{flatten, rows, room, over}
 use Rattle.common.specs.Refusals.{Outcome, given, refuse, tooLong}
 use Rattle.common.specs.declared.grammar.Grammar.{Grammar}
-use Rattle.block_marker.specs.Marker as marker
-use Rattle.block_marker.specs.declared.MarkerItem.{MarkerItem}
-use Rattle.block_numbered.specs.Numbered as numbered
-use Rattle.block_numbered.specs.declared.NumberedItem.{NumberedItem}
-use Rattle.context.specs.Cursor.{covers}
-use Rattle.context.specs.Shape.{misshapen}
-use Rattle.sheet.specs.declared.item.SheetItem.{SheetItem}
+use Rattle.feed.specs.Items.{markItems, numberedItems, merge, placeOf}
+use Rattle.cover.specs.Cursor.{covers}
+use Rattle.cover.specs.Shape.{misshapen}
+use Rattle.feed.specs.declared.item.SheetItem.{SheetItem}
 
 -- ---- items
 -- "An item is five numbers: start, end, kind (0 marker, 1 numbered), accepted byte, number (0 for a marker)."
 abbrev pub five : SheetItem → List ℕ
 five i = i .start ∷ i .end ∷ i .kind ∷ i .byte ∷ i .number ∷ []
 
-abbrev pub marked : MarkerItem → SheetItem
-marked i = record { start = i .span .start; end = i .span .end; kind = 0; byte = i .marker; number = 0 }
-
-abbrev pub counted : NumberedItem → SheetItem
-counted i = record { start = i .span .start; end = i .span .end; kind = 1; byte = i .delimiter; number = i .number }
-
--- "the marker and numbered items, both scanned from place 0": all that a fresh state's scan has before it
-unfoldable pub markItems : Grammar → List Bool → List ℕ → List SheetItem
-markItems g set s = map marked (marker.items (marker.fresh (g .eol) (g .sep) (g .tab) set) set s)
-
-unfoldable pub numberedItems : Grammar → List Bool → List ℕ → List SheetItem
-numberedItems g set s = map counted (numbered.items (numbered.fresh (g .eol) (g .sep) (g .tab) set) set s)
-
--- marker items and numbered items in one list: "by rising content start, the marker item first where two are equal"
-unfoldable pub merge : List SheetItem → List SheetItem → List SheetItem
-merge [] ys = ys
-merge (x ∷ xs) [] = x ∷ xs
-merge (x ∷ xs) (y ∷ ys) = elim (ltb (y .start) (x .start)) [ true ↦ y ∷ merge (x ∷ xs) ys | false ↦ x ∷ merge xs (y ∷ ys) ]
-
 -- ---- those that are shown
--- the place that decides: the "content start"
-abbrev pub placeOf : SheetItem → ℕ
-placeOf i = i .start
-
 -- whether a place is "inside a region"
 unfoldable pub inside : List (List ℕ) → ℕ → Bool
 inside [] p = false

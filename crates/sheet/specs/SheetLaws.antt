@@ -14,15 +14,16 @@ use Rattle.common.specs.Entry.{flatten, rows, room, Written}
 use Rattle.common.specs.EntryLaws.{length-flatten, room-fits, written-none, written-size, written-room, written-put, written-all}
 use Rattle.common.specs.declared.refusal.Answer.{Answer}
 use Rattle.common.specs.declared.grammar.Grammar.{Grammar}
-use Rattle.context.specs.Shape.{misshapen}
-use Rattle.context.specs.ShapeLaws.{shape-fits, shape-order}
+use Rattle.cover.specs.Shape.{misshapen}
+use Rattle.cover.specs.ShapeLaws.{shape-fits, shape-order}
 use Rattle.sheet.specs.Sheet.{five, outside, sheetOf, full, sheetAnswer, sheetList, Sheeted}
-use Rattle.sheet.specs.Feeds.{begun}
-use Rattle.sheet.specs.FeedLaws.{started}
-use Rattle.sheet.specs.Parts.{Put, ahead, Started, left, Ready, Turned, Wrote, Filled}
+use Rattle.feed.specs.Feeds.{begun}
+use Rattle.feed.specs.FeedLaws.{started}
+use Rattle.feed.specs.Ahead.{ahead, Started}
+use Rattle.sheet.specs.Parts.{Put, left, Ready, Turned, Wrote, Filled}
 use Rattle.sheet.specs.RunLaws.{items-few, places-rise, outside-few}
-use Rattle.sheet.specs.declared.item.SheetItem.{SheetItem}
-use Rattle.sheet.specs.declared.feed.Feed.{Feed}
+use Rattle.feed.specs.declared.item.SheetItem.{SheetItem}
+use Rattle.feed.specs.declared.Feed.{Feed}
 use Rattle.sheet.specs.declared.item.Seen.the-variants as seen
 use Rattle.sheet.specs.declared.Walk.{Walk}
 use Rattle.sheet.specs.declared.Step.{Step}

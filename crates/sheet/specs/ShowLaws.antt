@@ -12,16 +12,18 @@ use Rattle.common.specs.Refusals.{Outcome, toldFound}
 use Rattle.common.specs.Entry.{rows}
 use Rattle.common.specs.declared.refusal.Found.{Found}
 use Rattle.common.specs.declared.refusal.Found.the-variants as found
-use Rattle.context.specs.Cursor.{coverAnswer, coverNext, covers, coverage, Rising, Ended}
-use Rattle.context.specs.CursorLaws.{query-ended}
-use Rattle.context.specs.declared.cursor.Cover.{Cover}
-use Rattle.sheet.specs.Sheet.{placeOf, inside, outside}
-use Rattle.sheet.specs.Feeds.{taken}
-use Rattle.sheet.specs.FeedLaws.{took}
-use Rattle.sheet.specs.Parts.{ahead, Took, Orderly, isAt, Hid, left, Ready, Turned}
-use Rattle.sheet.specs.declared.item.SheetItem.{SheetItem}
-use Rattle.sheet.specs.declared.feed.Head.the-variants as head
-use Rattle.sheet.specs.declared.feed.Taken.{Taken}
+use Rattle.cover.specs.Cursor.{coverAnswer, coverNext, covers, coverage, Rising, Ended}
+use Rattle.cover.specs.CursorLaws.{query-ended}
+use Rattle.cover.specs.declared.cursor.Cover.{Cover}
+use Rattle.feed.specs.Items.{placeOf}
+use Rattle.sheet.specs.Sheet.{inside, outside}
+use Rattle.feed.specs.Feeds.{taken}
+use Rattle.feed.specs.FeedLaws.{took}
+use Rattle.feed.specs.Ahead.{ahead, Took}
+use Rattle.sheet.specs.Parts.{Orderly, isAt, Hid, left, Ready, Turned}
+use Rattle.feed.specs.declared.item.SheetItem.{SheetItem}
+use Rattle.feed.specs.declared.Head.the-variants as head
+use Rattle.feed.specs.declared.Taken.{Taken}
 use Rattle.sheet.specs.declared.Walk.{Walk}
 use Rattle.sheet.specs.declared.Query.{Query}
 use Rattle.sheet.specs.declared.item.Seen.the-variants as seen

@@ -1,22 +1,21 @@
 // The work sheet: the marker and numbered items of a text that no region of a list hides, by rising content start. Both scanners and the
 // list's cursor move forward together, so that the text and the list are passed once.
-pub mod feed; // both scanners as one run of items
-pub mod item; // the sheet's items
+pub mod item; // an item as a turn finds it, and written
 
 use common::grammar::Grammar;
 use common::refusal::Answer;
 use common::refusal::Found;
 use common::refusal::Refusal;
 use common::span::MAX_INPUT_LEN;
-use context::cursor::covering_end;
-use context::shape::is_misshapen;
+use cover::cursor::covering_end;
+use cover::shape::is_misshapen;
 use feed::Feed;
 use feed::Head;
+use feed::item::SheetItem;
+use feed::item::place_of;
 use feed::start;
 use feed::take;
 use item::Seen;
-use item::SheetItem;
-use item::place_of;
 use item::put_item;
 ghost use mathlib.Core.Path.{_≡_};
 ghost use mathlib.Core.Bool.{false};
@@ -25,9 +24,10 @@ ghost use lib.ListN.{length};
 ghost use Rattle.search.specs.Promise.{Gives};
 ghost use Rattle.common.specs.Entry.{room};
 ghost use Rattle.common.specs.Refusals.{told};
-ghost use Rattle.context.specs.Cursor.{Ended};
-ghost use Rattle.context.specs.Shape.{misshapen};
-ghost use Rattle.sheet.specs.Sheet.{placeOf, sheetOf, Sheeted};
+ghost use Rattle.cover.specs.Cursor.{Ended};
+ghost use Rattle.cover.specs.Shape.{misshapen};
+ghost use Rattle.feed.specs.Items.{placeOf};
+ghost use Rattle.sheet.specs.Sheet.{sheetOf, Sheeted};
 ghost use Rattle.sheet.specs.Parts.{isAt, Orderly, Hid, Ready, left, Turned, Wrote, Filled};
 
 // Whether an item is hidden, and the cursor's next index.

@@ -9,7 +9,7 @@ use Rattle.region.specs.Region.{pair}
 use Rattle.rules.specs.Grammar.{Gram}
 use Rattle.region.specs.Regions.{regions}
 use Rattle.region.specs.NextLaws.{regionsFrom}
-use Rattle.context.specs.Cursor.{covers}
+use Rattle.cover.specs.Cursor.{covers}
 use Rattle.sheet.specs.Sheet.{inside}
 use Rattle.sheeting.specs.declared.hiding.Hider.{Hider}
 

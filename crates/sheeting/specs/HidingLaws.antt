@@ -13,7 +13,7 @@ use Rattle.rules.specs.Grammar.{Gram}
 use Rattle.region.specs.Regions.{nextRegion, regions}
 use Rattle.region.specs.Ahead.{regionTurn-ahead, collect-in-order}
 use Rattle.region.specs.NextLaws.{regionsFrom, from-start, next-none, next-some, next-ahead}
-use Rattle.context.specs.Cursor.{covers}
+use Rattle.cover.specs.Cursor.{covers}
 use Rattle.region.specs.Views.{viewNext, placed}
 use Rattle.region.specs.declared.Region.{Region as Told}
 use Rattle.region.specs.declared.Next.{Next}

@@ -13,10 +13,12 @@ use Rattle.common.specs.declared.grammar.Grammar.{Grammar}
 use Rattle.region.specs.Region.{Caused, pair}
 use Rattle.rules.specs.Grammar.{Gram}
 use Rattle.region.specs.Regions.{regions}
-use Rattle.context.specs.Cursor.{Rising}
-use Rattle.sheet.specs.Sheet.{five, placeOf, outside, sheetOf}
-use Rattle.sheet.specs.Parts.{Within, ahead, seenThen, Beyond}
-use Rattle.sheet.specs.declared.item.SheetItem.{SheetItem}
+use Rattle.cover.specs.Cursor.{Rising}
+use Rattle.feed.specs.Items.{placeOf}
+use Rattle.sheet.specs.Sheet.{five, outside, sheetOf}
+use Rattle.feed.specs.Ahead.{Within, ahead}
+use Rattle.sheet.specs.Parts.{seenThen, Beyond}
+use Rattle.feed.specs.declared.item.SheetItem.{SheetItem}
 use Rattle.cells.specs.Bytes.{four}
 use Rattle.cells.specs.Reply.{Laid}
 use Rattle.cells.specs.Poured.{PouredAs, BuiltAs, builtBy}

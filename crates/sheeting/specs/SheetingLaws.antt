@@ -17,22 +17,23 @@ use Rattle.region.specs.Region.{pair}
 use Rattle.rules.specs.Grammar.{Gram}
 use Rattle.region.specs.Regions.{regions}
 use Rattle.rules.specs.Columns.{columns, gramOf}
-use Rattle.context.specs.BuildLaws.{pair-two}
+use Rattle.region.specs.LoopLaws.{pair-two}
 use Rattle.rules.specs.RuleTables.{ruleTables, gramOn}
 use Rattle.rules.specs.RuleTableLaws.{rule-tables-gram}
-use Rattle.context.specs.Cursor.{covers, Rising}
+use Rattle.cover.specs.Cursor.{covers, Rising}
 use Rattle.rules.specs.declared.rule_tables.RuleTables.{RuleTables}
-use Rattle.sheet.specs.Sheet.{five, placeOf, inside, outside, sheetOf}
-use Rattle.sheet.specs.Feeds.{begun, taken}
-use Rattle.sheet.specs.FeedLaws.{took, started}
-use Rattle.sheet.specs.Parts.{Started, Took, ahead}
+use Rattle.feed.specs.Items.{placeOf}
+use Rattle.sheet.specs.Sheet.{five, inside, outside, sheetOf}
+use Rattle.feed.specs.Feeds.{begun, taken}
+use Rattle.feed.specs.FeedLaws.{took, started}
+use Rattle.feed.specs.Ahead.{Started, Took, ahead}
 use Rattle.sheet.specs.ShowLaws.{outside-hidden, outside-shown}
 use Rattle.sheet.specs.RunLaws.{items-few, places-rise, outside-few}
-use Rattle.sheet.specs.declared.item.SheetItem.{SheetItem}
+use Rattle.feed.specs.declared.item.SheetItem.{SheetItem}
 use Rattle.sheet.specs.declared.item.Seen.the-variants as seen
-use Rattle.sheet.specs.declared.feed.Head.the-variants as head
-use Rattle.sheet.specs.declared.feed.Feed.{Feed}
-use Rattle.sheet.specs.declared.feed.Taken.{Taken}
+use Rattle.feed.specs.declared.Head.the-variants as head
+use Rattle.feed.specs.declared.Feed.{Feed}
+use Rattle.feed.specs.declared.Taken.{Taken}
 use Rattle.cells.specs.Bytes.{four, cells}
 use Rattle.cells.specs.Reply.{LaidIf, Replied}
 use Rattle.cells.specs.ReplyLaws.{laid-there}

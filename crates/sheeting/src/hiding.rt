@@ -5,7 +5,7 @@ use region::Next;
 use region::next_region;
 ghost use mathlib.Core.List.{[], _∷_};
 ghost use Rattle.search.specs.Promise.{Gives};
-ghost use Rattle.context.specs.Cursor.{covers};
+ghost use Rattle.cover.specs.Cursor.{covers};
 ghost use Rattle.rules.specs.Tables.{gramBy};
 ghost use Rattle.sheeting.specs.Hiding.{Stands, Passed};
 

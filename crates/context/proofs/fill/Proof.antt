@@ -1,5 +1,4 @@
 -- `fill` meets its contract. Assumes nothing.
-use mathlib.Core.Path.{refl}
 use Rattle.context.specs.BuildLaws.{fill-full, fill-counted, fill-roomy, room-counted, room-roomy}
 use borrow.Author.Needs.{needs}
 use Rattle.context.proofs.fill.Statement.{statement}

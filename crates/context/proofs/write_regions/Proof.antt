@@ -4,8 +4,8 @@ use Prim.Native.Nat.{_-_}
 use lib.ListN.{length}
 use Rattle.rules.specs.Tables.{gramBy}
 use Rattle.region.specs.Region.{pair}
-use Rattle.region.specs.LoopLaws.{Pouring, pouring-first, pouring-less, pouring-same}
-use Rattle.context.specs.BuildLaws.{pair-two, writes-puts, writes-next, writes-end}
+use Rattle.region.specs.LoopLaws.{pair-two, Pouring, pouring-first, pouring-less, pouring-same}
+use Rattle.context.specs.BuildLaws.{writes-puts, writes-next, writes-end}
 use Rattle.context.proofs.write_regions.Statement.{statement}
 use Rattle.context.proofs.write_regions.Tie as tie
 

@@ -1,6 +1,5 @@
 -- `blank_before` meets its contract: a loop that runs back by a test. Assumes nothing.
 use borrow.Author.Needs.{needs}
-use Prim.Native.Nat.{_-_}
 use Rattle.search.specs.Search.{either}
 use Rattle.search.specs.SearchLaws.{Backs, back-rules}
 use Rattle.search.proofs.blank_before.Statement.{statement}

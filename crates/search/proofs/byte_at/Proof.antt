@@ -1,7 +1,6 @@
 -- `byte_at` meets its contract. Assumes nothing.
-use mathlib.Core.Path.{sym}
-use lib.ListN.{List·getD-eq-default}
 use borrow.Author.Needs.{needs}
+use Rattle.search.specs.SearchLaws.{past-end}
 use Rattle.search.proofs.byte_at.Statement.{statement}
 use Rattle.search.proofs.byte_at.Tie as tie
 
@@ -12,7 +11,7 @@ returns : tie.Need-returns
 returns c = search needs
 
 returns-2 : tie.Need-returns-2
-returns-2 c = let s = c .before .args in record { answer = sym (List·getD-eq-default (s .src .now) 0 {n = s .i} (c .if1 .left)) }
+returns-2 c = search past-end
 
 pub byte-at-spec : {M : Type 1} → statement M
 byte-at-spec = tie.close (tie.spec shared-slice-read-result returns returns-2)

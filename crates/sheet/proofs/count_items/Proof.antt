@@ -1,7 +1,8 @@
 -- `count_items` meets its contract: a loop of turns that counts. Assumes nothing.
 use borrow.Author.Needs.{needs}
 use lib.ListN.{length}
-use Rattle.sheet.specs.Parts.{ahead, left}
+use Rattle.feed.specs.Ahead.{ahead}
+use Rattle.sheet.specs.Parts.{left}
 use Rattle.sheet.specs.SheetLaws.{Tallied, tally-first, tally-end, tally-hidden, tally-shown, less-hidden, less-shown}
 use Rattle.sheet.proofs.count_items.Statement.{statement}
 use Rattle.sheet.proofs.count_items.Tie as tie

@@ -1,7 +1,8 @@
 -- `write_items` meets its contract: a loop of turns that writes. Assumes nothing.
 use borrow.Author.Needs.{needs}
 use lib.ListN.{length}
-use Rattle.sheet.specs.Parts.{ahead, left}
+use Rattle.feed.specs.Ahead.{ahead}
+use Rattle.sheet.specs.Parts.{left}
 use Rattle.sheet.specs.SheetLaws.{Writing, write-first, write-end, write-hidden, write-room, write-shown, write-long, less-hidden, less-shown}
 use Rattle.sheet.proofs.write_items.Statement.{statement}
 use Rattle.sheet.proofs.write_items.Tie as tie

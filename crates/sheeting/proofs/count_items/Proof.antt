@@ -2,7 +2,7 @@
 use borrow.Author.Needs.{needs}
 use lib.ListN.{length}
 use Rattle.rules.specs.Tables.{gramBy}
-use Rattle.sheet.specs.Parts.{ahead}
+use Rattle.feed.specs.Ahead.{ahead}
 use Rattle.sheeting.specs.Sheeting.{left}
 use Rattle.sheeting.specs.SheetingLaws.{Tallied, tally-first, tally-end, tally-hidden, tally-shown, less-hidden, less-shown}
 use Rattle.sheeting.proofs.count_items.Statement.{statement}

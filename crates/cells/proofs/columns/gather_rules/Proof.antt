@@ -3,8 +3,8 @@ use borrow.Author.Needs.{needs}
 use mathlib.Core.Path.{_≡_}
 use Prim.Native.Nat.{_-_, _/_}
 use lib.ListN.{length, take}
-use Rattle.context.specs.Records.{ruleBytes, ruleMins, gatheredOf}
-use Rattle.context.specs.RecordLaws.{gather-first}
+use Rattle.rules.specs.Records.{ruleBytes, ruleMins, gatheredOf}
+use Rattle.rules.specs.RecordLaws.{gather-first}
 use Rattle.cells.specs.ByteRules.{rulesOf}
 use Rattle.cells.specs.RuleLaws.{rules-again, rules-all}
 use Rattle.cells.proofs.columns.gather_rules.Statement.{statement}

@@ -1,5 +1,5 @@
 -- `content` meets its contract. Assumes nothing.
-use Rattle.common.specs.LeafLaws.{stretch-order, stretch-inside, stretch-bytes}
+use Rattle.common.specs.ContentLaws.{stretch-order, stretch-inside, stretch-bytes}
 use borrow.Author.Needs.{needs}
 use Rattle.common.proofs.span.content.Statement.{statement}
 use Rattle.common.proofs.span.content.Tie as tie

@@ -1,5 +1,5 @@
 -- `content_bounds` meets its contract. Assumes nothing.
-use Rattle.common.specs.LeafLaws.{stretch-own, stretch-past, stretch-turned}
+use Rattle.common.specs.ContentLaws.{stretch-own, stretch-past, stretch-turned}
 use borrow.Author.Needs.{needs}
 use Rattle.common.proofs.span.content_bounds.Statement.{statement}
 use Rattle.common.proofs.span.content_bounds.Tie as tie

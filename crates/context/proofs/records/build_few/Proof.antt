@@ -1,8 +1,8 @@
 -- `build_few` meets its contract: a walk of its MIR, by hand. The records are copied to a local, of which the first ones are lent for a lifetime that ends after the call of `build_records`.
 -- All that the walk knows of `lesser` and of `build_records` is that each meets its contract. The shared runs are Copy: what each owns is had twice, for the call and for the exit.
 -- Assumes nothing.
-use Prim.Native.Nat.{ℕ, zero, suc, _+_, _*_, _≤_, _<_, _^_, min}
-use mathlib.Core.Path.{_≡_, refl, sym, ap, subst, _∙_}
+use Prim.Native.Nat.{ℕ, zero, suc, _+_, _<_, _^_, min}
+use mathlib.Core.Path.{_≡_, refl, sym, ap, subst}
 use mathlib.Core.List.{List, [], _∷_}
 use native.Mathlib.Omega.{arith}
 use lib.Dec.{lit<}
@@ -61,11 +61,11 @@ use Rattle.common.proofs.refusal.Answer as S
 use Rattle.common.proofs.refusal.Answer.Laws as S′
 use Rattle.rules.specs.Columns.{columns}
 use Rattle.context.specs.Build.{Built}
-use Rattle.context.specs.Records.{ruleBytes, ruleMins}
+use Rattle.rules.specs.Records.{ruleBytes, ruleMins}
 use Rattle.context.specs.RecordLaws.{take-few}
-use Rattle.context.specs.declared.records.FenceRule.{FenceRule}
-use Rattle.context.proofs.records.FenceRule as R
-use Rattle.context.proofs.records.FenceRule.Laws as R′
+use Rattle.rules.specs.declared.records.FenceRule.{FenceRule}
+use Rattle.rules.proofs.records.FenceRule as R
+use Rattle.rules.proofs.records.FenceRule.Laws as R′
 use Rattle.search.proofs.lesser as les
 use Rattle.search.proofs.lesser.Symbol as les-def
 use Rattle.search.proofs.lesser.Symbol.{name as #les}

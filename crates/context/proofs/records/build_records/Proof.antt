@@ -47,18 +47,18 @@ use Rattle.common.proofs.grammar.Grammar.Laws as G′
 use Rattle.common.proofs.refusal.Answer as S
 use Rattle.common.proofs.refusal.Answer.Laws as S′
 use Rattle.rules.specs.Columns.{columns}
-use Rattle.context.specs.Build.{Built}
-use Rattle.context.specs.Records.{ruleBytes, ruleMins, gatheredOf, BuiltFor}
+use Rattle.context.specs.Build.{Built, BuiltFor}
+use Rattle.rules.specs.Records.{ruleBytes, ruleMins, gatheredOf}
 use Rattle.context.specs.RecordLaws.{records-built}
-use Rattle.context.specs.declared.records.FenceRule.{FenceRule}
-use Rattle.context.specs.declared.records.Gathered.{Gathered}
-use Rattle.context.proofs.records.FenceRule as R
-use Rattle.context.proofs.records.Gathered as F
-use Rattle.context.proofs.records.Gathered.Laws as F′
-use Rattle.context.proofs.records.gather as all
-use Rattle.context.proofs.records.gather.Symbol as all-def
-use Rattle.context.proofs.records.gather.Symbol.{name as #all}
-use Rattle.context.proofs.records.gather.Met as all-thm
+use Rattle.rules.specs.declared.records.FenceRule.{FenceRule}
+use Rattle.rules.specs.declared.records.Gathered.{Gathered}
+use Rattle.rules.proofs.records.FenceRule as R
+use Rattle.rules.proofs.records.Gathered as F
+use Rattle.rules.proofs.records.Gathered.Laws as F′
+use Rattle.rules.proofs.records.gather as all
+use Rattle.rules.proofs.records.gather.Symbol as all-def
+use Rattle.rules.proofs.records.gather.Symbol.{name as #all}
+use Rattle.rules.proofs.records.gather.Met as all-thm
 use Rattle.context.proofs.records.build_gathered as bg
 use Rattle.context.proofs.records.build_gathered.Symbol as bg-def
 use Rattle.context.proofs.records.build_gathered.Symbol.{name as #bg}
@@ -281,5 +281,5 @@ build-records-spec 𝓤 H 𝓜 𝓖 𝓡 =
     entered 𝓤 H (tripleOf 𝓤 H (𝓖 .A) me.signature (me.spec 𝓤 H (𝓖 .A) (𝓜 .mem) (𝓡 .run)))
     (tables 𝓤 H 𝓜 𝓡 code.env .C) (tables 𝓤 H 𝓜 𝓡 code.env .Λ) #build-records code.function (code.unfolded 𝓤 H 𝓜 𝓡)
     (me-meets 𝓤 H (𝓖 .A) (givenOf 𝓤 H 𝓜 𝓖) (𝓜 .mem) (𝓡 .run) (tablesOf 𝓤 H 𝓜 (tables 𝓤 H 𝓜 𝓡 code.env))
-    (cited 𝓤 H (All 𝓤 H (𝓖 .A) (𝓜 .mem) (𝓡 .run)) 𝓜 𝓡 code.env #all all-def.routine code.calls-context·records·gather (all-thm.met 𝓤 H 𝓜 𝓖 𝓡))
+    (cited 𝓤 H (All 𝓤 H (𝓖 .A) (𝓜 .mem) (𝓡 .run)) 𝓜 𝓡 code.env #all all-def.routine code.calls-rules·records·gather (all-thm.met 𝓤 H 𝓜 𝓖 𝓡))
     (cited 𝓤 H (Bg 𝓤 H (𝓖 .A) (𝓜 .mem) (𝓡 .run)) 𝓜 𝓡 code.env #bg bg-def.routine code.calls-context·records·build-gathered (bg-thm.met 𝓤 H 𝓜 𝓖 𝓡)))

@@ -1,7 +1,7 @@
 -- `query` meets its contract: a loop over the regions. Assumes nothing.
 use borrow.Author.Needs.{needs}
 use Prim.Native.Nat.{_-_}
-use Rattle.context.specs.CursorLaws.{Passes, passes-first}
+use Rattle.cover.specs.CursorLaws.{Passes, passes-first}
 use Rattle.cells.specs.Bytes.{cells}
 use Rattle.panel.specs.CoveredLaws.{query-full, query-again, query-here, query-end}
 use Rattle.panel.proofs.covered.query.Statement.{statement}

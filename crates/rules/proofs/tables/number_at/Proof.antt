@@ -1,5 +1,5 @@
 -- `number_at` meets its contract. Assumes nothing.
-use Rattle.rules.specs.ColumnLaws.{past-end}
+use Rattle.search.specs.SearchLaws.{past-end}
 use borrow.Author.Needs.{needs}
 use Rattle.rules.proofs.tables.number_at.Statement.{statement}
 use Rattle.rules.proofs.tables.number_at.Tie as tie

@@ -1,6 +1,5 @@
 -- `open_tables` meets its contract: the tables are filled from the last rule to the first. Assumes nothing.
 use borrow.Author.Needs.{needs}
-use mathlib.Core.Path.{refl}
 use Rattle.rules.specs.Grammar.{plain}
 use Rattle.rules.specs.ColumnLaws.{RulesFilled, opener, open-first, open-again, open-all}
 use Rattle.rules.proofs.tables.open_tables.Statement.{statement}

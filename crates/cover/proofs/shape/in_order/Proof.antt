@@ -1,0 +1,73 @@
+-- `in_order` meets its contract: a loop over rows that tests their places. Assumes nothing.
+use borrow.Author.Needs.{needs}
+use Prim.Native.Nat.{_-_}
+use Rattle.common.specs.Entry.{Shaping}
+use Rattle.common.specs.EntryLaws.{shaping-first, shaping-end}
+use Rattle.cover.specs.ShapeLaws.{tested-again, tested-early, tested-empty, tested-long}
+use Rattle.cover.proofs.shape.in_order.Statement.{statement}
+use Rattle.cover.proofs.shape.in_order.Tie as tie
+
+abbrev Inv-loop : tie.InvT-loop
+Inv-loop list count len low₀ k₀ low k = Shaping 2 list count len 0 k low
+
+abbrev μ-loop : tie.MeasureT-loop
+μ-loop list count len low₀ k₀ low k = count - k
+
+loop-holds : tie.Need-loop-holds Inv-loop μ-loop
+loop-holds c = shaping-first tt
+
+mul-number : tie.Need-mul-number Inv-loop μ-loop
+mul-number c = search needs
+
+number-requires : tie.Need-number-requires Inv-loop μ-loop
+number-requires c κs = search needs
+
+mul-number-2 : tie.Need-mul-number-2 Inv-loop μ-loop
+mul-number-2 c = search needs
+
+add-number : tie.Need-add-number Inv-loop μ-loop
+add-number c = search needs
+
+number-requires-2 : tie.Need-number-requires-2 Inv-loop μ-loop
+number-requires-2 c κs = search needs
+
+returns : tie.Need-returns Inv-loop μ-loop
+returns c = search tested-early
+
+returns-2 : tie.Need-returns-2 Inv-loop μ-loop
+returns-2 c = search tested-empty
+
+returns-3 : tie.Need-returns-3 Inv-loop μ-loop
+returns-3 c = search tested-long
+
+add-k : tie.Need-add-k Inv-loop μ-loop
+add-k c = search needs
+
+loop-less : tie.Need-loop-less Inv-loop μ-loop
+loop-less c = search needs
+
+loop-again : tie.Need-loop-again Inv-loop μ-loop
+loop-again c = search tested-again
+
+returns-4 : tie.Need-returns-4 Inv-loop μ-loop
+returns-4 c = search shaping-end
+
+pub in-order-spec : {M : Type 1} → statement M
+in-order-spec =
+    tie.close
+    (tie.spec
+    Inv-loop
+    μ-loop
+    loop-holds
+    mul-number
+    number-requires
+    mul-number-2
+    add-number
+    number-requires-2
+    returns
+    returns-2
+    returns-3
+    add-k
+    loop-less
+    loop-again
+    returns-4)

@@ -1,0 +1,4 @@
+pub mod Cursor
+pub mod Shape
+pub mod CursorLaws
+pub mod ShapeLaws

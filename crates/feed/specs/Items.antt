@@ -1,0 +1,36 @@
+-- The items of a work sheet, and both scanners' in one list. Assumes nothing.
+-- The page: "It holds the marker and numbered items, both scanned from place 0 … by rising content start, the marker item first where two
+-- are equal.", and of an item "kind (0 marker, 1 numbered), accepted byte, number (0 for a marker)".
+use mathlib.Core.Bool.{Bool, true, false}
+use mathlib.Core.List.{List, [], _∷_, map}
+use Prim.Native.Nat.{ℕ}
+use lib.Dec.{ltb}
+use Rattle.common.specs.declared.grammar.Grammar.{Grammar}
+use Rattle.block_marker.specs.Marker as marker
+use Rattle.block_marker.specs.declared.MarkerItem.{MarkerItem}
+use Rattle.block_numbered.specs.Numbered as numbered
+use Rattle.block_numbered.specs.declared.NumberedItem.{NumberedItem}
+use Rattle.feed.specs.declared.item.SheetItem.{SheetItem}
+
+abbrev pub marked : MarkerItem → SheetItem
+marked i = record { start = i .span .start; end = i .span .end; kind = 0; byte = i .marker; number = 0 }
+
+abbrev pub counted : NumberedItem → SheetItem
+counted i = record { start = i .span .start; end = i .span .end; kind = 1; byte = i .delimiter; number = i .number }
+
+-- "the marker and numbered items, both scanned from place 0": all that a fresh state's scan has before it
+unfoldable pub markItems : Grammar → List Bool → List ℕ → List SheetItem
+markItems g set s = map marked (marker.items (marker.fresh (g .eol) (g .sep) (g .tab) set) set s)
+
+unfoldable pub numberedItems : Grammar → List Bool → List ℕ → List SheetItem
+numberedItems g set s = map counted (numbered.items (numbered.fresh (g .eol) (g .sep) (g .tab) set) set s)
+
+-- marker items and numbered items in one list: "by rising content start, the marker item first where two are equal"
+unfoldable pub merge : List SheetItem → List SheetItem → List SheetItem
+merge [] ys = ys
+merge (x ∷ xs) [] = x ∷ xs
+merge (x ∷ xs) (y ∷ ys) = elim (ltb (y .start) (x .start)) [ true ↦ y ∷ merge (x ∷ xs) ys | false ↦ x ∷ merge xs (y ∷ ys) ]
+
+-- the place that decides: the "content start"
+abbrev pub placeOf : SheetItem → ℕ
+placeOf i = i .start

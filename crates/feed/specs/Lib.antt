@@ -1,0 +1,4 @@
+pub mod Items
+pub mod Ahead
+pub mod Feeds
+pub mod FeedLaws

@@ -1,0 +1,19 @@
+// The items of a work sheet, from both scanners.
+ghost use Rattle.search.specs.Promise.{Gives};
+ghost use Rattle.feed.specs.Items.{placeOf};
+
+// Where the content starts and ends, the kind (0 marker, 1 numbered), the accepted byte, and the number (0 for a marker).
+pub struct SheetItem {
+    pub start: u32,
+    pub end: u32,
+    pub kind: u32,
+    pub byte: u8,
+    pub number: u32,
+}
+
+// The place that a region hides an item by.
+pub fn place_of(item: SheetItem) -> usize
+    ensures { λ r. ⌜ Gives (placeOf item) r ⌝ }
+{
+    item.start as usize
+}
