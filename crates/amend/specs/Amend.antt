@@ -3,14 +3,13 @@
 -- region starting before k ends at k or later. An amendment takes the old text and list, two cuts and the replacement, and writes to a
 -- second list: …"
 use mathlib.Core.Path.{_≡_}
-use mathlib.Core.Bool.{Bool, true, false, not, _||_, _&&_}
+use mathlib.Core.Bool.{Bool, true, false, not, _&&_}
 use mathlib.Core.List.{List, [], _∷_, _++_, map}
 use mathlib.Core.Logic.{_⊎_}
 use Prim.Native.Nat.{ℕ, _+_, _-_, _≤_, _<_}
-use lib.Dec.{eqb, leb}
 use lib.ListN.{length, getD, take, drop}
-use Rattle.search.specs.Search.{is, holds}
 use Rattle.region.specs.Region.{Region, move, up, reaches, keepBefore, keepFrom, InOrder}
+use Rattle.joint.specs.Joint.{afterEmptyLine}
 
 -- ---- edits
 -- "two cuts and the replacement": it takes the place of the bytes from the first cut up to the second
@@ -37,10 +36,6 @@ relist build q n (e ∷ es) l =
     map (move (λ x. x + n - q)) (keepBefore (e .first) (keepFrom q l)) ++ (up (n + (e .first - q)) (build (e .text)) ++ relist build (e .second) (n + (e .first - q) + length (e .text)) es l)
 
 -- ---- where an amendment may cut
--- "place 0, or a place k of at least 2 whose two preceding bytes are line ends"
-abbrev pub afterEmptyLine : ℕ → List ℕ → ℕ → Bool
-afterEmptyLine eol s k = eqb k 0 || (leb 2 k && (holds (is eol) s (k - 1) && holds (is eol) s (k - 2)))
-
 -- "A joint of a text with its list: … where no region starting before k ends at k or later."
 unfoldable pub joint : {T : Type 0} → ℕ → List ℕ → List (Region T) → ℕ → Bool
 joint eol s l k = afterEmptyLine eol s k && not (reaches k l)

@@ -24,11 +24,12 @@ use Rattle.rules.specs.Columns.{unequal}
 use Rattle.rules.specs.RuleTables.{ruleTables, gramOn}
 use Rattle.rules.specs.RuleTableLaws.{rule-tables-gram}
 use Rattle.rules.specs.declared.rule_tables.RuleTables.{RuleTables}
-use Rattle.amend.specs.Amend.{Edit, afterEmptyLine, joint}
+use Rattle.joint.specs.Joint.{afterEmptyLine, marks}
+use Rattle.amend.specs.Amend.{Edit, joint}
 use Rattle.amend.specs.Local.{usesLineEnd}
 use Rattle.cover.specs.Shape.{misshapen}
 use Rattle.amend.specs.Amended.{listed, plainRegions, edit, edited, follows, miscut, offJoint, amendedAnswer, Amended}
-use Rattle.amend.specs.Parts.{marks, judged, said, Judged, Ready, settledAnswer, Settled}
+use Rattle.amend.specs.Parts.{judged, said, Judged, Ready, settledAnswer, Settled}
 use Rattle.amend.specs.RowLaws.{orderly-told}
 use Rattle.amend.specs.JudgeLaws.{edited-length}
 use Rattle.amend.specs.declared.Verdict.{Verdict}

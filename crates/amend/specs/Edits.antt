@@ -13,7 +13,8 @@ use borrow.Author.Tests.{ltb-true, ltb-false, leb-true, eqb-true, not-true}
 use Rattle.search.specs.Search.{is, holds}
 use Rattle.search.specs.SearchLaws.{decide, clash, and-true, is-true, holds-true, neither}
 use Rattle.region.specs.Region.{Region, move, up, reaches, keepBefore, keepFrom}
-use Rattle.amend.specs.Amend.{Edit, part, finished, relist, afterEmptyLine, joint, Joint, Sound, Fits, none, last, next, Blank, Joins}
+use Rattle.joint.specs.Joint.{afterEmptyLine}
+use Rattle.amend.specs.Amend.{Edit, part, finished, relist, joint, Joint, Sound, Fits, none, last, next, Blank, Joins}
 use Rattle.amend.specs.Lists.{up-append, up-up, up-zero, move-up, stay, reaches-append, reaches-up, reaches-zero, before-all, from-all, from-none, from-zero, before-up}
 
 -- ---- what the test of a joint tells

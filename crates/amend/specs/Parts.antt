@@ -1,18 +1,16 @@
 -- What the parts of an amendment ask and promise. Assumes nothing.
 -- The page's sentences stand in Amended.antt; here are its parts, a function each.
 use mathlib.Core.Path.{_≡_}
-use mathlib.Core.Bool.{Bool, false, not, _||_, _&&_}
+use mathlib.Core.Bool.{Bool, false, _||_}
 use mathlib.Core.List.{List, [], _∷_, _++_, map}
 use Prim.Native.Nat.{ℕ, _+_, _-_, _*_, _≤_}
 use lib.ListN.{length, drop}
-use Rattle.search.specs.Search.{is}
-use Rattle.common.specs.Rules.{hasRule}
 use Rattle.common.specs.Entry.{flatten, over, putAt}
 use Rattle.common.specs.Refusals.{Outcome, given, refused, refuse, tooLong, numberOf}
 use Rattle.region.specs.Region.{Region, Plain, pair, move, up, reaches, InOrder}
 use Rattle.rules.specs.Grammar.{Gram}
 use Rattle.region.specs.Regions.{regions}
-use Rattle.amend.specs.Amend.{Edit, afterEmptyLine}
+use Rattle.amend.specs.Amend.{Edit}
 use Rattle.cover.specs.Shape.{misshapen}
 use Rattle.amend.specs.Amended.{listed, plainRegions, edited, amendedRegions, miscut, offJoint, leftOpen, crowded, leaves}
 use Rattle.amend.specs.declared.Verdict.{Verdict}
@@ -64,14 +62,6 @@ pub record Owns {T : Type 0} (l : List (Region T)) (s : List ℕ) (by : ℕ) (ou
   pub room : row * 2 + length l * 2 ≤ length out
 
 -- ---- refusals
--- whether the line end escapes or opens
-abbrev pub marks : ℕ → ℕ → List ℕ → List ℕ → Bool
-marks eol escape symmetric openers = is eol escape || (hasRule symmetric eol || hasRule openers eol)
-
--- whether old text follows a replacement whose end is open
-abbrev pub openEnd : ℕ → Bool → List ℕ → Bool → Bool
-openEnd eol follows r reaching = follows && not (afterEmptyLine eol r (length r) && not reaching)
-
 -- the refusals that the lengths, the list, the cuts and the bytes before them decide, else what follows
 unfoldable pub judged : ℕ → List ℕ → List ℕ → ℕ → Edit → Bool → Bool → Outcome → Outcome
 judged eol s l n e unequal marked o =

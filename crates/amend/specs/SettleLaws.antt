@@ -18,9 +18,10 @@ use Rattle.region.specs.LoopLaws.{pair-two}
 use Rattle.rules.specs.Grammar.{Gram}
 use Rattle.region.specs.Regions.{regions}
 use Rattle.region.specs.Ahead.{regions-few}
-use Rattle.amend.specs.Amend.{afterEmptyLine, joint}
+use Rattle.joint.specs.Joint.{afterEmptyLine, openEnd}
+use Rattle.amend.specs.Amend.{joint}
 use Rattle.amend.specs.Amended.{listed, plainRegions, edit, amendedRegions, leftOpen, crowded}
-use Rattle.amend.specs.Parts.{Orderly, between, Laid, Copies, Copied, Owns, surveyed, openEnd, Ready, settledAnswer, Settled, parts, Roomy, Merged}
+use Rattle.amend.specs.Parts.{Orderly, between, Laid, Copies, Copied, Owns, surveyed, Ready, settledAnswer, Settled, parts, Roomy, Merged}
 use Rattle.amend.specs.Lists.{stay, drop-up, drop-reaches}
 use Rattle.amend.specs.Starts.{order-longer, order-take, before-take, from-drop, order-from, before-few, unless-end}
 use Rattle.amend.specs.RowLaws.{orderly-longer, listed-length, listed-take, listed-drop, between-zero}

@@ -2,30 +2,13 @@
 use crate::rows::END;
 use crate::rows::number;
 use crate::rows::starts_before;
-use find::find_byte;
-use search::is_at;
+use joint::after_empty_line;
 ghost use lib.ListN.{length};
 ghost use Rattle.search.specs.Promise.{Gives};
 ghost use Rattle.region.specs.Region.{reaches};
-ghost use Rattle.amend.specs.Amend.{afterEmptyLine, joint};
+ghost use Rattle.amend.specs.Amend.{joint};
 ghost use Rattle.amend.specs.Amended.{listed, offJoint};
-ghost use Rattle.amend.specs.Parts.{Orderly, Fair, marks, openEnd};
-
-// Whether `k` is place 0, or at least 2 with two line ends just before it.
-pub(crate) fn after_empty_line(src: &[u8], k: usize, eol: u8) -> bool
-    ensures { λ r. ⌜ Gives (afterEmptyLine eol (now (src .entry)) k) r ⌝ }
-{
-    if k == 0 {
-        return true;
-    }
-    if k < 2 {
-        return false;
-    }
-    if is_at(src, k - 1, eol) {
-        return is_at(src, k - 2, eol);
-    }
-    false
-}
+ghost use Rattle.amend.specs.Parts.{Orderly, Fair};
 
 // Whether a region that starts before `k` ends at `k` or later: only the last of those can.
 fn reaches_place(list: &[u32], count: usize, k: usize) -> bool
@@ -75,31 +58,4 @@ pub(crate) fn is_off_joint(
         return true;
     }
     true
-}
-
-// Whether a replacement is open at its end where old text follows: it is not empty, and does not end in two line ends or has a region
-// that reaches its end.
-pub(crate) fn is_left_open(follows: bool, text: &[u8], reaching: bool, eol: u8) -> bool
-    ensures { λ r. ⌜ Gives (openEnd eol follows (now (text .entry)) reaching) r ⌝ }
-{
-    if follows {
-        if after_empty_line(text, text.len(), eol) {
-            return reaching;
-        }
-        return true;
-    }
-    false
-}
-
-// Whether a line end escapes, or opens a pair.
-pub(crate) fn marks_line_end(eol: u8, escape: u8, symmetric: &[u8], openers: &[u8]) -> bool
-    ensures { λ r. ⌜ Gives (marks eol escape (now (symmetric .entry)) (now (openers .entry))) r ⌝ }
-{
-    if escape == eol {
-        return true;
-    }
-    if find_byte(symmetric, 0, eol) < symmetric.len() {
-        return true;
-    }
-    find_byte(openers, 0, eol) < openers.len()
 }

@@ -1,8 +1,8 @@
 -- `marks_line_end` meets its contract. Assumes nothing.
 use borrow.Author.Needs.{needs}
-use Rattle.amend.specs.JointLaws.{marks-escape, marks-symmetric, marks-openers}
-use Rattle.amend.proofs.joints.marks_line_end.Statement.{statement}
-use Rattle.amend.proofs.joints.marks_line_end.Tie as tie
+use Rattle.joint.specs.JointLaws.{marks-escape, marks-symmetric, marks-openers}
+use Rattle.joint.proofs.marks_line_end.Statement.{statement}
+use Rattle.joint.proofs.marks_line_end.Tie as tie
 
 returns : tie.Need-returns
 returns c = search marks-escape

@@ -1,8 +1,8 @@
 -- `after_empty_line` meets its contract. Assumes nothing.
 use borrow.Author.Needs.{needs}
-use Rattle.amend.specs.JointLaws.{line-zero, line-one, line-two, line-not}
-use Rattle.amend.proofs.joints.after_empty_line.Statement.{statement}
-use Rattle.amend.proofs.joints.after_empty_line.Tie as tie
+use Rattle.joint.specs.JointLaws.{line-zero, line-one, line-two, line-not}
+use Rattle.joint.proofs.after_empty_line.Statement.{statement}
+use Rattle.joint.proofs.after_empty_line.Tie as tie
 
 returns : tie.Need-returns
 returns c = search line-zero

@@ -1,8 +1,8 @@
 -- `is_left_open` meets its contract. Assumes nothing.
 use borrow.Author.Needs.{needs}
-use Rattle.amend.specs.JointLaws.{open-none, open-line, open-reached}
-use Rattle.amend.proofs.joints.is_left_open.Statement.{statement}
-use Rattle.amend.proofs.joints.is_left_open.Tie as tie
+use Rattle.joint.specs.JointLaws.{open-none, open-line, open-reached}
+use Rattle.joint.proofs.is_left_open.Statement.{statement}
+use Rattle.joint.proofs.is_left_open.Tie as tie
 
 after-empty-line-requires : tie.Need-after-empty-line-requires
 after-empty-line-requires c κs = search needs
