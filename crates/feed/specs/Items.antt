@@ -12,12 +12,16 @@ use Rattle.block_numbered.specs.Numbered as numbered
 use Rattle.block_numbered.specs.declared.NumberedItem.{NumberedItem}
 use Rattle.feed.specs.declared.item.SheetItem.{SheetItem}
 
+-- ---- one item
+-- a marker item: "kind (0 marker …), accepted byte, number (0 for a marker)"
 abbrev pub marked : MarkerItem → SheetItem
 marked i = record { start = i .span .start; end = i .span .end; kind = 0; byte = i .marker; number = 0 }
 
+-- a numbered item: its kind is 1, the accepted byte its delimiter
 abbrev pub counted : NumberedItem → SheetItem
 counted i = record { start = i .span .start; end = i .span .end; kind = 1; byte = i .delimiter; number = i .number }
 
+-- ---- all of them
 -- "the marker and numbered items, both scanned from place 0": all that a fresh state's scan has before it
 unfoldable pub markItems : Grammar → List Bool → List ℕ → List SheetItem
 markItems g set s = map marked (marker.items (marker.fresh (g .eol) (g .sep) (g .tab) set) set s)

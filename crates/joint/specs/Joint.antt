@@ -13,7 +13,7 @@ abbrev pub afterEmptyLine : ℕ → List ℕ → ℕ → Bool
 afterEmptyLine eol s k = eqb k 0 || (leb 2 k && (holds (is eol) s (k - 1) && holds (is eol) s (k - 2)))
 
 -- 8: "old text follows a replacement that isn't empty, and that replacement doesn't end in two line ends or has, built alone, a region
--- reaching its end": whether old text follows, and whether a region reaches, are given
+-- reaching its end": whether old text follows, and whether a region reaches, are given (none reaches the end of an empty one)
 abbrev pub openEnd : ℕ → Bool → List ℕ → Bool → Bool
 openEnd eol follows r reaching = follows && not (afterEmptyLine eol r (length r) && not reaching)
 

@@ -20,8 +20,8 @@ pub fn after_empty_line(src: &[u8], k: usize, eol: u8) -> bool
     false
 }
 
-// Whether a replacement is open at its end where old text follows: it is not empty, and does not end in two line ends or has a region
-// that reaches its end.
+// Whether a replacement is open at its end where old text follows: it is not empty and does not end in two line ends, or a region is said
+// to reach its end.
 pub fn is_left_open(follows: bool, text: &[u8], reaching: bool, eol: u8) -> bool
     ensures { λ r. ⌜ Gives (openEnd eol follows (now (text .entry)) reaching) r ⌝ }
 {
