@@ -7,30 +7,26 @@ use mathlib.Core.List.{List, [], _∷_, _++_, map}
 use Prim.Native.Nat.{ℕ, _+_, _-_}
 use lib.Dec.{ltb}
 use lib.ListN.{length, take, drop}
-use Rattle.common.specs.Entry.{flatten, rows, startOf, stopOf, room, over}
+use Rattle.common.specs.Entry.{flatten, rows, room, over, wide}
 use Rattle.common.specs.Refusals.{Outcome, given, refuse, tooLong, past}
 use Rattle.common.specs.declared.grammar.Grammar.{Grammar}
-use Rattle.region.specs.Region.{Region, Plain, dropTag, pair, move, up, keepBefore, keepFrom}
+use Rattle.region.specs.Region.{Region, move, up, keepBefore, keepFrom, Listed, row, unrow, tagOf}
 use Rattle.rules.specs.Grammar.{Gram}
-use Rattle.region.specs.Regions.{regions}
 use Rattle.rules.specs.Columns.{Columns, gramOf}
 use Rattle.rules.specs.Columns.{unequal}
 use Rattle.cover.specs.Shape.{misshapen}
 use Rattle.amend.specs.Amend.{Edit, joint}
 use Rattle.amend.specs.Local.{usesLineEnd}
+use Rattle.region.specs.Regions.{tagged}
 
 -- ---- lists as regions
--- "region k has its start at 2k and its exclusive end at 2k+1": the region that a row says
-abbrev pub plainOf : List ℕ → Plain
-plainOf r = record { start = startOf r; stop = stopOf r; tag = tt }
-
 -- the first n regions of a list
-unfoldable pub listed : ℕ → List ℕ → List Plain
-listed n l = map plainOf (rows 2 n l)
+unfoldable pub listed : ℕ → List ℕ → List Listed
+listed n l = map unrow (rows wide n l)
 
--- a text's regions without the rules that made them
-abbrev pub plainRegions : Gram → List ℕ → List Plain
-plainRegions g s = map dropTag (regions g s)
+-- a text's regions as a list has them
+abbrev pub listRegions : Gram → List ℕ → List Listed
+listRegions = tagged tagOf
 
 -- ---- an edit of a text
 abbrev pub edit : ℕ → ℕ → List ℕ → Edit
@@ -67,13 +63,13 @@ leftOpen eol build len e = follows len (e .second) && not (joint eol (e .text) (
 
 -- 3: "the answer has more regions … than there is room for"
 abbrev pub crowded : {T : Type 0} → List (Region T) → List ℕ → Bool
-crowded l out = ltb (room 2 out) (length l)
+crowded l out = ltb (room wide out) (length l)
 
 -- ---- the answer, and the list that is left
 module _ (g : Grammar) (c : Columns) (s l : List ℕ) (n : ℕ) (e : Edit) where
   -- the regions that an amendment of the list l, with n regions, is to leave
-  abbrev pub result : List Plain
-  result = amendedRegions (plainRegions (gramOf g c)) (length s) e (listed n l)
+  abbrev pub result : List Listed
+  result = amendedRegions (listRegions (gramOf g c)) (length s) e (listed n l)
 
   -- "For an amendment: 1 (old text, replacement), 6, 4, 1 (edited text), 5, 9, 7, 8, 3."; else the count
   unfoldable pub amendedAnswer : List ℕ → Outcome
@@ -85,14 +81,14 @@ module _ (g : Grammar) (c : Columns) (s l : List ℕ) (n : ℕ) (e : Edit) where
       (refuse 5 (misshapen l n (length s))
       (refuse 9 (usesLineEnd g c)
       (refuse 7 (offJoint (g .eol) s (listed n l) (e .first) (e .second))
-      (refuse 8 (leftOpen (g .eol) (plainRegions (gramOf g c)) (length s) e)
+      (refuse 8 (leftOpen (g .eol) (listRegions (gramOf g c)) (length s) e)
       (refuse 3 (crowded result out)
       (given (length result ∷ []))))))))))
 
 -- "A refusal returns its number alone; lists, states and cursors keep their values. … Success writes the regions from place 0, returns
 -- their count and changes nothing beyond them.": the run that an outcome leaves of `out`, where the regions are l
-abbrev pub leaves : {T : Type 0} → Outcome → List ℕ → List (Region T) → List ℕ
-leaves o out l = cond (ltb 0 (o .number)) out (over (flatten pair l) out)
+abbrev pub leaves : Outcome → List ℕ → List Listed → List ℕ
+leaves o out l = cond (ltb 0 (o .number)) out (over (flatten row l) out)
 
 -- the promise of an amendment: its answer, and the list that it leaves
 pub record Amended (g : Grammar) (c : Columns) (s l : List ℕ) (n : ℕ) (e : Edit) (out out′ : List ℕ) (o : Outcome) : Type 0 where

@@ -21,14 +21,16 @@ use Rattle.region.specs.Region.{reaches}
 use Rattle.rules.specs.Grammar.{Gram}
 use Rattle.rules.specs.Columns.{Columns, columns, gramOf}
 use Rattle.rules.specs.Columns.{unequal}
-use Rattle.rules.specs.RuleTables.{ruleTables, gramOn}
-use Rattle.rules.specs.RuleTableLaws.{rule-tables-gram}
-use Rattle.rules.specs.declared.rule_tables.RuleTables.{RuleTables}
+use Rattle.rules.specs.Columns.{alphabetOf}
+use Rattle.rules.specs.Rows.{gramBy, Folded}
+use Rattle.rules.specs.RowLaws.{gram-same}
+use Rattle.rules.specs.declared.search_bytes.Alphabet.{Alphabet}
+use Rattle.lines.specs.Fences.{fenceTable}
 use Rattle.joint.specs.Joint.{afterEmptyLine, marks}
 use Rattle.amend.specs.Amend.{Edit, joint}
 use Rattle.amend.specs.Local.{usesLineEnd}
 use Rattle.cover.specs.Shape.{misshapen}
-use Rattle.amend.specs.Amended.{listed, plainRegions, edit, edited, follows, miscut, offJoint, amendedAnswer, Amended}
+use Rattle.amend.specs.Amended.{listed, listRegions, edit, edited, follows, miscut, offJoint, amendedAnswer, Amended}
 use Rattle.amend.specs.Parts.{judged, said, Judged, Ready, settledAnswer, Settled}
 use Rattle.amend.specs.RowLaws.{orderly-told}
 use Rattle.amend.specs.JudgeLaws.{edited-length}
@@ -114,12 +116,12 @@ ready-told eol s l n first second r u m v e g =
 -- ---- the ways out of the entry
 module _ (g : Grammar) (c : Columns) (s l : List ℕ) (n : ℕ) (e : Edit) (out : List ℕ) where
   as-judged : amendedAnswer g c s l n e out
-      ≡ judged (g .eol) s l n e (unequal c) (usesLineEnd g c) (settledAnswer (g .eol) (length s) (plainRegions (gramOf g c)) (listed n l) e out)
+      ≡ judged (g .eol) s l n e (unequal c) (usesLineEnd g c) (settledAnswer (g .eol) (length s) (listRegions (gramOf g c)) (listed n l) e out)
   unfolding amendedAnswer judged settledAnswer
   as-judged = refl
 
   module _ (u m : Bool) (v : Verdict) (hv : Judged (g .eol) s l n e u m v) (hu : Gives (unequal c) u) (hm : Gives (usesLineEnd g c) m) where
-    as-told : amendedAnswer g c s l n e out ≡ judged (g .eol) s l n e u m (settledAnswer (g .eol) (length s) (plainRegions (gramOf g c)) (listed n l) e out)
+    as-told : amendedAnswer g c s l n e out ≡ judged (g .eol) s l n e u m (settledAnswer (g .eol) (length s) (listRegions (gramOf g c)) (listed n l) e out)
     as-told = as-judged ∙ rw (← (hu .answer), ← (hm .answer))
 
     amended-stop : (q : Refusal) → v ≡ verdict.Refused q → Amended g c s l n e out out (refused (numberOf q))
@@ -127,9 +129,9 @@ module _ (g : Grammar) (c : Columns) (s l : List ℕ) (n : ℕ) (e : Edit) (out 
         let a : amendedAnswer g c s l n e out ≡ refused (numberOf q) = as-told ∙ judged-stop (g .eol) s l n e u m q _ (sym (hv .answer) ∙ ap said d) in
         record { answer = sym a; list = rw (a, number-positive q) }
 
-    amended-on : (out′ : List ℕ) (o : Outcome) → v ≡ verdict.Fine → Settled (g .eol) (length s) (plainRegions (gramOf g c)) (listed n l) e out out′ o → Amended g c s l n e out out′ o
+    amended-on : (out′ : List ℕ) (o : Outcome) → v ≡ verdict.Fine → Settled (g .eol) (length s) (listRegions (gramOf g c)) (listed n l) e out out′ o → Amended g c s l n e out out′ o
     amended-on out′ o d w =
-        let a : amendedAnswer g c s l n e out ≡ settledAnswer (g .eol) (length s) (plainRegions (gramOf g c)) (listed n l) e out = as-told ∙ judged-on (g .eol) s l n e u m (sym (hv .answer) ∙ ap said d) _ in
+        let a : amendedAnswer g c s l n e out ≡ settledAnswer (g .eol) (length s) (listRegions (gramOf g c)) (listed n l) e out = as-told ∙ judged-on (g .eol) s l n e u m (sym (hv .answer) ∙ ap said d) _ in
         record { answer = w .answer ∙ sym a; list = w .list ∙ rw a }
 
 module _ (g : Grammar) (f m y t o k c s l : List ℕ) (n first second : ℕ) (r out : List ℕ) (u w : Bool) (v : Verdict) where
@@ -137,13 +139,13 @@ module _ (g : Grammar) (f m y t o k c s l : List ℕ) (n first second : ℕ) (r 
       → Gives (marks (g .eol) (g .escape) y o) w → Amended g (columns f m y t o k c) s l n (edit first second r) out out (refused (numberOf q))
   amended-refused q d hv hu hw = amended-stop g (columns f m y t o k c) s l n (edit first second r) out u w v hv hu hw q d
 
-  pub amended-settled : (tables : RuleTables) (out′ : List ℕ) (a : Outcome) → v ≡ verdict.Fine → Judged (g .eol) s l n (edit first second r) u w v
-      → Gives (unequal (columns f m y t o k c)) u → Gives (marks (g .eol) (g .escape) y o) w → Gives (ruleTables f m y t o k c) tables
-      → Settled (g .eol) (length s) (plainRegions (gramOn g tables)) (listed n l) (edit first second r) out out′ a → Amended g (columns f m y t o k c) s l n (edit first second r) out out′ a
-  amended-settled tables out′ a d hv hu hw ht z =
-      let e : gramOn g tables ≡ gramOf g (columns f m y t o k c) = ap (gramOn g) (ht .answer) ∙ rule-tables-gram g f m y t o k c in
+  pub amended-settled : (alphabet : Alphabet) (fences : List ℕ) (rules : List (List ℕ)) (out′ : List ℕ) (a : Outcome) → v ≡ verdict.Fine → Judged (g .eol) s l n (edit first second r) u w v
+      → Gives (unequal (columns f m y t o k c)) u → Gives (marks (g .eol) (g .escape) y o) w → Gives (alphabetOf g f y o) alphabet → Gives (fenceTable f m) fences → Folded f y t o k c rules
+      → Settled (alphabet .grammar .eol) (length s) (listRegions (gramBy alphabet fences rules)) (listed n l) (edit first second r) out out′ a → Amended g (columns f m y t o k c) s l n (edit first second r) out out′ a
+  amended-settled alphabet fences rules out′ a d hv hu hw hs hf hr z =
       amended-on g (columns f m y t o k c) s l n (edit first second r) out u w v hv hu hw out′ a d
-      (subst (λ (x : Gram). Settled (g .eol) (length s) (plainRegions x) (listed n l) (edit first second r) out out′ a) e z)
+      (subst (λ (x : Gram). Settled (g .eol) (length s) (listRegions x) (listed n l) (edit first second r) out out′ a) (gram-same f y t o k c rules hr g m alphabet fences hs hf)
+      (subst (λ (x : Alphabet). Settled (x .grammar .eol) (length s) (listRegions (gramBy alphabet fences rules)) (listed n l) (edit first second r) out out′ a) (hs .answer) z))
 
 -- ---- one answer, one list
 -- two results of an amendment for the same arguments are one: the answer, and the list that is left
@@ -182,7 +184,7 @@ module _ (g : Grammar) (c : Columns) (l : List ℕ) (n : ℕ) (e : Edit) (out : 
       (refuse 5 (misshapen l n len)
       (refuse 9 (usesLineEnd g c)
       (refuse 7 (not (first && not (reaches (e .first) (listed n l))) || (follows len (e .second) && not (second && not (reaches (e .second) (listed n l)))))
-      (settledAnswer (g .eol) len (plainRegions (gramOf g c)) (listed n l) e out)))))))
+      (settledAnswer (g .eol) len (listRegions (gramOf g c)) (listed n l) e out)))))))
 
   is-asked : (s : List ℕ) → amendedAnswer g c s l n e out ≡ asked (length s) (length (edited e s)) (afterEmptyLine (g .eol) s (e .first)) (afterEmptyLine (g .eol) s (e .second))
   unfolding amendedAnswer asked offJoint joint settledAnswer

@@ -11,28 +11,27 @@ use Rattle.search.specs.Search.{is}
 use Rattle.search.specs.SearchLaws.{clash, is-yes, neither}
 use Rattle.common.specs.Rules.{hasRule, leastOf, onByte}
 use Rattle.common.specs.declared.grammar.Grammar.{Grammar}
-use Rattle.region.specs.Region.{Region, Plain, up, dropTag}
+use Rattle.region.specs.Region.{Region, up, Origin, retag}
 use Rattle.rules.specs.Grammar.{plain, Gram}
-use Rattle.region.specs.Regions.{regions}
+use Rattle.region.specs.Regions.{regions, tagged}
 use Rattle.rules.specs.Columns.{Columns, symRule, openRule, ruleOf, gramOf}
 use Rattle.region.specs.Ahead.{regions-in-order}
 use Rattle.amend.specs.Local.{Linewise, Apart, usesLineEnd}
-use Rattle.amend.specs.LocalLaws.{first-linewise}
+use Rattle.amend.specs.LocalLaws.{reader-linewise}
 use Rattle.amend.specs.Amend.{Edit, finished, relist, Fits, Blank, Decided, Joins}
-use Rattle.amend.specs.Amended.{plainRegions}
-use Rattle.amend.specs.Lists.{drop-up, drop-reaches, drop-order}
 use Rattle.amend.specs.Join.{regions-decided}
 use Rattle.amend.specs.Edits.{amended}
+use Rattle.amend.specs.Lists.{retag-up, retag-reaches, retag-order}
 
--- where lists with tags join, so do the same lists without
-pub drop-joins : {T : Type 0} (eol : ℕ) (build : List ℕ → List (Region T)) → Joins eol build → Joins eol (λ s. map dropTag (build s))
-drop-joins eol build joins = record { ordered = λ s. drop-order 0 (length s) (build s) (joins .ordered s); decided = decided }
+-- where lists join, so do the same lists with other tags
+pub retag-joins : {S T : Type 0} (f : S → T) (eol : ℕ) (build : List ℕ → List (Region S)) → Joins eol build → Joins eol (λ s. map (retag f) (build s))
+retag-joins {S} {T} f eol build joins = record { ordered = λ s. retag-order f 0 (length s) (build s) (joins .ordered s); decided = decided }
   where
-    decided : (a b : List ℕ) → Blank eol a → Decided (length a) (map dropTag (build a)) (map dropTag (build (a ++ b))) (up (length a) (map dropTag (build b)))
+    decided : (a b : List ℕ) → Blank eol a → Decided (length a) (map (retag f) (build a)) (map (retag f) (build (a ++ b))) (up (length a) (map (retag f) (build b)))
     decided a b two =
         ⊎-elim
-        (λ w. inl (drop-reaches (length a) (build a) ∙ w .0, ap (map dropTag) (w .1) ∙ map-append dropTag (build a) (up (length a) (build b)) ∙ ap (λ (z : List Plain). map dropTag (build a) ++ z) (drop-up (length a) (build b))))
-        (λ w. inr (drop-reaches (length a) (build a) ∙ w .0, drop-reaches (length a) (build (a ++ b)) ∙ w .1))
+        (λ w. inl (retag-reaches f (length a) (build a) ∙ w .0, ap (map (retag f)) (w .1) ∙ map-append (retag f) (build a) (up (length a) (build b)) ∙ ap (λ (z : List (Region T)). map (retag f) (build a) ++ z) (retag-up f (length a) (build b))))
+        (λ w. inr (retag-reaches f (length a) (build a) ∙ w .0, retag-reaches f (length a) (build (a ++ b)) ∙ w .1))
         (joins .decided a b two)
 
 -- ---- every grammar that the facts about joints hold for, and any number of edits at one go
@@ -40,17 +39,18 @@ module _ (g : Gram) (lines : Linewise (g .eol) (g .fences)) (apart : Apart g) wh
   pub regions-join : Joins (g .eol) (regions g)
   regions-join = record { ordered = regions-in-order g; decided = λ a b two. regions-decided g lines a b two apart }
 
-  pub demand : (s : List ℕ) (es : List Edit) → Fits (g .eol) (plainRegions g) s 0 es → relist (plainRegions g) 0 0 es (plainRegions g s) ≡ plainRegions g (finished 0 es s)
-  demand s es fits = amended (g .eol) (plainRegions g) (drop-joins (g .eol) (regions g) regions-join) s es fits
+  -- with whatever is said of the rules
+  pub demand : {T : Type 0} (f : Origin → T) (s : List ℕ) (es : List Edit) → Fits (g .eol) (tagged f g) s 0 es → relist (tagged f g) 0 0 es (tagged f g s) ≡ tagged f g (finished 0 es s)
+  demand f s es fits = amended (g .eol) (tagged f g) (retag-joins f (g .eol) (regions g) regions-join) s es fits
 
--- ---- edition 1 of fences, by the rules' columns
+-- ---- by the rules' columns
 no-rule : (c : Columns) (b : ℕ) → hasRule (c .symBytes) b ≡ false → hasRule (c .openers) b ≡ false → ruleOf c b ≡ plain
 unfolding symRule openRule
 no-rule c b e f = rw (e, f)
 
 module _ (g : Grammar) (c : Columns) (free : usesLineEnd g c ≡ false) where
   columns-lines : Linewise (g .eol) (gramOf g c .fences)
-  columns-lines = first-linewise g (onByte false (hasRule (c .fenceBytes))) (onByte 0 (leastOf (c .fenceBytes) (c .fenceMins)))
+  columns-lines = reader-linewise g (onByte false (hasRule (c .fenceBytes))) (onByte 0 (leastOf (c .fenceBytes) (c .fenceMins)))
 
   columns-apart : Apart (gramOf g c)
   columns-apart = record { escape = λ e. clash (is-yes (g .eol) (g .escape) e) (w .0); opener = by (ltb (g .eol) 256) }
@@ -65,6 +65,6 @@ module _ (g : Grammar) (c : Columns) (free : usesLineEnd g c ≡ false) where
       by true = no-rule c (g .eol) (v .0) (v .1)
       by false = refl
 
-  pub demand-first : (s : List ℕ) (es : List Edit) → Fits (g .eol) (plainRegions (gramOf g c)) s 0 es
-      → relist (plainRegions (gramOf g c)) 0 0 es (plainRegions (gramOf g c) s) ≡ plainRegions (gramOf g c) (finished 0 es s)
-  demand-first = demand (gramOf g c) columns-lines columns-apart
+  pub demand-columns : {T : Type 0} (f : Origin → T) (s : List ℕ) (es : List Edit) → Fits (g .eol) (tagged f (gramOf g c)) s 0 es
+      → relist (tagged f (gramOf g c)) 0 0 es (tagged f (gramOf g c) s) ≡ tagged f (gramOf g c) (finished 0 es s)
+  demand-columns = demand (gramOf g c) columns-lines columns-apart

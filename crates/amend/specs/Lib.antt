@@ -17,3 +17,5 @@ pub mod SettleLaws
 pub mod AmendedLaws
 pub mod Demand
 pub mod Theorem
+pub mod DemandThree
+pub mod Serves

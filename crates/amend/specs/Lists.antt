@@ -6,7 +6,7 @@ use Prim.Native.Nat.{ℕ, _+_, _-_, _≤_, _<_}
 use native.Mathlib.Omega.{arith}
 use lib.Dec.{ltb, leb}
 use borrow.Author.Tests.{lt-ltb, le-ltb, le-leb, lt-leb}
-use Rattle.region.specs.Region.{Region, Plain, move, up, reaches, keepBefore, keepFrom, InOrder, dropTag}
+use Rattle.region.specs.Region.{Region, move, up, reaches, keepBefore, keepFrom, InOrder, retag}
 use Rattle.amend.specs.Places.{ltb-up, leb-up}
 
 pub reaches-none : (T : Type 0) (k : ℕ) → reaches {T = T} k [] ≡ false
@@ -97,16 +97,17 @@ module _ {T : Type 0} where
       by ih true u = rw (ltb-up q (r .start) k, u, keepBefore) (ap (λ (z : List (Region T)). move (λ x. q + x) r ∷ z) ih)
       by ih false u = rw (ltb-up q (r .start) k, u, keepBefore) ih
 
-  -- ---- without tags
-  pub drop-up : (k : ℕ) (l : List (Region T)) → map dropTag (up k l) ≡ up k (map dropTag l)
-  drop-up k [] = refl
-  drop-up k (r ∷ l) = ap (λ (z : List Plain). move (λ x. k + x) (dropTag r) ∷ z) (drop-up k l)
+-- ---- with other tags
+module _ {S T : Type 0} (f : S → T) where
+  pub retag-up : (k : ℕ) (l : List (Region S)) → map (retag f) (up k l) ≡ up k (map (retag f) l)
+  retag-up k [] = refl
+  retag-up k (r ∷ l) = ap (λ (z : List (Region T)). move (λ x. k + x) (retag f r) ∷ z) (retag-up k l)
 
-  pub drop-reaches : (k : ℕ) (l : List (Region T)) → reaches k (map dropTag l) ≡ reaches k l
+  pub retag-reaches : (k : ℕ) (l : List (Region S)) → reaches k (map (retag f) l) ≡ reaches k l
   unfolding reaches
-  drop-reaches k [] = refl
-  drop-reaches k (r ∷ l) = ap (λ (t : Bool). (ltb (r .start) k && leb k (r .stop)) || t) (drop-reaches k l)
+  retag-reaches k [] = refl
+  retag-reaches k (r ∷ l) = ap (λ (t : Bool). (ltb (r .start) k && leb k (r .stop)) || t) (retag-reaches k l)
 
-  pub drop-order : (q k : ℕ) (l : List (Region T)) → InOrder q k l → InOrder q k (map dropTag l)
-  drop-order q k [] w = tt
-  drop-order q k (r ∷ l) w = (w .0, w .1, w .2, drop-order (r .stop) k l (w .3))
+  pub retag-order : (q k : ℕ) (l : List (Region S)) → InOrder q k l → InOrder q k (map (retag f) l)
+  retag-order q k [] w = tt
+  retag-order q k (r ∷ l) w = (w .0, w .1, w .2, retag-order (r .stop) k l (w .3))

@@ -9,7 +9,8 @@ use Rattle.search.specs.Search.{is}
 use Rattle.search.specs.SearchLaws.{Ends}
 use Rattle.common.specs.Rules.{hasRule}
 use Rattle.common.specs.declared.grammar.Grammar.{Grammar}
-use Rattle.rules.specs.Grammar.{plain, Fences, Gram}
+use Rattle.lines.specs.Reader.{Fences}
+use Rattle.rules.specs.Grammar.{plain, Gram}
 use Rattle.rules.specs.Columns.{Columns}
 
 -- ---- a fence reader that goes by lines

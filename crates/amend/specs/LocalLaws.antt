@@ -13,7 +13,7 @@ use Rattle.search.specs.Search.{find, is, other, either, lineEnd}
 use Rattle.search.specs.SearchLaws.{decide, holds-true, holds-prefix, holds-shift, find-ge, find-le, find-hit, find-prefix, find-past, find-shift, Ends, start-prefix, start-shift, last-byte}
 use Rattle.lines.specs.Fences.{runEnd, opensLine, closesTo, closing}
 use Rattle.common.specs.declared.grammar.Grammar.{Grammar}
-use Rattle.rules.specs.Columns.{first}
+use Rattle.lines.specs.Reader.{first, reader}
 use Rattle.amend.specs.Local.{Local, Linewise}
 use Rattle.amend.specs.Places.{ltb-up, leb-up, sub-up, min-up}
 
@@ -82,7 +82,7 @@ module _ (g : Grammar) (has : ℕ → Bool) (least : ℕ → ℕ) where
         simp (start-prefix (g .eol) a b p (omega arith), holds-prefix (is c) a b p h, line-same (g .eol) a b ends p h, run-same (g .eol) a b ends p h c, rest-same (g .eol) a b ends p h (other (either (g .sep) (g .tab))) (runEnd c a p (lineEnd (g .eol) a p)) (omega arith));
   }
 
-  pub first-linewise : Linewise (g .eol) (first g has least)
+  first-linewise : Linewise (g .eol) (first g has least)
   first-linewise = record {
     opens = record {
       behind = λ a b ends p. simp (start-shift (g .eol) a b ends, opensLine-local .behind a b ends);
@@ -95,3 +95,8 @@ module _ (g : Grammar) (has : ℕ → Bool) (least : ℕ → ℕ) where
     };
     shuts = closing-local;
   }
+
+  -- so does the reader of every grammar
+  pub reader-linewise : Linewise (g .eol) (reader g has least)
+  unfolding reader
+  reader-linewise = first-linewise

@@ -5,14 +5,14 @@ use mathlib.Core.Bool.{Bool, false, _||_}
 use mathlib.Core.List.{List, [], _∷_, _++_, map}
 use Prim.Native.Nat.{ℕ, _+_, _-_, _*_, _≤_}
 use lib.ListN.{length, drop}
-use Rattle.common.specs.Entry.{flatten, over, putAt}
+use Rattle.common.specs.Entry.{flatten, over, putAt, wide}
 use Rattle.common.specs.Refusals.{Outcome, given, refused, refuse, tooLong, numberOf}
-use Rattle.region.specs.Region.{Region, Plain, pair, move, up, reaches, InOrder}
+use Rattle.region.specs.Region.{move, up, reaches, InOrder, Listed, Caused, row}
 use Rattle.rules.specs.Grammar.{Gram}
 use Rattle.region.specs.Regions.{regions}
 use Rattle.amend.specs.Amend.{Edit}
 use Rattle.cover.specs.Shape.{misshapen}
-use Rattle.amend.specs.Amended.{listed, plainRegions, edited, amendedRegions, miscut, offJoint, leftOpen, crowded, leaves}
+use Rattle.amend.specs.Amended.{listed, listRegions, edited, amendedRegions, miscut, offJoint, leftOpen, crowded, leaves}
 use Rattle.amend.specs.declared.Verdict.{Verdict}
 use Rattle.amend.specs.declared.Verdict.the-variants as verdict
 use Rattle.amend.specs.declared.own.Counted.{Counted}
@@ -20,7 +20,7 @@ use Rattle.amend.specs.declared.own.Counted.{Counted}
 -- ---- lists
 -- a list with its first n regions in order, up to len
 pub record Orderly (l : List ℕ) (n len : ℕ) : Type 0 where
-  pub roomy : n * 2 ≤ length l
+  pub roomy : n * wide ≤ length l
   pub order : InOrder 0 len (listed n l)
 
 -- a list that is not misshapen, of a text within the limit
@@ -29,13 +29,13 @@ pub record Fair (l : List ℕ) (n len : ℕ) : Type 0 where
   pub short : len ≤ 4294967295
 
 -- the regions of a list from row i up to row n
-abbrev pub between : ℕ → ℕ → List ℕ → List Plain
-between i n l = listed (n - i) (drop (i * 2) l)
+abbrev pub between : ℕ → ℕ → List ℕ → List Listed
+between i n l = listed (n - i) (drop (i * wide) l)
 
 -- regions that are written from row n on, and the row after them
-pub record Laid {T : Type 0} (l : List (Region T)) (n : ℕ) (out out′ : List ℕ) (r : ℕ) : Type 0 where
+pub record Laid (l : List Listed) (n : ℕ) (out out′ : List ℕ) (r : ℕ) : Type 0 where
   pub next : r ≡ n + length l
-  pub list : out′ ≡ putAt (n * 2) (flatten pair l) out
+  pub list : out′ ≡ putAt (n * wide) (flatten row l) out
 
 -- a place that keeps within 32 bits where it is moved
 pub record Moves (place down up : ℕ) : Type 0 where
@@ -43,23 +43,23 @@ pub record Moves (place down up : ℕ) : Type 0 where
   pub high : place + up ≤ 4294967295 + down
 
 -- rows in order that keep within 32 bits where they are moved, and room for them
-pub record Copies (l : List ℕ) (from to down up : ℕ) (out : List ℕ) (row : ℕ) : Type 0 where
+pub record Copies (l : List ℕ) (from to down up : ℕ) (out : List ℕ) (at : ℕ) : Type 0 where
   pub ahead : from ≤ to
-  pub inside : to * 2 ≤ length l
+  pub inside : to * wide ≤ length l
   pub order : InOrder down (4294967295 + down - up) (between from to l)
-  pub room : row * 2 + (to - from) * 2 ≤ length out
+  pub room : at * wide + (to - from) * wide ≤ length out
 
 abbrev pub Copied : List ℕ → ℕ → ℕ → ℕ → ℕ → ℕ → List ℕ → List ℕ → ℕ → Type 0
-Copied l from to down up row out out′ r = Laid (map (move (λ x. x + up - down)) (between from to l)) row out out′ r
+Copied l from to down up at out out′ r = Laid (map (move (λ x. x + up - down)) (between from to l)) at out out′ r
 
 -- ---- the replacement's own regions
 abbrev pub surveyed : Gram → List ℕ → Counted
 surveyed g s = record { count = length (regions g s); reaching = reaches (length s) (regions g s) }
 
 -- regions of a text that keep within 32 bits where they are moved up, and room for them
-pub record Owns {T : Type 0} (l : List (Region T)) (s : List ℕ) (by : ℕ) (out : List ℕ) (row : ℕ) : Type 0 where
+pub record Owns (l : List Caused) (s : List ℕ) (by : ℕ) (out : List ℕ) (at : ℕ) : Type 0 where
   pub fits : length s + by ≤ 4294967295
-  pub room : row * 2 + length l * 2 ≤ length out
+  pub room : at * wide + length l * wide ≤ length out
 
 -- ---- refusals
 -- the refusals that the lengths, the list, the cuts and the bytes before them decide, else what follows
@@ -91,19 +91,19 @@ pub record Ready (l : List ℕ) (n first second len : ℕ) (r : List ℕ) : Type
   pub small : len - (second - first) + length r ≤ 4294967295
 
 -- the refusals that the replacement and the room decide, else the count
-unfoldable pub settledAnswer : {T : Type 0} → ℕ → ℕ → (List ℕ → List (Region T)) → List (Region T) → Edit → List ℕ → Outcome
+unfoldable pub settledAnswer : ℕ → ℕ → (List ℕ → List Listed) → List Listed → Edit → List ℕ → Outcome
 settledAnswer eol len build l e out =
     refuse 8 (leftOpen eol build len e) (refuse 3 (crowded (amendedRegions build len e l) out) (given (length (amendedRegions build len e l) ∷ [])))
 
-pub record Settled {T : Type 0} (eol len : ℕ) (build : List ℕ → List (Region T)) (l : List (Region T)) (e : Edit) (out out′ : List ℕ) (o : Outcome) : Type 0 where
+pub record Settled (eol len : ℕ) (build : List ℕ → List Listed) (l : List Listed) (e : Edit) (out out′ : List ℕ) (o : Outcome) : Type 0 where
   pub answer : o ≡ settledAnswer eol len build l e out
   pub list : out′ ≡ leaves (settledAnswer eol len build l e out) out (amendedRegions build len e l)
 
 -- ---- writing
 -- the rows before, the replacement's own, and the rows from `after` on
-unfoldable pub parts : Gram → List ℕ → ℕ → ℕ → ℕ → ℕ → ℕ → List ℕ → List Plain
+unfoldable pub parts : Gram → List ℕ → ℕ → ℕ → ℕ → ℕ → ℕ → List ℕ → List Listed
 parts g l n before after first second r =
-    map (move (λ x. x + 0 - 0)) (between 0 before l) ++ (up first (plainRegions g r) ++ map (move (λ x. x + (first + length r) - second)) (between after n l))
+    map (move (λ x. x + 0 - 0)) (between 0 before l) ++ (up first (listRegions g r) ++ map (move (λ x. x + (first + length r) - second)) (between after n l))
 
 pub record Roomy (g : Gram) (l : List ℕ) (n before after first second : ℕ) (r out : List ℕ) : Type 0 where
   pub kept : Copies l 0 before 0 0 out 0
@@ -112,4 +112,4 @@ pub record Roomy (g : Gram) (l : List ℕ) (n before after first second : ℕ) (
 
 pub record Merged (g : Gram) (l : List ℕ) (n before after first second : ℕ) (r out out′ : List ℕ) (k : ℕ) : Type 0 where
   pub count : k ≡ length (parts g l n before after first second r)
-  pub list : out′ ≡ over (flatten pair (parts g l n before after first second r)) out
+  pub list : out′ ≡ over (flatten row (parts g l n before after first second r)) out

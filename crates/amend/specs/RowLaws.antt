@@ -9,42 +9,42 @@ use lib.Dec.{leb}
 use lib.ListN.{length, getD, take, drop, length-map, List·getD-map}
 use lib.Seq.{getD-take, getD-drop, drop-drop}
 use Rattle.search.specs.Promise.{Gives}
-use Rattle.common.specs.Entry.{flatten, rows, startOf, stopOf, Shaped, putAt}
+use Rattle.common.specs.Entry.{flatten, rows, startOf, stopOf, Shaped, putAt, wide}
 use Rattle.common.specs.EntryLaws.{length-rows, rows-at, room-fits, length-put}
-use Rattle.region.specs.Region.{Region, Plain, pair, move, reaches, keepBefore, InOrder}
+use Rattle.region.specs.Region.{move, reaches, keepBefore, InOrder, Listed, row, unrow}
 use Rattle.context.specs.Build.{Puts, Put}
 use Rattle.cover.specs.Shape.{misshapen}
 use Rattle.cover.specs.ShapeLaws.{shape-fits, shape-order}
-use Rattle.amend.specs.Amended.{plainOf, listed}
+use Rattle.amend.specs.Amended.{listed}
 use Rattle.amend.specs.Parts.{Orderly, Fair, between, Laid, Moves, Copies, Copied}
 use Rattle.amend.specs.Starts.{order-later, order-longer, before-few, before-below, before-above, reach-none, reach-last}
 
 -- ---- rows and regions
 -- a region of no row
-abbrev pub nowhere : Plain
-nowhere = plainOf []
+abbrev pub nowhere : Listed
+nowhere = unrow []
 
 -- the region that row i says
-abbrev pub rowAt : ℕ → List ℕ → Plain
-rowAt i l = record { start = getD l (i * 2 + 0) 0; stop = getD l (i * 2 + 1) 0; tag = tt }
+abbrev pub rowAt : ℕ → List ℕ → Listed
+rowAt i l = record { start = getD l (i * wide + 0) 0; stop = getD l (i * wide + 1) 0; tag = tt }
 
 pub listed-length : (n : ℕ) (l : List ℕ) → length (listed n l) ≡ n
 unfolding listed
-listed-length n l = length-map (rows 2 n l) plainOf ∙ length-rows 2 n l
+listed-length n l = length-map (rows wide n l) unrow ∙ length-rows wide n l
 
 module _ (n i : ℕ) (l : List ℕ) (h : i < n) where
-  pub listed-start : getD (listed n l) i nowhere .start ≡ getD l (i * 2 + 0) 0
+  pub listed-start : getD (listed n l) i nowhere .start ≡ getD l (i * wide + 0) 0
   unfolding listed
-  listed-start = ap (λ (r : Plain). r .start) (List·getD-map plainOf (rows 2 n l) i []) ∙ rows-at 2 n i 0 l h (omega arith)
+  listed-start = ap (λ (r : Listed). r .start) (List·getD-map unrow (rows wide n l) i []) ∙ rows-at wide n i 0 l h (omega arith)
 
-  pub listed-stop : getD (listed n l) i nowhere .stop ≡ getD l (i * 2 + 1) 0
+  pub listed-stop : getD (listed n l) i nowhere .stop ≡ getD l (i * wide + 1) 0
   unfolding listed
-  listed-stop = ap (λ (r : Plain). r .stop) (List·getD-map plainOf (rows 2 n l) i []) ∙ rows-at 2 n i 1 l h (omega arith)
+  listed-stop = ap (λ (r : Listed). r .stop) (List·getD-map unrow (rows wide n l) i []) ∙ rows-at wide n i 1 l h (omega arith)
 
-  row-says : plainOf (take 2 (drop (i * 2) l)) ≡ rowAt i l
+  row-says : unrow (take wide (drop (i * wide) l)) ≡ rowAt i l
   row-says =
-      let a : startOf (take 2 (drop (i * 2) l)) ≡ getD l (i * 2 + 0) 0 = getD-take 2 (drop (i * 2) l) 0 0 (omega arith) ∙ getD-drop (i * 2) l 0 0 in
-      let b : stopOf (take 2 (drop (i * 2) l)) ≡ getD l (i * 2 + 1) 0 = getD-take 2 (drop (i * 2) l) 1 0 (omega arith) ∙ getD-drop (i * 2) l 1 0 in
+      let a : startOf (take wide (drop (i * wide) l)) ≡ getD l (i * wide + 0) 0 = getD-take wide (drop (i * wide) l) 0 0 (omega arith) ∙ getD-drop (i * wide) l 0 0 in
+      let b : stopOf (take wide (drop (i * wide) l)) ≡ getD l (i * wide + 1) 0 = getD-take wide (drop (i * wide) l) 1 0 (omega arith) ∙ getD-drop (i * wide) l 1 0 in
       rw (a, b)
 
   -- the row that stands at i, and those behind it
@@ -52,21 +52,21 @@ module _ (n i : ℕ) (l : List ℕ) (h : i < n) where
   unfolding listed
   between-next =
       let e : n - i ≡ suc (n - (i + 1)) = omega arith in
-      let f : (i + 1) * 2 ≡ i * 2 + 2 = omega arith in
-      rw (e, f, drop-drop 2 (i * 2) l) (ap (λ (r : Plain). r ∷ map plainOf (rows 2 (n - (i + 1)) (drop (i * 2 + 2) l))) row-says)
+      let f : (i + 1) * wide ≡ i * wide + wide = omega arith in
+      rw (e, f, drop-drop wide (i * wide) l) (ap (λ (r : Listed). r ∷ map unrow (rows wide (n - (i + 1)) (drop (i * wide + wide) l))) row-says)
 
 pub between-none : (n i : ℕ) (l : List ℕ) → n ≤ i → between i n l ≡ []
 unfolding listed
 between-none n i l h =
     let e : n - i ≡ 0 = omega arith in
-    ap (λ (m : ℕ). map plainOf (rows 2 m (drop (i * 2) l))) e
+    ap (λ (m : ℕ). map unrow (rows wide m (drop (i * wide) l))) e
 
 -- the first of the regions, and the others
 pub listed-take : (n i : ℕ) (l : List ℕ) → i ≤ n → take i (listed n l) ≡ listed i l
 unfolding listed
 listed-take n zero l h = refl
 listed-take zero (suc i) l h = absurd (omega arith)
-listed-take (suc n) (suc i) l h = ap (λ (z : List Plain). plainOf (take 2 l) ∷ z) (listed-take n i (drop 2 l) (omega arith))
+listed-take (suc n) (suc i) l h = ap (λ (z : List Listed). unrow (take wide l) ∷ z) (listed-take n i (drop wide l) (omega arith))
 
 pub listed-drop : (n i : ℕ) (l : List ℕ) → i ≤ n → drop i (listed n l) ≡ between i n l
 unfolding listed
@@ -74,21 +74,21 @@ listed-drop n zero l h = rw sub-zero
 listed-drop zero (suc i) l h = absurd (omega arith)
 listed-drop (suc n) (suc i) l h =
     let e : suc n - suc i ≡ n - i = omega arith in
-    let f : 2 + i * 2 ≡ suc i * 2 = omega arith in
-    listed-drop n i (drop 2 l) (omega arith) ∙ ap (λ (z : List ℕ). map plainOf (rows 2 (n - i) z)) (drop-drop (i * 2) 2 l ∙ ap (λ (k : ℕ). drop k l) f) ∙ ap (λ (m : ℕ). map plainOf (rows 2 m (drop (suc i * 2) l))) (sym e)
+    let f : wide + i * wide ≡ suc i * wide = omega arith in
+    listed-drop n i (drop wide l) (omega arith) ∙ ap (λ (z : List ℕ). map unrow (rows wide (n - i) z)) (drop-drop (i * wide) wide l ∙ ap (λ (k : ℕ). drop k l) f) ∙ ap (λ (m : ℕ). map unrow (rows wide m (drop (suc i * wide) l))) (sym e)
 
 pub between-zero : (n : ℕ) (l : List ℕ) → between 0 n l ≡ listed n l
 between-zero n l = rw sub-zero
 
 -- ---- lists in order
-ordered : (from len : ℕ) (l : List (List ℕ)) → Shaped from len l → InOrder from len (map plainOf l)
+ordered : (from len : ℕ) (l : List (List ℕ)) → Shaped from len l → InOrder from len (map unrow l)
 ordered from len [] w = tt
 ordered from len (r ∷ l) w = (w .0, w .1, w .2, ordered (stopOf r) len l (w .3))
 
 -- a list that is not misshapen
 pub orderly-told : (l : List ℕ) (n len : ℕ) → misshapen l n len ≡ false → Orderly l n len
 unfolding listed
-orderly-told l n len e = record { roomy = room-fits 2 n l (shape-fits l n len e); order = ordered 0 len (rows 2 n l) (shape-order l n len e) }
+orderly-told l n len e = record { roomy = room-fits wide n l (shape-fits l n len e); order = ordered 0 len (rows wide n l) (shape-order l n len e) }
 
 pub orderly-longer : (l : List ℕ) (n len m : ℕ) → len ≤ m → Orderly l n len → Orderly l n m
 orderly-longer l n len m h w = record { roomy = w .roomy; order = order-longer 0 len m (listed n l) h (w .order) }
@@ -116,7 +116,7 @@ module _ (l : List ℕ) (n k low high : ℕ) (i : Halving l n k low high) where
   pub halving-end : high ≤ low → low ≡ length (keepBefore k (listed n l))
   halving-end h = omega (arith, i .below, i .above)
 
-  module _ (h : low < high) (a : ℕ) (g : Gives (getD l (middle low high * 2 + 0) 0) a) where
+  module _ (h : low < high) (a : ℕ) (g : Gives (getD l (middle low high * wide + 0) 0) a) where
     at : middle low high < n
     at = omega (arith, i .within)
 
@@ -138,7 +138,7 @@ module _ (l : List ℕ) (count k n : ℕ) (w : Orderly l count 4294967295) (g : 
   pub reached-none : n ≡ 0 → false ≡ reaches k (listed count l)
   reached-none e = sym (reach-none k (listed count l) (omega (arith, g .answer)))
 
-  pub reached-last : (a : ℕ) → (n ≡ 0 → ⊥) → Gives (getD l ((n - 1) * 2 + 1) 0) a → leb k a ≡ reaches k (listed count l)
+  pub reached-last : (a : ℕ) → (n ≡ 0 → ⊥) → Gives (getD l ((n - 1) * wide + 1) 0) a → leb k a ≡ reaches k (listed count l)
   reached-last a z h =
       let m : length (keepBefore k (listed count l)) ≡ suc (n - 1) = omega (arith, g .answer) in
       let few = before-few k (listed count l) in
@@ -146,25 +146,25 @@ module _ (l : List ℕ) (count k n : ℕ) (w : Orderly l count 4294967295) (g : 
       ap (leb k) b ∙ sym (reach-last k nowhere 0 4294967295 (n - 1) (listed count l) (w .order) m)
 
   -- the last of them lies in the list
-  pub reached-inside : (n ≡ 0 → ⊥) → (n - 1) * 2 + 1 < length l
+  pub reached-inside : (n ≡ 0 → ⊥) → (n - 1) * wide + 1 < length l
   reached-inside z = omega (arith, g .answer, before-few k (listed count l), listed-length count l, w .roomy)
 
 -- ---- regions written one after the other
 -- of the regions l, to be written from row n on, `rest` is still to be written, from row m on
-pub record Laying {T : Type 0} (l rest : List (Region T)) (n m : ℕ) (out₀ out : List ℕ) : Type 0 where
-  pub same : putAt (n * 2) (flatten pair l) out₀ ≡ putAt (m * 2) (flatten pair rest) out
+pub record Laying (l rest : List Listed) (n m : ℕ) (out₀ out : List ℕ) : Type 0 where
+  pub same : putAt (n * wide) (flatten row l) out₀ ≡ putAt (m * wide) (flatten row rest) out
   pub count : n + length l ≡ m + length rest
   pub long : length out ≡ length out₀
-  pub room : m * 2 + length rest * 2 ≤ length out
+  pub room : m * wide + length rest * wide ≤ length out
 
-module _ {T : Type 0} {l : List (Region T)} {n : ℕ} {out₀ : List ℕ} where
-  pub laying-first : n * 2 + length l * 2 ≤ length out₀ → Laying l l n n out₀ out₀
+module _ {l : List Listed} {n : ℕ} {out₀ : List ℕ} where
+  pub laying-first : n * wide + length l * wide ≤ length out₀ → Laying l l n n out₀ out₀
   laying-first h = record { same = refl; count = refl; long = refl; room = h }
 
-  pub laying-put : {rest : List (Region T)} {m m′ : ℕ} {out out′ : List ℕ} (r : Region T) → Laying l (r ∷ rest) n m out₀ out → Put m (r .start) (r .stop) out out′ m′ → Laying l rest n m′ out₀ out′
+  pub laying-put : {rest : List Listed} {m m′ : ℕ} {out out′ : List ℕ} (r : Listed) → Laying l (r ∷ rest) n m out₀ out → Put m (r .start) (r .stop) out out′ m′ → Laying l rest n m′ out₀ out′
   laying-put {rest} {m} {m′} {out} {out′} r i p =
-      let e : m′ * 2 ≡ m * 2 + 1 + 1 = omega (arith, p .next) in
-      let z : length out′ ≡ length out = ap length (p .list) ∙ length-put (m * 2) (r .start ∷ r .stop ∷ []) out in
+      let e : m′ * wide ≡ m * wide + 1 + 1 = omega (arith, p .next) in
+      let z : length out′ ≡ length out = ap length (p .list) ∙ length-put (m * wide) (r .start ∷ r .stop ∷ []) out in
       record {
         same = i .same ∙ rw (p .list, e);
         count = omega (arith, i .count, p .next);
@@ -178,7 +178,7 @@ module _ {T : Type 0} {l : List (Region T)} {n : ℕ} {out₀ : List ℕ} where
 -- ---- the loop that copies rows: it stands at row i of the list l, and at row m of `out`
 pub record Copying (l : List ℕ) (from to down up row : ℕ) (out₀ out : List ℕ) (i m : ℕ) : Type 0 where
   pub ahead : i ≤ to
-  pub inside : to * 2 ≤ length l
+  pub inside : to * wide ≤ length l
   pub order : InOrder down (4294967295 + down - up) (between i to l)
   pub laying : Laying (map (move (λ x. x + up - down)) (between from to l)) (map (move (λ x. x + up - down)) (between i to l)) row m out₀ out
 
@@ -189,7 +189,7 @@ module _ {l : List ℕ} {from to down up row : ℕ} {out₀ : List ℕ} where
         ahead = w .ahead;
         inside = w .inside;
         order = w .order;
-        laying = laying-first (omega (arith, w .room, length-map (between from to l) (move (λ x. x + up - down)), listed-length (to - from) (drop (from * 2) l)));
+        laying = laying-first (omega (arith, w .room, length-map (between from to l) (move (λ x. x + up - down)), listed-length (to - from) (drop (from * wide) l)));
       }
 
   module _ {out : List ℕ} {i m : ℕ} (w : Copying l from to down up row out₀ out i m) where
@@ -197,7 +197,7 @@ module _ {l : List ℕ} {from to down up row : ℕ} {out₀ : List ℕ} where
     copying-same = w .laying .long
 
     pub copying-end : to ≤ i → Copied l from to down up row out₀ out m
-    copying-end h = laying-end (subst (λ (z : List Plain). Laying (map (move (λ x. x + up - down)) (between from to l)) (map (move (λ x. x + up - down)) z) row m out₀ out) (between-none to i l h) (w .laying))
+    copying-end h = laying-end (subst (λ (z : List Listed). Laying (map (move (λ x. x + up - down)) (between from to l)) (map (move (λ x. x + up - down)) z) row m out₀ out) (between-none to i l h) (w .laying))
 
     module _ (h : i < to) where
       -- what is known of row i
@@ -205,17 +205,17 @@ module _ {l : List ℕ} {from to down up row : ℕ} {out₀ : List ℕ} where
       one = subst (InOrder down (4294967295 + down - up)) (between-next to i l h) (w .order)
 
       next : Laying (map (move (λ x. x + up - down)) (between from to l)) (move (λ x. x + up - down) (rowAt i l) ∷ map (move (λ x. x + up - down)) (between (i + 1) to l)) row m out₀ out
-      next = subst (λ (z : List Plain). Laying (map (move (λ x. x + up - down)) (between from to l)) (map (move (λ x. x + up - down)) z) row m out₀ out) (between-next to i l h) (w .laying)
+      next = subst (λ (z : List Listed). Laying (map (move (λ x. x + up - down)) (between from to l)) (map (move (λ x. x + up - down)) z) row m out₀ out) (between-next to i l h) (w .laying)
 
       -- what was read of row i may be moved
-      pub start-moves : (a : ℕ) → Gives (getD l (i * 2 + 0) 0) a → Moves a down up
+      pub start-moves : (a : ℕ) → Gives (getD l (i * wide + 0) 0) a → Moves a down up
       start-moves a g = record { low = omega (arith, g .answer, one .0); high = omega (arith, g .answer, one .0, one .1, one .2) }
 
-      pub stop-moves : (b : ℕ) → Gives (getD l (i * 2 + 1) 0) b → Moves b down up
+      pub stop-moves : (b : ℕ) → Gives (getD l (i * wide + 1) 0) b → Moves b down up
       stop-moves b g = record { low = omega (arith, g .answer, one .0, one .1); high = omega (arith, g .answer, one .0, one .1, one .2) }
 
       module _ (x y a b : ℕ) where
-        pub copying-puts : Gives (a + up - down) x → Gives (b + up - down) y → Gives (getD l (i * 2 + 0) 0) a → Gives (getD l (i * 2 + 1) 0) b → Puts m x y out
+        pub copying-puts : Gives (a + up - down) x → Gives (b + up - down) y → Gives (getD l (i * wide + 0) 0) a → Gives (getD l (i * wide + 1) 0) b → Puts m x y out
         copying-puts gx gy ga gb =
             record {
               room = omega (arith, next .room);
@@ -223,13 +223,13 @@ module _ {l : List ℕ} {from to down up row : ℕ} {out₀ : List ℕ} where
               high = omega (arith, gy .answer, gb .answer, one .0, one .1, one .2);
             }
 
-        pub copying-again : (m′ : ℕ) (out′ : List ℕ) → Put m x y out out′ m′ → Gives (a + up - down) x → Gives (b + up - down) y → Gives (getD l (i * 2 + 0) 0) a → Gives (getD l (i * 2 + 1) 0) b
+        pub copying-again : (m′ : ℕ) (out′ : List ℕ) → Put m x y out out′ m′ → Gives (a + up - down) x → Gives (b + up - down) y → Gives (getD l (i * wide + 0) 0) a → Gives (getD l (i * wide + 1) 0) b
             → Copying l from to down up row out₀ out′ (i + 1) m′
         copying-again m′ out′ p gx gy ga gb =
-            let q : Put m (getD l (i * 2 + 0) 0 + up - down) (getD l (i * 2 + 1) 0 + up - down) out out′ m′ = rw (← (ga .answer), ← (gb .answer), ← (gx .answer), ← (gy .answer)) p in
+            let q : Put m (getD l (i * wide + 0) 0 + up - down) (getD l (i * wide + 1) 0 + up - down) out out′ m′ = rw (← (ga .answer), ← (gb .answer), ← (gx .answer), ← (gy .answer)) p in
             record {
               ahead = omega arith;
               inside = w .inside;
-              order = order-later down (getD l (i * 2 + 1) 0) (4294967295 + down - up) (between (i + 1) to l) (omega (arith, one .0, one .1)) (one .3);
+              order = order-later down (getD l (i * wide + 1) 0) (4294967295 + down - up) (between (i + 1) to l) (omega (arith, one .0, one .1)) (one .3);
               laying = laying-put (move (λ x. x + up - down) (rowAt i l)) next q;
             }

@@ -7,71 +7,112 @@ use mathlib.Core.Logic.{_⊎_, inl, inr}
 use Prim.Native.Nat.{ℕ, _+_, _-_, _*_, _≤_, _<_}
 use native.Mathlib.Omega.{arith}
 use lib.Dec.{ltb}
-use lib.ListN.{length, getD, take, drop, length-map, List·getD-append}
+use lib.ListN.{length, getD, take, drop, length-map, length-append, length-drop, List·getD-append}
 use borrow.Author.Tests.{le-ltb, ltb-false, not-false}
 use Rattle.search.specs.SearchLaws.{decide, neither}
-use Rattle.common.specs.Entry.{flatten, room, over}
-use Rattle.common.specs.EntryLaws.{length-flatten, rows-flatten}
+use Rattle.common.specs.Entry.{flatten, rows, room, Shaped, over, wide}
+use Rattle.common.specs.EntryLaws.{length-flatten, rows-flatten, fits-room, holds-shaped, flatten-map}
 use Rattle.common.specs.Refusals.{Outcome, given, refuse, tooLong, past, told}
 use Rattle.common.specs.RefusalLaws.{answer-unique}
 use Rattle.common.specs.declared.grammar.Grammar.{Grammar}
 use Rattle.common.specs.declared.refusal.Answer.{Answer}
 use Rattle.common.specs.declared.refusal.Answer.the-variants.{Value}
-use Rattle.region.specs.Region.{Region, Caused, Plain, dropTag, pair, up, keepBefore, InOrder}
+use Rattle.region.specs.Region.{Caused, up, keepBefore, InOrder, Listed, tagOf, asListed, row, unrow, rowOf}
 use Rattle.region.specs.Regions.{regions}
-use Rattle.region.specs.LoopLaws.{pair-two}
 use Rattle.rules.specs.Columns.{Columns, gramOf}
 use Rattle.region.specs.Ahead.{regions-in-order}
 use Rattle.rules.specs.Columns.{unequal}
 use Rattle.context.specs.Build.{full, builtAnswer, builtList, Built}
 use Rattle.amend.specs.Amend.{Edit, joint, Fits, none, last, next}
 use Rattle.amend.specs.Local.{usesLineEnd}
+use Rattle.cover.specs.Cursor.{overfull}
 use Rattle.cover.specs.Shape.{misshapen}
-use Rattle.amend.specs.Amended.{plainOf, listed, plainRegions, edit, edited, amendedRegions, miscut, offJoint, leftOpen, crowded, result, amendedAnswer, Amended}
-use Rattle.amend.specs.Lists.{drop-order}
+use Rattle.amend.specs.Amended.{listed, listRegions, edit, edited, amendedRegions, miscut, offJoint, leftOpen, crowded, result, amendedAnswer, Amended}
 use Rattle.amend.specs.Starts.{unless-end}
 use Rattle.amend.specs.Edits.{relist-one}
-use Rattle.amend.specs.Demand.{demand-first}
-use Rattle.amend.specs.SettleLaws.{flatten-drop}
 use Rattle.amend.specs.AmendedLaws.{refuse-pass}
+use Rattle.region.specs.LoopLaws.{row-wide}
+use Rattle.amend.specs.Lists.{retag-order}
+use Rattle.amend.specs.Demand.{demand-columns}
 
 -- a list whose first n regions are those of a text, by a grammar and rules
 abbrev pub Holds : Grammar → Columns → List ℕ → List ℕ → ℕ → Type 0
-Holds g c s l n = listed n l ≡ plainRegions (gramOf g c) s
+Holds g c s l n = listed n l ≡ listRegions (gramOf g c) s
 
 -- ---- what building leaves
-plain-pair : {T : Type 0} (l : List (Region T)) → map plainOf (map pair l) ≡ map dropTag l
-plain-pair [] = refl
-plain-pair (r ∷ l) = ap (λ (z : List Plain). dropTag r ∷ z) (plain-pair l)
+row-says : (l : List Caused) → map unrow (map rowOf l) ≡ map asListed l
+row-says [] = refl
+row-says (r ∷ l) = ap (λ (z : List Listed). asListed r ∷ z) (row-says l)
 
-listed-flatten : {T : Type 0} (l : List (Region T)) (rest : List ℕ) → listed (length l) (flatten pair l ++ rest) ≡ map dropTag l
+listed-flatten : (l : List Caused) (rest : List ℕ) → listed (length l) (flatten rowOf l ++ rest) ≡ map asListed l
 unfolding listed
-listed-flatten l rest = ap (map plainOf) (rows-flatten pair 2 pair-two l rest) ∙ plain-pair l
+listed-flatten l rest = ap (map unrow) (rows-flatten rowOf wide row-wide l rest) ∙ row-says l
 
--- the list that building leaves holds the regions of its text
-pub built-holds : {g : Grammar} {c : Columns} {s out l : List ℕ} {n : ℕ} → Built g c s out l (told (Value n)) → Holds g c s l n
-unfolding builtAnswer builtList
-built-holds {g} {c} {s} {out} {l} {n} b =
-    let R = regions (gramOf g c) s in
-    let p = refuse-pass 0 (tooLong s) (refuse 6 (unequal c) (refuse 3 (full R out) (given (length R ∷ [])))) (n ∷ []) (sym (b .answer)) in
-    let q = refuse-pass 5 (unequal c) (refuse 3 (full R out) (given (length R ∷ []))) (n ∷ []) (p .1) in
-    let w = refuse-pass 2 (full R out) (given (length R ∷ [])) (n ∷ []) (q .1) in
-    let size : length R ≡ n = ap (λ (o : Outcome). getD (o .values) 0 0) (w .1) in
-    let left : l ≡ over (flatten pair R) out = b .list ∙ simp (p .0, q .0, w .0) in
-    ap (λ (m : ℕ). listed m l) (sym size) ∙ ap (listed (length R)) left ∙ listed-flatten R (drop (length (flatten pair R)) out)
+-- regions in order are rows in order
+order-shaped : (from len : ℕ) (l : List Caused) → InOrder from len l → Shaped from len (map rowOf l)
+order-shaped from len [] w = tt
+order-shaped from len (r ∷ l) w = (w .0, w .1, w .2, order-shaped (r .stop) len l (w .3))
+
+-- what building has tested and left where it answered a count
+pub record Left (g : Grammar) (c : Columns) (s out l : List ℕ) (n : ℕ) : Type 0 where
+  pub short : tooLong s ≡ false
+  pub equal : unequal c ≡ false
+  pub fits : n ≤ room wide out
+  pub count : length (regions (gramOf g c) s) ≡ n
+  pub left : l ≡ over (flatten rowOf (regions (gramOf g c) s)) out
+
+module _ {g : Grammar} {c : Columns} {s out l : List ℕ} {n : ℕ} (b : Built g c s out l (told (Value n))) where
+  pub built-told : Left g c s out l n
+  unfolding builtAnswer builtList
+  built-told =
+      let R = regions (gramOf g c) s in
+      let p = refuse-pass 0 (tooLong s) (refuse 6 (unequal c) (refuse 3 (full R out) (given (length R ∷ [])))) (n ∷ []) (sym (b .answer)) in
+      let q = refuse-pass 5 (unequal c) (refuse 3 (full R out) (given (length R ∷ []))) (n ∷ []) (p .1) in
+      let w = refuse-pass 2 (full R out) (given (length R ∷ [])) (n ∷ []) (q .1) in
+      let size : length R ≡ n = ap (λ (o : Outcome). getD (o .values) 0 0) (w .1) in
+      record {
+        short = p .0;
+        equal = q .0;
+        fits = omega (arith, size, ltb-false (room wide out) (length R) (w .0));
+        count = size;
+        left = b .list ∙ simp (p .0, q .0, w .0);
+      }
+
+  -- the list that building leaves holds the regions of its text
+  pub built-holds : Holds g c s l n
+  built-holds =
+      let R = regions (gramOf g c) s in
+      let w = built-told in
+      ap (λ (m : ℕ). listed m l) (sym (w .count)) ∙ ap (listed (length R)) (w .left) ∙ listed-flatten R (drop (length (flatten rowOf R)) out)
+
+  -- it has room for them, and they are in order within the text
+  pub built-shaped : misshapen l n (length s) ≡ false
+  unfolding misshapen
+  built-shaped =
+      let R = regions (gramOf g c) s in
+      let w = built-told in
+      let size : length (flatten rowOf R) ≡ length R * wide = length-flatten rowOf wide row-wide R in
+      let long : length l ≡ length (flatten rowOf R) + (length out - length (flatten rowOf R)) = ap length (w .left) ∙ length-append (flatten rowOf R) (drop (length (flatten rowOf R)) out) ∙ ap (λ (m : ℕ). length (flatten rowOf R) + m) (length-drop (length (flatten rowOf R)) out) in
+      let fits : overfull wide l n ≡ false = le-ltb (room wide l) n (fits-room wide n l (omega arith) (omega (arith, size, long, w .count))) in
+      let same : rows wide n l ≡ map rowOf R = ap (λ (m : ℕ). rows wide m l) (sym (w .count)) ∙ ap (rows wide (length R)) (w .left) ∙ rows-flatten rowOf wide row-wide R (drop (length (flatten rowOf R)) out) in
+      rw (fits, same, holds-shaped 0 (length s) (map rowOf R) (order-shaped 0 (length s) R (regions-in-order (gramOf g c) s)))
 
 -- ---- what an amendment that accepts has tested
-record Accepted (g : Grammar) (c : Columns) (s l : List ℕ) (n : ℕ) (e : Edit) (out : List ℕ) (k : ℕ) : Type 0 where
-  equal : unequal c ≡ false
-  cuts : (e .first ≤ e .second) × (e .second ≤ length s)
-  short : tooLong (edited e s) ≡ false
-  free : usesLineEnd g c ≡ false
-  joints : offJoint (g .eol) s (listed n l) (e .first) (e .second) ≡ false
-  shut : leftOpen (g .eol) (plainRegions (gramOf g c)) (length s) e ≡ false
-  fits : crowded (result g c s l n e) out ≡ false
-  count : k ≡ length (result g c s l n e)
+-- the cuts, the marks and the replacement's end
+pub record Meets (g : Grammar) (c : Columns) (s l : List ℕ) (n : ℕ) (e : Edit) : Type 0 where
+  pub cuts : (e .first ≤ e .second) × (e .second ≤ length s)
+  pub free : usesLineEnd g c ≡ false
+  pub joints : offJoint (g .eol) s (listed n l) (e .first) (e .second) ≡ false
+  pub shut : leftOpen (g .eol) (listRegions (gramOf g c)) (length s) e ≡ false
 
-accepted : (g : Grammar) (c : Columns) (s l : List ℕ) (n : ℕ) (e : Edit) (out : List ℕ) (k : ℕ) → given (k ∷ []) ≡ amendedAnswer g c s l n e out → Accepted g c s l n e out k
+pub record Accepted (g : Grammar) (c : Columns) (s l : List ℕ) (n : ℕ) (e : Edit) (out : List ℕ) (k : ℕ) : Type 0 where
+  pub equal : unequal c ≡ false
+  pub short : tooLong (edited e s) ≡ false
+  pub meets : Meets g c s l n e
+  pub fits : crowded (result g c s l n e) out ≡ false
+  pub count : k ≡ length (result g c s l n e)
+
+pub accepted : (g : Grammar) (c : Columns) (s l : List ℕ) (n : ℕ) (e : Edit) (out : List ℕ) (k : ℕ) → given (k ∷ []) ≡ amendedAnswer g c s l n e out → Accepted g c s l n e out k
 unfolding amendedAnswer
 accepted g c s l n e out k served =
     let v = k ∷ [] in
@@ -82,56 +123,53 @@ accepted g c s l n e out k served =
     let p5 = refuse-pass 4 (misshapen l n (length s)) _ v (p1′ .1) in
     let p9 = refuse-pass 8 (usesLineEnd g c) _ v (p5 .1) in
     let p7 = refuse-pass 6 (offJoint (g .eol) s (listed n l) (e .first) (e .second)) _ v (p9 .1) in
-    let p8 = refuse-pass 7 (leftOpen (g .eol) (plainRegions (gramOf g c)) (length s) e) _ v (p7 .1) in
+    let p8 = refuse-pass 7 (leftOpen (g .eol) (listRegions (gramOf g c)) (length s) e) _ v (p7 .1) in
     let p3 = refuse-pass 2 (crowded (result g c s l n e) out) _ v (p8 .1) in
     let m = neither (ltb (e .second) (e .first)) (past s (e .second)) (p4 .0) in
     record {
       equal = p6 .0;
-      cuts = (ltb-false (e .second) (e .first) (m .0), ltb-false (length s) (e .second) (m .1));
       short = p1′ .0;
-      free = p9 .0;
-      joints = p7 .0;
-      shut = p8 .0;
+      meets = record { cuts = (ltb-false (e .second) (e .first) (m .0), ltb-false (length s) (e .second) (m .1)); free = p9 .0; joints = p7 .0; shut = p8 .0 };
       fits = p3 .0;
       count = ap (λ (o : Outcome). getD (o .values) 0 0) (sym (p3 .1));
     }
 
 -- ---- so the edit fits the joint theorem
-module _ (g : Grammar) (c : Columns) (s l : List ℕ) (n : ℕ) (e : Edit) (out : List ℕ) (k : ℕ) (a : Accepted g c s l n e out k) (holds : Holds g c s l n) where
-  both : (joint (g .eol) s (plainRegions (gramOf g c) s) (e .first) ≡ true) × ((ltb (e .second) (length s) && not (joint (g .eol) s (plainRegions (gramOf g c) s) (e .second))) ≡ false)
+module _ (g : Grammar) (c : Columns) (s l : List ℕ) (n : ℕ) (e : Edit) (a : Meets g c s l n e) (holds : Holds g c s l n) where
+  both : (joint (g .eol) s (listRegions (gramOf g c) s) (e .first) ≡ true) × ((ltb (e .second) (length s) && not (joint (g .eol) s (listRegions (gramOf g c) s) (e .second))) ≡ false)
   unfolding offJoint
   both =
       let w = neither (not (joint (g .eol) s (listed n l) (e .first))) _ (a .joints) in
-      (subst (λ (z : List Plain). joint (g .eol) s z (e .first) ≡ true) holds (not-false _ (w .0)), subst (λ (z : List Plain). (ltb (e .second) (length s) && not (joint (g .eol) s z (e .second))) ≡ false) holds (w .1))
+      (subst (λ (z : List Listed). joint (g .eol) s z (e .first) ≡ true) holds (not-false _ (w .0)), subst (λ (z : List Listed). (ltb (e .second) (length s) && not (joint (g .eol) s z (e .second))) ≡ false) holds (w .1))
 
-  fitting : Fits (g .eol) (plainRegions (gramOf g c)) s 0 (e ∷ [])
+  fitting : Fits (g .eol) (listRegions (gramOf g c)) s 0 (e ∷ [])
   unfolding leftOpen
   fitting = by (decide (ltb (e .second) (length s)))
     where
-      by : (ltb (e .second) (length s) ≡ true) ⊎ (ltb (e .second) (length s) ≡ false) → Fits (g .eol) (plainRegions (gramOf g c)) s 0 (e ∷ [])
+      by : (ltb (e .second) (length s) ≡ true) ⊎ (ltb (e .second) (length s) ≡ false) → Fits (g .eol) (listRegions (gramOf g c)) s 0 (e ∷ [])
       by (inl u) = next {q = 0} e [] (omega arith) (both .0) (a .cuts .0) (not-false _ (rw u at (both .1))) (not-false _ (rw u at (a .shut))) none
       by (inr u) = last {q = 0} e (omega arith) (both .0) (omega (arith, ltb-false (e .second) (length s) u, a .cuts .1))
 
-  ordered : InOrder 0 (length s) (plainRegions (gramOf g c) s)
-  ordered = drop-order 0 (length s) (regions (gramOf g c) s) (regions-in-order (gramOf g c) s)
+  ordered : InOrder 0 (length s) (listRegions (gramOf g c) s)
+  ordered = retag-order tagOf 0 (length s) (regions (gramOf g c) s) (regions-in-order (gramOf g c) s)
 
   -- the regions asked for are those of the edited text
-  same : result g c s l n e ≡ plainRegions (gramOf g c) (edited e s)
+  pub same : result g c s l n e ≡ listRegions (gramOf g c) (edited e s)
   unfolding amendedRegions
   same =
-      let build = plainRegions (gramOf g c) in
+      let build = listRegions (gramOf g c) in
       let y : e .first - 0 ≡ e .first = omega arith in
       ap (amendedRegions build (length s) e) holds
-      ∙ ap (λ (z : List Plain). keepBefore (e .first) (build s) ++ (up (e .first) (build (e .text)) ++ z)) (sym (unless-end (λ x. x + (e .first + length (e .text)) - e .second) (e .second) (length s) 0 (build s) (a .cuts .1) ordered))
+      ∙ ap (λ (z : List Listed). keepBefore (e .first) (build s) ++ (up (e .first) (build (e .text)) ++ z)) (sym (unless-end (λ x. x + (e .first + length (e .text)) - e .second) (e .second) (length s) 0 (build s) (a .cuts .1) ordered))
       ∙ sym (relist-one build e (build s))
-      ∙ (rw y at (demand-first g c (a .free) s (e ∷ []) fitting))
+      ∙ (rw y at (demand-columns g c (a .free) tagOf s (e ∷ []) fitting))
 
 -- ---- the theorem
 -- an amendment has left k regions in `out′`, which was `out`; building afresh over `blank` has answered a and left `fresh`. Where there is
 -- room for k regions, the counts are equal, and so are the two lists at every place of a region; over the same run all of it is equal
 pub record Rebuilt (k : ℕ) (out out′ blank fresh : List ℕ) (a : Answer) : Type 0 where
-  pub count : k ≤ room 2 blank → a ≡ Value k
-  pub places : k ≤ room 2 blank → (i : ℕ) → i < k * 2 → getD fresh i 0 ≡ getD out′ i 0
+  pub count : k ≤ room wide blank → a ≡ Value k
+  pub places : k ≤ room wide blank → (i : ℕ) → i < k * wide → getD fresh i 0 ≡ getD out′ i 0
   pub whole : blank ≡ out → (a ≡ Value k) × (fresh ≡ out′)
 
 module _ (g : Grammar) (c : Columns) (s l : List ℕ) (n : ℕ) (e : Edit) (out out′ : List ℕ) (k : ℕ) (holds : Holds g c s l n) (m : Amended g c s l n e out out′ (told (Value k))) where
@@ -142,22 +180,22 @@ module _ (g : Grammar) (c : Columns) (s l : List ℕ) (n : ℕ) (e : Edit) (out 
   afresh : List Caused
   afresh = regions (gramOf g c) (edited e s)
 
-  alike : result g c s l n e ≡ map dropTag afresh
+  alike : result g c s l n e ≡ map asListed afresh
   unfolding afresh
-  alike = same g c s l n e out k tested holds
+  alike = same g c s l n e (tested .meets) holds
 
   size : k ≡ length afresh
-  size = tested .count ∙ ap length alike ∙ length-map afresh dropTag
+  size = tested .count ∙ ap length alike ∙ length-map afresh asListed
 
-  roomy : k ≤ room 2 out
-  roomy = omega (arith, tested .count, ltb-false (room 2 out) (length (result g c s l n e)) (tested .fits))
+  roomy : k ≤ room wide out
+  roomy = omega (arith, tested .count, ltb-false (room wide out) (length (result g c s l n e)) (tested .fits))
 
-  left : out′ ≡ over (flatten pair afresh) out
-  left = m .list ∙ rw (← (m .answer)) (ap (λ (x : List ℕ). over x out) (ap (flatten pair) alike ∙ flatten-drop afresh))
+  left : out′ ≡ over (flatten rowOf afresh) out
+  left = m .list ∙ rw (← (m .answer)) (ap (λ (x : List ℕ). over x out) (ap (flatten row) alike ∙ flatten-map row asListed afresh))
 
-  module _ (blank fresh : List ℕ) (a : Answer) (b : Built g c (edited e s) blank fresh (told a)) (h : k ≤ room 2 blank) where
+  module _ (blank fresh : List ℕ) (a : Answer) (b : Built g c (edited e s) blank fresh (told a)) (h : k ≤ room wide blank) where
     free : full afresh blank ≡ false
-    free = le-ltb (room 2 blank) (length afresh) (omega (arith, size))
+    free = le-ltb (room wide blank) (length afresh) (omega (arith, size))
 
     answered : a ≡ Value k
     unfolding builtAnswer afresh
@@ -166,16 +204,16 @@ module _ (g : Grammar) (c : Columns) (s l : List ℕ) (n : ℕ) (e : Edit) (out 
         let y : told (Value k) ≡ given (length afresh ∷ []) = ap (λ (j : ℕ). given (j ∷ [])) size in
         answer-unique {o = given (length afresh ∷ [])} (record { answer = x }) (record { answer = y })
 
-    built : fresh ≡ over (flatten pair afresh) blank
+    built : fresh ≡ over (flatten rowOf afresh) blank
     unfolding builtList afresh
     built = b .list ∙ simp (tested .short, tested .equal, free)
 
-    at-each : (i : ℕ) → i < k * 2 → getD fresh i 0 ≡ getD out′ i 0
+    at-each : (i : ℕ) → i < k * wide → getD fresh i 0 ≡ getD out′ i 0
     at-each i j =
-        let x : i < length (flatten pair afresh) = omega (arith, size, length-flatten pair 2 pair-two afresh) in
+        let x : i < length (flatten rowOf afresh) = omega (arith, size, length-flatten rowOf wide row-wide afresh) in
         ap (λ (z : List ℕ). getD z i 0) built
-        ∙ List·getD-append (flatten pair afresh) (drop (length (flatten pair afresh)) blank) 0 i x
-        ∙ sym (ap (λ (z : List ℕ). getD z i 0) left ∙ List·getD-append (flatten pair afresh) (drop (length (flatten pair afresh)) out) 0 i x)
+        ∙ List·getD-append (flatten rowOf afresh) (drop (length (flatten rowOf afresh)) blank) 0 i x
+        ∙ sym (ap (λ (z : List ℕ). getD z i 0) left ∙ List·getD-append (flatten rowOf afresh) (drop (length (flatten rowOf afresh)) out) 0 i x)
 
 -- where a list holds the regions of the old text and an amendment accepts, building the edited text afresh gives the same list
 pub amend-is-rebuild-held : {g : Grammar} {c : Columns} {old l : List ℕ} {n first second : ℕ} {text out out′ blank fresh : List ℕ} {k : ℕ} {a : Answer}
@@ -189,7 +227,7 @@ amend-is-rebuild-held {g} {c} {old} {l} {n} {first} {second} {text} {out} {out�
       count = answered g c old l n e out out′ k holds m blank fresh a b;
       places = at-each g c old l n e out out′ k holds m blank fresh a b;
       whole = λ z.
-          let h : k ≤ room 2 blank = subst (λ (x : List ℕ). k ≤ room 2 x) (sym z) (roomy g c old l n e out out′ k holds m) in
+          let h : k ≤ room wide blank = subst (λ (x : List ℕ). k ≤ room wide x) (sym z) (roomy g c old l n e out out′ k holds m) in
           (answered g c old l n e out out′ k holds m blank fresh a b h, built g c old l n e out out′ k holds m blank fresh a b h ∙ rw z (sym (left g c old l n e out out′ k holds m)));
     }
 

@@ -1,7 +1,7 @@
 // Where an amendment may cut.
-use crate::rows::END;
 use crate::rows::number;
 use crate::rows::starts_before;
+use common::list::END;
 use joint::after_empty_line;
 ghost use lib.ListN.{length};
 ghost use Rattle.search.specs.Promise.{Gives};

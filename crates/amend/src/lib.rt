@@ -5,6 +5,7 @@ mod own; // the replacement's own regions
 mod rows; // a list as rows of two numbers
 
 use common::grammar::Grammar;
+use common::list::WIDE;
 use common::refusal::Answer;
 use common::refusal::Refusal;
 use common::span::MAX_INPUT_LEN;
@@ -12,18 +13,19 @@ use cover::shape::is_misshapen;
 use joint::is_left_open;
 use joint::marks_line_end;
 use joints::is_off_joint;
+use lines::fence_tests::fence_table;
 use own::survey;
 use own::write_own;
 use rows::copy_rows;
 use rows::starts_before;
-use rules::rule_tables::RuleTables;
-use rules::rule_tables::columns_differ;
-use rules::rule_tables::rule_tables;
+use rules::columns::columns_differ;
+use rules::rows::Rows;
+use rules::rows::rule_rows;
+use rules::search_bytes::Alphabet;
 ghost use Rattle.common.specs.Refusals.{told};
 ghost use Rattle.rules.specs.Columns.{columns};
-ghost use Rattle.rules.specs.Tables.{gramBy};
-ghost use Rattle.rules.specs.RuleTables.{gramOn};
-ghost use Rattle.amend.specs.Amended.{edit, listed, plainRegions, Amended};
+ghost use Rattle.rules.specs.Rows.{gramBy};
+ghost use Rattle.amend.specs.Amended.{edit, listed, listRegions, Amended};
 ghost use Rattle.amend.specs.Parts.{Judged, Ready, Roomy, Merged, Settled};
 
 // Whether the cuts may be made.
@@ -32,8 +34,27 @@ enum Verdict {
     Refused(Refusal),
 }
 
-// The refusals that the texts' lengths, the list, the cuts and the bytes before them decide, in the page's order. `unequal` says that
-// columns differ, `marked` that a line end escapes or opens.
+// What is wrong with the rules: columns differ; a line end escapes or opens.
+struct Flaws {
+    unequal: bool,
+    marked: bool,
+}
+
+// Where a text of `len` bytes is cut.
+struct Cuts {
+    first: usize,
+    second: usize,
+    len: usize,
+}
+
+// Of a list's `count` rows those before row `before` are kept, and those from row `after` on are moved.
+struct Split {
+    before: usize,
+    after: usize,
+    count: usize,
+}
+
+// The refusals that the texts' lengths, the rules, the list, the cuts and the bytes before them decide, in the page's order.
 fn judge(
     old: &[u8],
     list: &[u32],
@@ -41,11 +62,13 @@ fn judge(
     first: usize,
     second: usize,
     text: &[u8],
-    unequal: bool,
-    marked: bool,
+    flaws: Flaws,
     eol: u8,
 ) -> Verdict
-    ensures { λ r. ⌜ Judged eol (now (old .entry)) (now (list .entry)) count (edit first second (now (text .entry))) unequal marked r ⌝ }
+    ensures { λ r. ⌜
+        Judged eol (now (old .entry)) (now (list .entry)) count (edit first second (now (text .entry))) (flaws .unequal)
+        (flaws .marked) r
+        ⌝ }
 {
     let len = old.len();
     if len > MAX_INPUT_LEN {
@@ -54,7 +77,7 @@ fn judge(
     if text.len() > MAX_INPUT_LEN {
         return Verdict::Refused(Refusal::TextTooLong);
     }
-    if unequal {
+    if flaws.unequal {
         return Verdict::Refused(Refusal::ColumnsDiffer);
     }
     if first > second {
@@ -69,7 +92,7 @@ fn judge(
     if is_misshapen(list, count, len) {
         return Verdict::Refused(Refusal::ListMisshapen);
     }
-    if marked {
+    if flaws.marked {
         return Verdict::Refused(Refusal::LineEndMark);
     }
     if is_off_joint(old, list, count, first, second, eol) {
@@ -78,162 +101,81 @@ fn judge(
     Verdict::Fine
 }
 
-// Writes the list of the edited text: the first `before` rows; the replacement's own regions, moved up by the first cut; the rows from
-// `after` on, moved by the change in length. Answers their number.
+// Writes the list of the edited text: the rows that are kept; the replacement's own regions, moved up by the first cut; the last rows,
+// moved by the change in length. Answers their number.
 fn write(
     list: &[u32],
-    count: usize,
-    before: usize,
-    after: usize,
-    first: usize,
-    second: usize,
+    split: Split,
+    cuts: Cuts,
     text: &[u8],
-    g: Grammar,
-    needles: &[u8; Grammar::MAX_NEEDLES],
-    n: usize,
-    has: &[bool; 256],
-    least: &[u8; 256],
-    rows: &[usize; 256],
-    kind: &[u8; 256],
-    closer: &[u8; 256],
-    counts: &[u32; 256],
-    index: &[usize; 256],
+    alphabet: Alphabet,
+    fences: &[u16; 256],
+    rules: &Rows,
     out: &mut [u32],
 ) -> usize
-    requires { ⌜ Roomy (gramBy g (now needles) n (now has) (now least) (now rows) (now kind) (now closer) (now counts) (now index)) (now list) count before after first second (now text) (now out) ⌝ }
-    ensures { λ r. ⌜ Merged (gramBy g (now (needles .entry)) n (now (has .entry)) (now (least .entry)) (now (rows .entry)) (now (kind .entry)) (now (closer .entry)) (now (counts .entry)) (now (index .entry))) (now (list .entry)) count before after first second (now (text .entry)) (now (out .entry)) (now (out .exit)) r ⌝ }
+    requires { ⌜
+        Roomy (gramBy alphabet (now fences) (now rules)) (now list) (split .count) (split .before) (split .after) (cuts .first)
+        (cuts .second) (now text) (now out)
+        ⌝ }
+    ensures { λ r. ⌜
+        Merged (gramBy alphabet (now (fences .entry)) (now (rules .entry))) (now (list .entry)) (split .count) (split .before)
+        (split .after) (cuts .first) (cuts .second) (now (text .entry)) (now (out .entry)) (now (out .exit)) r
+        ⌝ }
 {
-    let kept = copy_rows(list, 0, before, 0, 0, out, 0);
-    let own = write_own(
-        text,
-        first,
-        g,
-        needles,
-        n,
-        has,
-        least,
-        rows,
-        kind,
-        closer,
-        counts,
-        index,
+    let kept = copy_rows(list, 0, split.before, 0, 0, out, 0);
+    let own = write_own(text, cuts.first, alphabet, fences, rules, out, kept);
+    copy_rows(
+        list,
+        split.after,
+        split.count,
+        cuts.second,
+        cuts.first + text.len(),
         out,
-        kept,
-    );
-    copy_rows(list, after, count, second, first + text.len(), out, own)
+        own,
+    )
 }
 
-// The refusals that the replacement and the room decide, 8 before 3, for cuts that may be made in a text of `len` bytes; else the list
-// written. A counting pass over the replacement goes before, since nothing may be written where either refuses.
-fn settle_by(
+// The refusals that the replacement and the room decide, 8 before 3, for cuts that may be made; else the list written. A counting pass
+// over the replacement goes before, since nothing may be written where either refuses.
+fn settle(
     list: &[u32],
     count: usize,
-    first: usize,
-    second: usize,
-    len: usize,
+    cuts: Cuts,
     text: &[u8],
-    g: Grammar,
-    needles: &[u8; Grammar::MAX_NEEDLES],
-    n: usize,
-    has: &[bool; 256],
-    least: &[u8; 256],
-    rows: &[usize; 256],
-    kind: &[u8; 256],
-    closer: &[u8; 256],
-    counts: &[u32; 256],
-    index: &[usize; 256],
+    alphabet: Alphabet,
+    fences: &[u16; 256],
+    rules: &Rows,
     out: &mut [u32],
 ) -> Answer
-    requires { ⌜ Ready (now list) count first second len (now text) ⌝ }
-    ensures { λ r. ⌜ Settled (g .eol) len (plainRegions (gramBy g (now (needles .entry)) n (now (has .entry)) (now (least .entry)) (now (rows .entry)) (now (kind .entry)) (now (closer .entry)) (now (counts .entry)) (now (index .entry)))) (listed count (now (list .entry))) (edit first second (now (text .entry))) (now (out .entry)) (now (out .exit)) (told r) ⌝ }
+    requires { ⌜ Ready (now list) count (cuts .first) (cuts .second) (cuts .len) (now text) ⌝ }
+    ensures { λ r. ⌜
+        Settled (alphabet .grammar .eol) (cuts .len) (listRegions (gramBy alphabet (now (fences .entry)) (now (rules .entry))))
+        (listed count (now (list .entry))) (edit (cuts .first) (cuts .second) (now (text .entry))) (now (out .entry))
+        (now (out .exit)) (told r)
+        ⌝ }
 {
-    let own = survey(
+    let own = survey(text, alphabet, fences, rules);
+    let left_open = is_left_open(
+        cuts.second < cuts.len,
         text,
-        g,
-        needles,
-        n,
-        has,
-        least,
-        rows,
-        kind,
-        closer,
-        counts,
-        index,
+        own.reaching,
+        alphabet.grammar.eol,
     );
-    let left_open = is_left_open(second < len, text, own.reaching, g.eol);
-    let before = starts_before(list, count, first);
-    let after = starts_before(list, count, second);
+    let before = starts_before(list, count, cuts.first);
+    let after = starts_before(list, count, cuts.second);
     let total = before + own.count + (count - after);
     if left_open {
         return Answer::Refused(Refusal::ReplacementOpen);
     }
-    if out.len() / 2 < total {
+    if out.len() / WIDE < total {
         return Answer::Refused(Refusal::NoRoom);
     }
-    Answer::Value(write(
-        list,
-        count,
+    let split = Split {
         before,
         after,
-        first,
-        second,
-        text,
-        g,
-        needles,
-        n,
-        has,
-        least,
-        rows,
-        kind,
-        closer,
-        counts,
-        index,
-        out,
-    ))
-}
-
-// The same, by tables handed over whole.
-fn settle(
-    list: &[u32],
-    count: usize,
-    first: usize,
-    second: usize,
-    len: usize,
-    text: &[u8],
-    g: Grammar,
-    t: RuleTables,
-    out: &mut [u32],
-) -> Answer
-    requires { ⌜ Ready (now list) count first second len (now text) ⌝ }
-    ensures { λ r. ⌜ Settled (g .eol) len (plainRegions (gramOn g t)) (listed count (now (list .entry))) (edit first second (now (text .entry))) (now (out .entry)) (now (out .exit)) (told r) ⌝ }
-{
-    let needles = t.needles;
-    let has = t.has;
-    let least = t.least;
-    let rows = t.rows;
-    let kind = t.kind;
-    let closer = t.closer;
-    let counts = t.count;
-    let index = t.index;
-    settle_by(
-        list,
         count,
-        first,
-        second,
-        len,
-        text,
-        g,
-        &needles,
-        t.searched,
-        &has,
-        &least,
-        &rows,
-        &kind,
-        &closer,
-        &counts,
-        &index,
-        out,
-    )
+    };
+    Answer::Value(write(list, split, cuts, text, alphabet, fences, rules, out))
 }
 
 // Amends the list of an old text, whose first `count` regions it has, for the text in which the bytes from the first cut up to the
@@ -259,25 +201,28 @@ pub fn amend(
     counts: &[u32],
     out: &mut [u32],
 ) -> Answer
-    ensures { λ r. ⌜ Amended g (columns (now (fences .entry)) (now (mins .entry)) (now (symmetric .entry)) (now (times .entry)) (now (openers .entry)) (now (closers .entry)) (now (counts .entry))) (now (old .entry)) (now (list .entry)) count (edit first second (now (text .entry))) (now (out .entry)) (now (out .exit)) (told r) ⌝ }
+    ensures { λ r. ⌜
+        Amended g (columns (now (fences .entry)) (now (mins .entry)) (now (symmetric .entry)) (now (times .entry))
+        (now (openers .entry)) (now (closers .entry)) (now (counts .entry))) (now (old .entry)) (now (list .entry)) count
+        (edit first second (now (text .entry))) (now (out .entry)) (now (out .exit)) (told r)
+        ⌝ }
 {
-    let unequal = columns_differ(fences, mins, symmetric, times, openers, closers, counts);
-    let marked = marks_line_end(g.eol, g.escape, symmetric, openers);
-    match judge(
-        old,
-        list,
-        count,
-        first,
-        second,
-        text,
-        unequal,
-        marked,
-        g.eol,
-    ) {
+    let flaws = Flaws {
+        unequal: columns_differ(fences, mins, symmetric, times, openers, closers, counts),
+        marked: marks_line_end(g.eol, g.escape, symmetric, openers),
+    };
+    match judge(old, list, count, first, second, text, flaws, g.eol) {
         Verdict::Refused(r) => Answer::Refused(r),
         Verdict::Fine => {
-            let t = rule_tables(fences, mins, symmetric, times, openers, closers, counts);
-            settle(list, count, first, second, old.len(), text, g, t, out)
+            let alphabet = Alphabet::of(g, fences, symmetric, openers);
+            let table = fence_table(fences, mins);
+            let rules = rule_rows(fences, symmetric, times, openers, closers, counts);
+            let cuts = Cuts {
+                first,
+                second,
+                len: old.len(),
+            };
+            settle(list, count, cuts, text, alphabet, &table, &rules, out)
         }
     }
 }

@@ -1,4 +1,7 @@
-// A list as rows of two numbers: a region's start and its end.
+// A list as rows of numbers: a region's start and its end.
+use common::list::END;
+use common::list::START;
+use common::list::WIDE;
 ghost use Prim.Native.Nat.{_+_, _-_, _*_, _<_};
 ghost use lib.ListN.{length, getD};
 ghost use Rattle.search.specs.Promise.{Gives};
@@ -6,12 +9,7 @@ ghost use Rattle.region.specs.Region.{keepBefore};
 ghost use Rattle.context.specs.Build.{Puts, Put};
 ghost use Rattle.amend.specs.Amended.{listed};
 ghost use Rattle.amend.specs.Parts.{Orderly, Moves, Copies, Copied};
-
-// The column of a region's start.
-const START: usize = 0;
-
-// The column of its end.
-pub(crate) const END: usize = 1;
+ghost use Rattle.common.specs.Entry.{wide};
 
 // A number of a list as a place.
 fn place_of(number: u32) -> usize
@@ -22,10 +20,10 @@ fn place_of(number: u32) -> usize
 
 // The number at column `j` of row `i`.
 pub(crate) fn number(list: &[u32], i: usize, j: usize) -> usize
-    requires { ⌜ i * 2 + j < length (now list) ⌝ }
-    ensures { λ r. ⌜ Gives (getD (now (list .entry)) (i * 2 + j) 0) r ⌝ }
+    requires { ⌜ i * wide + j < length (now list) ⌝ }
+    ensures { λ r. ⌜ Gives (getD (now (list .entry)) (i * wide + j) 0) r ⌝ }
 {
-    place_of(list[i * 2 + j])
+    place_of(list[i * WIDE + j])
 }
 
 // How many regions start before `k`. They are sorted, so that halving finds it.
@@ -51,9 +49,9 @@ fn put(out: &mut [u32], n: usize, start: usize, end: usize) -> usize
     requires { ⌜ Puts n start end (now out) ⌝ }
     ensures { λ r. ⌜ Put n start end (now (out .entry)) (now (out .exit)) r ⌝ }
 {
-    let k = n * 2;
+    let k = n * WIDE;
     out[k] = start as u32;
-    out[k + 1] = end as u32;
+    out[k + END] = end as u32;
     n + 1
 }
 

@@ -3,12 +3,14 @@
 use mathlib.Core.Bool.{Bool, cond, _&&_}
 use mathlib.Core.List.{List, [], _∷_}
 use Prim.Native.Nat.{ℕ, _+_}
-use lib.ListN.{length, getD}
-use Rattle.search.specs.Search.{holds, lineEnd, nextLine}
-use Rattle.common.specs.Refusals.{Outcome, given, refused, numberOf}
+use lib.Dec.{ltb}
+use lib.ListN.{length, getD, take}
+use lib.Seq.{slice}
+use Rattle.search.specs.Search.{either, oneOf, holds, find, lineEnd, nextLine}
+use Rattle.common.specs.Refusals.{Outcome, given, refused, tooLong, past, numberOf}
 use Rattle.common.specs.Turn.{Turn, go, stop, found, Step}
-use Rattle.common.specs.Items.{ItemGrammar, blank, leading, beyond, leads, itemFrom, itemsOf, readTurn, hitTurn, stepFor}
-use Rattle.common.specs.Scanning.{Scanner, Keeps}
+use Rattle.common.specs.Items.{ItemGrammar, grammar, blank, has, leading, beyond, leads, itemFrom, itemsOf, readTurn, hitTurn, stepFor}
+use Rattle.common.specs.Scanning.{Scanner, Keeps, KeepsFrom, onFrom, ofLine}
 use Rattle.common.specs.Scanning as scanning
 use Rattle.block_marker.specs.declared.BlockMarkerIter.{BlockMarkerIter}
 use Rattle.block_marker.specs.declared.MarkerItem.{MarkerItem}
@@ -17,6 +19,8 @@ use Rattle.block_marker.specs.declared.MarkerFound.the-variants.{Item, N
 use Rattle.block_marker.specs.declared.MarkerStep.{MarkerStep}
 use Rattle.block_marker.specs.declared.MarkerTurn.{MarkerTurn}
 use Rattle.block_marker.specs.declared.MarkerTurn.the-variants.{Go, Stop, Found}
+use Rattle.block_marker.specs.declared.MarkerFirst.{MarkerFirst}
+use Rattle.block_marker.specs.declared.MarkerFirst.the-variants as first
 
 -- the item of a marker, with the span of its content
 abbrev pub mark : ℕ → ℕ → ℕ → MarkerItem
@@ -76,11 +80,46 @@ answer = scanning.answer scanner
 abbrev pub state : BlockMarkerIter → List Bool → List ℕ → BlockMarkerIter
 state = scanning.state scanner
 
+-- ---- the step in one place
+-- what `next` promises of a state g, a set and a text s, in the order of its tests: what it answers, and the state after it. `next-unfolded`
+-- (MarkerRun.antt) shows that it is the promise
+abbrev pub unfolded : BlockMarkerIter → List Bool → List ℕ → Outcome × BlockMarkerIter
+unfolded g set s =
+    -- the state's place, the first accepted byte from there on, and where the line begins that follows a place's line
+    let q = g .pos in
+    let p = find (oneOf (take (g .nn) (g .needles))) s q in
+    let below : ℕ → ℕ = λ k. nextLine (length s) (lineEnd (g .eol) s k) in
+    -- the text is too long: 1, and the state as it was
+    cond (tooLong s) (refused 1, g)
+    -- the place is past the text: 2, and the state as it was
+    (cond (past s q) (refused 2, g)
+    -- "in a handmade state its flag decides". The streaming scan, where there is an accepted byte p:
+    (cond (g .streaming)
+    (cond (ltb p (length s))
+    -- only separators and tabs stand before it on its line, and one behind it: its item, with the rest of the line, and the next line
+    (cond (leads (g .eol) (g .sep) (g .tab) s p && holds (either (g .sep) (g .tab)) s (p + 1))
+    (given ((p + 2) ∷ lineEnd (g .eol) s (p + 2) ∷ getD s p 0 ∷ []), scanning.at scanner g (below (p + 2)))
+    -- else what the state answers from the next line on
+    (onFrom scanner g set s (below p)))
+    -- where there is none: nothing, and the state stays
+    (given [], g))
+    -- the line scan, before the text's end: the item that the bytes of the line from q on make, and the next line; where they make none,
+    -- what the state answers from the next line on
+    (cond (ltb q (length s))
+    (ofLine scanner g set s (markLine (grammar (g .eol) (g .sep) (g .tab) (has set)) q (slice q (lineEnd (g .eol) s q) s)) (below q))
+    -- at the text's end: nothing, and the state stays
+    (given [], g))))
+
 -- ---- what the code's values stand for
 abbrev pub view : MarkerTurn → Turn MarkerItem
 view (Go n) = go n
 view (Stop v) = stop v
 view (Found m a e n) = found (mark m a e) n
+
+-- of a whole scan, which comes to something
+abbrev pub rests : MarkerFirst → Turn MarkerItem
+rests (first.Found m a e n) = found (mark m a e) n
+rests (first.Stopped v) = stop v
 
 abbrev pub told : MarkerFound → Outcome
 told (Item i) = given (values i)
@@ -91,6 +130,10 @@ told (Refused r) = refused (numberOf r)
 -- the promise of `next` for its result
 abbrev pub Kept : BlockMarkerIter → List Bool → List ℕ → MarkerStep → Type 0
 Kept g set s r = Keeps scanner g set s (told (r .found)) (r .next)
+
+-- a `next` that keeps that promise of a state wherever it stands in the text
+abbrev pub KeptFrom : BlockMarkerIter → List Bool → List ℕ → (BlockMarkerIter → MarkerStep) → Type 0
+KeptFrom g set s next = KeepsFrom scanner g set s (λ k. told (next k .found)) (λ k. next k .next)
 
 -- what a step yields, and the state after it
 abbrev pub stepped : MarkerStep → Step MarkerItem BlockMarkerIter

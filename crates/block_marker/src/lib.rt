@@ -5,7 +5,7 @@
 // With up to three accepted bytes the scan is streaming: one search for them, with a look back over separators and tabs to see that
 // the byte leads its line, so that lines without one are never visited. With more the lines are read one by one.
 use common::items::blank_at;
-use common::items::leads_line;
+use common::items::leads_later;
 use common::refusal::Refusal;
 use common::sets::accepts;
 use common::sets::probe_matcher;
@@ -21,10 +21,10 @@ ghost use Prim.Native.Nat.{_≤_};
 ghost use lib.ListN.{length, take};
 ghost use Rattle.search.specs.Promise.{Gives, Steps};
 ghost use Rattle.search.specs.Search.{oneOf, Sought};
-ghost use Rattle.common.specs.Items.{grammar, has};
+ghost use Rattle.common.specs.Items.{grammar, has, Unled, Looked};
 ghost use Rattle.common.specs.Scanning.{at, first};
 ghost use Rattle.common.specs.Turn.{firstTurn};
-ghost use Rattle.block_marker.specs.Marker.{streamTurn, lineTurn, scanner, fresh, view, told, answer, state};
+ghost use Rattle.block_marker.specs.Marker.{streamTurn, lineTurn, scanner, fresh, view, rests, told, answer, state};
 
 // The fields of the Rust's iterator; the text and the set of accepted bytes are lent beside it.
 pub struct BlockMarkerIter {
@@ -63,6 +63,12 @@ enum MarkerTurn {
     Found(u8, usize, usize, usize),
 }
 
+// What a scan comes to: a marker, its content from where to where, and the next line; or nothing, and the place where it stops.
+enum MarkerFirst {
+    Found(u8, usize, usize, usize),
+    Stopped(usize),
+}
+
 // The first needle at or after `q`. The place itself comes first: of lines that are items one after another the mark stands just where
 // the search for it begins.
 fn find_mark(src: &[u8], q: usize, needles: &[u8; 3], nn: usize) -> usize
@@ -86,14 +92,19 @@ fn stream_turn(
     tab: u8,
     needles: &[u8; 3],
     nn: usize,
+    lost: &mut [usize; 1],
 ) -> MarkerTurn
-    ensures { λ r. ⌜ Gives (streamTurn (grammar eol sep tab (oneOf (take nn (now (needles .entry))))) (now (src .entry)) q) (view r) ⌝ }
+    requires { ⌜ Unled eol sep tab (now src) (now lost) ⌝ }
+    ensures { λ r. ⌜
+        Looked eol sep tab (now (src .entry))
+        (streamTurn (grammar eol sep tab (oneOf (take nn (now (needles .entry))))) (now (src .entry)) q) (view r) (now (lost .exit))
+        ⌝ }
 {
     let p = find_mark(src, q, needles, nn);
     if p >= src.len() {
         return MarkerTurn::Stop(q);
     }
-    if leads_line(src, p, eol, sep, tab) {
+    if leads_later(src, p, eol, sep, tab, lost) {
         if blank_at(src, p + 1, sep, tab) {
             let start = p + 2;
             let e = find_byte(src, start, eol);
@@ -113,21 +124,25 @@ fn first_streamed(
     tab: u8,
     needles: &[u8; 3],
     nn: usize,
-) -> MarkerTurn
+) -> MarkerFirst
     requires { ⌜ from ≤ length (now src) ⌝ }
-    ensures { λ r. ⌜ Gives (firstTurn (streamTurn (grammar eol sep tab (oneOf (take nn (now (needles .entry))))) (now (src .entry))) (length (now (src .entry))) from) (view r) ⌝ }
+    ensures { λ r. ⌜
+        Gives (firstTurn (streamTurn (grammar eol sep tab (oneOf (take nn (now (needles .entry))))) (now (src .entry)))
+        (length (now (src .entry))) from) (rests r)
+        ⌝ }
 {
+    let mut lost = [0usize; 1];
     let mut q = from;
     loop {
-        match stream_turn(src, q, eol, sep, tab, needles, nn) {
+        match stream_turn(src, q, eol, sep, tab, needles, nn, &mut lost) {
             MarkerTurn::Go(n) => {
                 q = n;
             }
             MarkerTurn::Stop(v) => {
-                return MarkerTurn::Stop(v);
+                return MarkerFirst::Stopped(v);
             }
             MarkerTurn::Found(m, a, e, n) => {
-                return MarkerTurn::Found(m, a, e, n);
+                return MarkerFirst::Found(m, a, e, n);
             }
         }
     }
@@ -165,9 +180,12 @@ fn first_lined(
     sep: u8,
     tab: u8,
     matches: &[bool; 256],
-) -> MarkerTurn
+) -> MarkerFirst
     requires { ⌜ from ≤ length (now src) ⌝ }
-    ensures { λ r. ⌜ Gives (firstTurn (lineTurn (grammar eol sep tab (has (now (matches .entry)))) (now (src .entry))) (length (now (src .entry))) from) (view r) ⌝ }
+    ensures { λ r. ⌜
+        Gives (firstTurn (lineTurn (grammar eol sep tab (has (now (matches .entry)))) (now (src .entry)))
+        (length (now (src .entry))) from) (rests r)
+        ⌝ }
 {
     let mut q = from;
     loop {
@@ -176,10 +194,10 @@ fn first_lined(
                 q = n;
             }
             MarkerTurn::Stop(v) => {
-                return MarkerTurn::Stop(v);
+                return MarkerFirst::Stopped(v);
             }
             MarkerTurn::Found(m, a, e, n) => {
-                return MarkerTurn::Found(m, a, e, n);
+                return MarkerFirst::Found(m, a, e, n);
             }
         }
     }
@@ -211,9 +229,9 @@ impl BlockMarkerIter {
     }
 
     // The first item at or after the state's place, by the scan that its flag says.
-    fn first(self, src: &[u8], matches: &[bool; 256]) -> MarkerTurn
+    fn first(self, src: &[u8], matches: &[bool; 256]) -> MarkerFirst
         requires { ⌜ self .pos ≤ length (now src) ⌝ }
-        ensures { λ r. ⌜ Gives (first scanner self (now (matches .entry)) (now (src .entry))) (view r) ⌝ }
+        ensures { λ r. ⌜ Gives (first scanner self (now (matches .entry)) (now (src .entry))) (rests r) ⌝ }
     {
         if self.streaming {
             let needles = self.needles;
@@ -231,7 +249,10 @@ impl BlockMarkerIter {
     }
 
     pub fn next(self, src: &[u8], matches: &[bool; 256]) -> MarkerStep
-        ensures { λ r. ⌜ Steps (answer self (now (matches .entry)) (now (src .entry))) (state self (now (matches .entry)) (now (src .entry))) (told (r .found)) (r .next) ⌝ }
+        ensures { λ r. ⌜
+            Steps (answer self (now (matches .entry)) (now (src .entry))) (state self (now (matches .entry)) (now (src .entry)))
+            (told (r .found)) (r .next)
+            ⌝ }
     {
         let pos = self.pos;
         let len = src.len();
@@ -248,7 +269,7 @@ impl BlockMarkerIter {
             };
         }
         match self.first(src, matches) {
-            MarkerTurn::Found(marker, a, e, after) => MarkerStep {
+            MarkerFirst::Found(marker, a, e, after) => MarkerStep {
                 found: MarkerFound::Item(MarkerItem {
                     marker,
                     span: Span {
@@ -258,13 +279,9 @@ impl BlockMarkerIter {
                 }),
                 next: self.at(after),
             },
-            MarkerTurn::Stop(v) => MarkerStep {
+            MarkerFirst::Stopped(v) => MarkerStep {
                 found: MarkerFound::Nothing,
                 next: self.at(v),
-            },
-            MarkerTurn::Go(n) => MarkerStep {
-                found: MarkerFound::Nothing,
-                next: self.at(n),
             },
         }
     }

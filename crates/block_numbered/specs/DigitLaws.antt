@@ -1,10 +1,10 @@
--- Laws of digits: what one counts, how many stand before a place, and the number that they write. Assumes nothing.
+-- Laws of the digits of a text: how many stand before a place, and the number that those between two places write. Assumes nothing.
 use mathlib.Core.Path.{_≡_, refl, sym, ap, _∙_}
 use mathlib.Core.Bool.{Bool, true, false, and-false}
 use mathlib.Core.List.{List, [], _∷_, _++_}
 use mathlib.Core.Logic.{_⊎_, inl, inr, ⊎-elim}
 use Prim.Native.Nat.{ℕ, zero, suc, _+_, _-_, _*_, _^_, _≤_, _<_, min}
-use native.Mathlib.Nat.{pow-le-pow-right, pow-succ', mul-le-mul-right, suc-add}
+use native.Mathlib.Nat.{pow-le-pow-right, suc-add}
 use native.Mathlib.Numerals.{add-one}
 use native.Mathlib.Omega.{arith}
 use mir.Val.{Fits}
@@ -16,28 +16,13 @@ use borrow.Author.Tests.{leb-true, leb-false, le-leb, lt-leb, ltb-true, ltb-fals
 use Rattle.search.specs.Promise.{Gives}
 use Rattle.search.specs.Search.{other, holds, find, back}
 use Rattle.search.specs.SearchLaws.{decide, clash, and-true, other-yes, other-no, holds-in, holds-past, find-le, find-end, find-here, Seeks, seeks-first, seeks-again, Backs, backs-first, backs-told-again, backs-told-found, backs-end, back-le, back-past, back-run, back-stop}
+use Rattle.decimal.specs.Decimal.{digit, valued, allDigits}
+use Rattle.decimal.specs.DecimalLaws.{digit-most, digit-none, valued-more, valued-none, valued-few}
 use Rattle.common.specs.Items.{leading, beyond}
 use Rattle.common.specs.ItemLaws.{leading-yes, leading-no, beyond-yes, beyond-no, leading-is}
-use Rattle.block_numbered.specs.Numbered.{digit, decimalFrom, decimal, oneToNine, few, readDigits, digitsAt}
+use Rattle.block_numbered.specs.Numbered.{oneToNine, few, readDigits, digitsAt}
 
--- ---- one digit
-pub digit-low : (x : ℕ) → x < 48 → Gives (digit x) false
-unfolding digit
-digit-low x h = record { answer = simp (lt-leb 48 x h) }
-
-pub digit-rest : (x : ℕ) → 48 ≤ x → Gives (digit x) (leb x 57)
-unfolding digit
-digit-rest x h = record { answer = simp (le-leb 48 x h) }
-
-pub digit-most : (x : ℕ) → digit x ≡ true → x - 48 ≤ 9
-unfolding digit
-digit-most x e = omega (arith, leb-true x 57 (and-true (leb 48 x) (leb x 57) e .1))
-
-digit-none : digit 0 ≡ false
-unfolding digit
-digit-none = refl
-
--- past a text there is no digit
+-- ---- past a text there is no digit
 read-digit : (s : List ℕ) (j : ℕ) → holds digit s j ≡ digit (getD s j 0)
 read-digit s j = by (decide (ltb j (length s)))
   where
@@ -115,23 +100,17 @@ module _ (s : List ℕ) (p n : ℕ) where
 
 pub ruleset before-rules = (before-all, before-short, before-more, before-few)
 
--- ---- the number that digits write
-decimal-more : (v : ℕ) (l : List ℕ) (x : ℕ) → decimalFrom v (l ++ (x ∷ [])) ≡ decimalFrom v l * 10 + (x - 48)
-unfolding decimalFrom
-decimal-more v [] x = refl
-decimal-more v (y ∷ l) x = decimal-more (v * 10 + (y - 48)) l x
-
+-- ---- the number that digits of a text write
 -- one byte more of a part of a text
 slice-more : (u : List ℕ) (from i : ℕ) → from ≤ i → i < length u → slice from (i + 1) u ≡ slice from i u ++ (getD u i 0 ∷ [])
 slice-more u from i h l =
     ap (λ (k : ℕ). slice from k u) (add-one i) ∙ ap (drop from) (take-suc u i 0 l) ∙ drop-append-le from (take i u) (getD u i 0 ∷ []) (omega (arith, length-take-le i u (omega arith)))
 
-pub decimal-slice : (u : List ℕ) (from i : ℕ) → from ≤ i → i < length u → decimal (slice from (i + 1) u) ≡ decimal (slice from i u) * 10 + (getD u i 0 - 48)
-decimal-slice u from i h l = ap decimal (slice-more u from i h l) ∙ decimal-more 0 (slice from i u) (getD u i 0)
+pub valued-slice : (u : List ℕ) (from i : ℕ) → from ≤ i → i < length u → valued (slice from (i + 1) u) ≡ valued (slice from i u) * 10 + (getD u i 0 - 48)
+valued-slice u from i h l = ap valued (slice-more u from i h l) ∙ valued-more 0 (slice from i u) (getD u i 0)
 
-decimal-none : (u : List ℕ) (i : ℕ) → decimal (slice i i u) ≡ 0
-unfolding decimalFrom
-decimal-none u i = ap decimal (slice-empty i u)
+valued-empty : (u : List ℕ) (i : ℕ) → valued (slice i i u) ≡ 0
+valued-empty u i = ap valued (slice-empty i u) ∙ valued-none
 
 read-none : (l : List ℕ) → l ≡ [] → readDigits l ≡ []
 unfolding leading
@@ -146,7 +125,7 @@ take-drop n (suc m) (x ∷ l) = take-drop n m l ∙ ap (λ (k : ℕ). drop (suc 
 
 pub record Reading (u : List ℕ) (from i v : ℕ) : Type 0 where
   pub seeks : Seeks (other digit) (take (from + 9) u) from i
-  pub value : v ≡ decimal (slice from i u)
+  pub value : v ≡ valued (slice from i u)
   pub small : v < 10 ^ (i - from)
   pub most : i ≤ from + 9
 
@@ -154,7 +133,7 @@ module _ (u : List ℕ) (from : ℕ) where
   pub reading-first : Reading u from from 0
   reading-first =
       let z : from - from ≡ 0 = omega arith in
-      record { seeks = seeks-first (other digit) (take (from + 9) u) from; value = sym (decimal-none u from); small = rw z (omega arith); most = omega arith }
+      record { seeks = seeks-first (other digit) (take (from + 9) u) from; value = sym (valued-empty u from); small = rw z (omega arith); most = omega arith }
 
   module _ (i v : ℕ) (w : Reading u from i v) where
     pub reading-low : from ≤ i
@@ -172,7 +151,7 @@ module _ (u : List ℕ) (from : ℕ) where
       where
         answer : readDigits (drop from u) ≡ slice from i u → from + length (slice from i u) ≡ i → Gives (digitsAt from (readDigits (drop from u))) (record { number = v; end = i })
         answer p q = record {
-          answer = sym (ap (digitsAt from) p ∙ ap (λ (k : ℕ). record { number = decimal (slice from i u); end = k }) q ∙ ap (λ (k : ℕ). record { number = k; end = i }) (sym (w .value)));
+          answer = sym (ap (digitsAt from) p ∙ ap (λ (k : ℕ). record { number = valued (slice from i u); end = k }) q ∙ ap (λ (k : ℕ). record { number = k; end = i }) (sym (w .value)));
         }
 
         by : (ltb (length u) from ≡ true) ⊎ (ltb (length u) from ≡ false) → Gives (digitsAt from (readDigits (drop from u))) (record { number = v; end = i })
@@ -217,7 +196,7 @@ module _ (u : List ℕ) (from : ℕ) where
           let z : i + 1 - from ≡ suc (i - from) = omega arith in
           record {
             seeks = seeks-again (other digit) (take (from + 9) u) from i (w .seeks) (omega (arith, size)) (other-no digit (getD (take (from + 9) u) i 0) (ap digit (byte ∙ sym (b .answer)) ∙ sym (d .answer) ∙ e));
-            value = rw (c .answer, b .answer, w .value) (sym (decimal-slice u from i a h));
+            value = rw (c .answer, b .answer, w .value) (sym (valued-slice u from i a h));
             small = rw z (omega (arith, w .small, digit-most x (sym (d .answer) ∙ e), c .answer));
             most = omega arith;
           }
@@ -255,25 +234,20 @@ one-to-nine m e = let w = and-true (ltb 0 m) (leb m 9) e in (ltb-true 0 m (w .0)
 pub nine-yes : (m : ℕ) → 0 < m → m ≤ 9 → oneToNine m ≡ true
 nine-yes m h l = rw (lt-ltb 0 m h, le-leb m 9 l)
 
--- ---- digits write small numbers
--- n digits behind v
-leading-small : (v : ℕ) (l : List ℕ) → decimalFrom v (leading digit l) < (v + 1) * 10 ^ length (leading digit l)
-unfolding leading decimalFrom
-leading-small v [] = omega arith
-leading-small v (x ∷ l) = by (decide (digit x)) (leading-small (v * 10 + (x - 48)) l)
+-- ---- nine digits write small numbers
+all-leading : (l : List ℕ) → allDigits (leading digit l) ≡ true
+unfolding leading
+all-leading [] = refl
+all-leading (x ∷ l) = by (decide (digit x)) (all-leading l)
   where
-    by : (digit x ≡ true) ⊎ (digit x ≡ false) → decimalFrom (v * 10 + (x - 48)) (leading digit l) < (v * 10 + (x - 48) + 1) * 10 ^ length (leading digit l)
-        → decimalFrom v (leading digit (x ∷ l)) < (v + 1) * 10 ^ length (leading digit (x ∷ l))
-    by (inl y) ih =
-        let k = length (leading digit l) in
-        let m : (v * 10 + (x - 48) + 1) * 10 ^ k ≤ (v * 10 + 10) * 10 ^ k = mul-le-mul-right (10 ^ k) (omega (arith, digit-most x y)) in
-        rw (leading-yes digit x l y, pow-succ') (omega arith)
-    by (inr y) ih = rw (leading-no digit x l y) (omega arith)
+    by : (digit x ≡ true) ⊎ (digit x ≡ false) → allDigits (leading digit l) ≡ true → allDigits (leading digit (x ∷ l)) ≡ true
+    by (inl y) ih = rw (leading-yes digit x l y, y, ih)
+    by (inr y) ih = rw (leading-no digit x l y)
 
-pub digits-small : (l : List ℕ) → length (leading digit l) ≤ 9 → decimal (leading digit l) < 1000000000
+pub digits-small : (l : List ℕ) → length (leading digit l) ≤ 9 → valued (leading digit l) < 1000000000
 digits-small l h =
     let p = pow-le-pow-right {n = 10} (omega arith) {i = length (leading digit l)} {j = 9} h in
-    omega (arith, leading-small 0 l)
+    omega (arith, valued-few 0 (leading digit l) (all-leading l))
 
 -- ---- the leading bytes of a front
 module _ (t : ℕ → Bool) where

@@ -3,15 +3,16 @@
 use mathlib.Core.Bool.{Bool, true, false, cond, _&&_}
 use mathlib.Core.List.{List, [], _∷_}
 use mathlib.Core.Path.{_≡_}
-use Prim.Native.Nat.{ℕ, _+_, _-_, _*_}
+use Prim.Native.Nat.{ℕ, _+_, _-_}
 use lib.Dec.{ltb, leb}
 use lib.ListN.{length, getD, take, drop}
 use lib.Seq.{slice}
-use Rattle.search.specs.Search.{holds, back, lineEnd, nextLine}
-use Rattle.common.specs.Refusals.{Outcome, given, refused, numberOf}
+use Rattle.search.specs.Search.{either, oneOf, holds, find, back, lineEnd, nextLine}
+use Rattle.decimal.specs.Decimal.{digit, valued}
+use Rattle.common.specs.Refusals.{Outcome, given, refused, tooLong, past, numberOf}
 use Rattle.common.specs.Turn.{Turn, go, stop, found, Step}
-use Rattle.common.specs.Items.{ItemGrammar, blank, Apart, leading, beyond, leads, itemFrom, itemsOf, readTurn, hitTurn, stepFor}
-use Rattle.common.specs.Scanning.{Scanner, Keeps}
+use Rattle.common.specs.Items.{ItemGrammar, grammar, blank, has, Apart, leading, beyond, leads, itemFrom, itemsOf, readTurn, hitTurn, stepFor}
+use Rattle.common.specs.Scanning.{Scanner, Keeps, KeepsFrom, onFrom, ofLine}
 use Rattle.common.specs.Scanning as scanning
 use Rattle.block_numbered.specs.declared.BlockNumberedIter.{BlockNumberedIter}
 use Rattle.block_numbered.specs.declared.NumberedItem.{NumberedItem}
@@ -20,19 +21,9 @@ use Rattle.block_numbered.specs.declared.NumberedFound.the-variants.{Ite
 use Rattle.block_numbered.specs.declared.NumberedStep.{NumberedStep}
 use Rattle.block_numbered.specs.declared.NumberedTurn.{NumberedTurn}
 use Rattle.block_numbered.specs.declared.NumberedTurn.the-variants.{Go, Stop, Found}
+use Rattle.block_numbered.specs.declared.NumberedFirst.{NumberedFirst}
+use Rattle.block_numbered.specs.declared.NumberedFirst.the-variants as first
 use Rattle.block_numbered.specs.declared.Digits.{Digits}
-
--- whether a byte is an ASCII digit
-unfoldable pub digit : ℕ → Bool
-digit x = leb 48 x && leb x 57
-
--- the number that digits write behind a number v, and that they write alone
-unfoldable pub decimalFrom : ℕ → List ℕ → ℕ
-decimalFrom v [] = v
-decimalFrom v (x ∷ l) = decimalFrom (v * 10 + (x - 48)) l
-
-abbrev pub decimal : List ℕ → ℕ
-decimal l = decimalFrom 0 l
 
 -- "1 to 9 ASCII digits"
 abbrev pub oneToNine : ℕ → Bool
@@ -44,7 +35,7 @@ few n = cond (leb n 9) n 0
 
 -- the item of digits and their delimiter, with the span of its content
 abbrev pub numbered : List ℕ → ℕ → ℕ → ℕ → NumberedItem
-numbered ds delimiter start end = record { number = decimal ds; delimiter = delimiter; span = record { start = start; end = end } }
+numbered ds delimiter start end = record { number = valued ds; delimiter = delimiter; span = record { start = start; end = end } }
 
 -- ---- all numbered items of a text, by the bytes of its lines
 -- the item of a line's bytes behind its digits ds, the first of them at k: an accepted delimiter, one separator or tab, and the rest of
@@ -65,11 +56,15 @@ numberLine g a l = numberFrom g (a + length (leading (blank g) l)) (beyond (blan
 abbrev pub numbers : ItemGrammar → List ℕ → List NumberedItem
 numbers g s = itemsOf g (numberLine g) s
 
+-- no digit is accepted
+abbrev pub NoDigit : ItemGrammar → Type 0
+NoDigit g = (x : ℕ) → digit x ≡ true → g .accepts x ≡ false
+
 -- the page's conditions: "none of line end, separator, tab or digit, the line end is neither separator nor tab, and none of these three
 -- is a digit"
 pub record DigitsApart (g : ItemGrammar) : Type 0 where
   pub apart : Apart g
-  pub not-digit : (x : ℕ) → digit x ≡ true → g .accepts x ≡ false
+  pub not-digit : NoDigit g
   pub eol-digit : digit (g .eol) ≡ false
   pub sep-digit : digit (g .sep) ≡ false
   pub tab-digit : digit (g .tab) ≡ false
@@ -133,11 +128,49 @@ answer = scanning.answer scanner
 abbrev pub state : BlockNumberedIter → List Bool → List ℕ → BlockNumberedIter
 state = scanning.state scanner
 
+-- ---- the step in one place
+-- what `next` promises of a state g, a set and a text s, in the order of its tests: what it answers, and the state after it. `next-unfolded`
+-- (NumberedRun.antt) shows that it is the promise
+abbrev pub unfolded : BlockNumberedIter → List Bool → List ℕ → Outcome × BlockNumberedIter
+unfolded g set s =
+    -- the state's place, the first accepted byte from there on, the number of digits just before it, and where the line begins that
+    -- follows a place's line
+    let q = g .pos in
+    let p = find (oneOf (take (g .nn) (g .needles))) s q in
+    let n = back digit s p in
+    let below : ℕ → ℕ = λ k. nextLine (length s) (lineEnd (g .eol) s k) in
+    -- the text is too long: 1, and the state as it was
+    cond (tooLong s) (refused 1, g)
+    -- the place is past the text: 2, and the state as it was
+    (cond (past s q) (refused 2, g)
+    -- "in a handmade state its flag decides". The streaming scan, where there is an accepted byte p:
+    (cond (g .streaming)
+    (cond (ltb p (length s))
+    -- the digits are one to nine, only separators and tabs stand before them on their line, and one behind p: its item, with the rest of the
+    -- line, and the next line
+    (cond (oneToNine n && (leads (g .eol) (g .sep) (g .tab) s (p - n) && holds (either (g .sep) (g .tab)) s (p + 1)))
+    (given ((p + 2) ∷ lineEnd (g .eol) s (p + 2) ∷ getD s p 0 ∷ valued (slice (p - n) p s) ∷ []), scanning.at scanner g (below (p + 2)))
+    -- else what the state answers from the next byte on
+    (onFrom scanner g set s (p + 1)))
+    -- where there is none: nothing, and the state stays
+    (given [], g))
+    -- the line scan, before the text's end: the item that the bytes of the line from q on make, and the next line; where they make none,
+    -- what the state answers from the next line on
+    (cond (ltb q (length s))
+    (ofLine scanner g set s (readLine (grammar (g .eol) (g .sep) (g .tab) (has set)) q (slice q (lineEnd (g .eol) s q) s)) (below q))
+    -- at the text's end: nothing, and the state stays
+    (given [], g))))
+
 -- ---- what the code's values stand for
 abbrev pub view : NumberedTurn → Turn NumberedItem
 view (Go n) = go n
 view (Stop v) = stop v
 view (Found v d a e n) = found (item v d a e) n
+
+-- of a whole scan, which comes to something
+abbrev pub rests : NumberedFirst → Turn NumberedItem
+rests (first.Found v d a e n) = found (item v d a e) n
+rests (first.Stopped v) = stop v
 
 abbrev pub told : NumberedFound → Outcome
 told (Item i) = given (values i)
@@ -146,12 +179,16 @@ told (Refused r) = refused (numberOf r)
 
 -- digits read from a place: their number, and where they end
 abbrev pub digitsAt : ℕ → List ℕ → Digits
-digitsAt from ds = record { number = decimal ds; end = from + length ds }
+digitsAt from ds = record { number = valued ds; end = from + length ds }
 
 -- ---- the run
 -- the promise of `next` for its result
 abbrev pub Kept : BlockNumberedIter → List Bool → List ℕ → NumberedStep → Type 0
 Kept g set s r = Keeps scanner g set s (told (r .found)) (r .next)
+
+-- a `next` that keeps that promise of a state wherever it stands in the text
+abbrev pub KeptFrom : BlockNumberedIter → List Bool → List ℕ → (BlockNumberedIter → NumberedStep) → Type 0
+KeptFrom g set s next = KeepsFrom scanner g set s (λ k. told (next k .found)) (λ k. next k .next)
 
 -- what a step yields, and the state after it
 abbrev pub stepped : NumberedStep → Step NumberedItem BlockNumberedIter

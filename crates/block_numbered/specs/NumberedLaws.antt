@@ -12,11 +12,12 @@ use borrow.Author.Tests.{lt-ltb, le-ltb, ltb-true, ltb-false, leb-true, leb-fals
 use Rattle.search.specs.Promise.{Gives}
 use Rattle.search.specs.Search.{is, either, other, holds, find, Sought, back, lineStart, lineEnd, nextLine}
 use Rattle.search.specs.SearchLaws.{decide, clash, and-true, is-no, either-true, other-yes, other-no, other-false, holds-in, holds-true, find-ge, find-le, find-before, find-at, find-is, find-end, find-over, back-le, line-next}
+use Rattle.decimal.specs.Decimal.{digit, valued}
 use Rattle.common.specs.Turn.{go, stop, found, allFound, Ahead, Adv, Covers}
 use Rattle.common.specs.TurnLaws.{collect-covers}
 use Rattle.common.specs.Items.{ItemGrammar, grammar, blank, leading, beyond, leads, itemFrom, itemAt, itemsOf}
 use Rattle.common.specs.ItemLaws.{both, other-true, leading-is, beyond-is, leading-beyond, marked, from-drop, marked-tests, Parted, marked-parted, parted-marked, AtMost, most-from, Walked, walked, walked-is, start-after, line-size, line-length, line-low, Led, led, led-find, led-walked, no-line, on-line, line-rest, line-reach, read-none, read-line, read-adv, read-items, hit-adv, hit-covers, blank-refused, accepted-blank, blank-inside, accepted-inside}
-use Rattle.block_numbered.specs.Numbered.{digit, decimal, oneToNine, few, numbered, item, numberThen, numberFrom, numberLine, numbers, DigitsApart, streamHit, streamTurn, readDigits, readFrom, readLine, lineTurn, digitsAt}
+use Rattle.block_numbered.specs.Numbered.{oneToNine, few, numbered, item, numberThen, numberFrom, numberLine, numbers, NoDigit, DigitsApart, streamHit, streamTurn, readDigits, readFrom, readLine, lineTurn, digitsAt}
 use Rattle.block_numbered.specs.DigitLaws.{few-none, few-some, one-to-nine, nine-yes, digits-small, leading-few, leading-many, drop-leading}
 use Rattle.block_numbered.specs.declared.NumberedItem.{NumberedItem}
 use Rattle.block_numbered.specs.declared.Digits.{Digits}
@@ -76,7 +77,7 @@ module _ (eol sep tab : ℕ) (t : ℕ → Bool) (s : List ℕ) (q p : ℕ) where
         pub stream-found : (e i m : ℕ) (r : Digits) → z ≡ true → Gives (leads eol sep tab s (p - n)) y → Gives (holds (either sep tab) s (p + 1)) z → Gives (digitsAt (p - n) (readDigits (slice (p - n) p s))) r
             → Sought (is eol) s (p + 2) e → Gives (nextLine (length s) e) i → Gives (getD s p 0) m → Gives (streamTurn (grammar eol sep tab t) s q) (found (item (r .number) m (p + 2) e) i)
         stream-found e i m r c a b x l v k =
-            let u : r .number ≡ decimal (slice (p - n) p s) = ap (λ (j : Digits). j .number) (x .answer) ∙ ap decimal (subst (λ (j : ℕ). readDigits (slice (p - j) p s) ≡ slice (p - j) p s) (sym count) (back-read s p (omega arith) (some .1))) in
+            let u : r .number ≡ valued (slice (p - n) p s) = ap (λ (j : Digits). j .number) (x .answer) ∙ ap valued (subst (λ (j : ℕ). readDigits (slice (p - j) p s) ≡ slice (p - j) p s) (sym count) (back-read s p (omega arith) (some .1))) in
             record { answer = sym (rest z a b ∙ simp (f, c, ← (l .here), ← (v .answer), ← (k .answer), ← u)) }
 
 pub ruleset stream-rules = (stream-none, stream-digitless, stream-unled, stream-bare, stream-found)
@@ -197,15 +198,15 @@ module _ (g : ItemGrammar) (s : List ℕ) where
       n : ℕ
       n = back digit s p
 
-      small : oneToNine n ≡ true → decimal (slice (p - n) p s) < 1000000000
-      small e = subst (λ (d : List ℕ). decimal d < 1000000000) (back-read s p (omega arith) e) (digits-small (take 9 (slice (p - n) p s)) (read-nine (slice (p - n) p s)))
+      small : oneToNine n ≡ true → valued (slice (p - n) p s) < 1000000000
+      small e = subst (λ (d : List ℕ). valued d < 1000000000) (back-read s p (omega arith) e) (digits-small (take 9 (slice (p - n) p s)) (read-nine (slice (p - n) p s)))
 
   pub stream-adv : Adv Lies (streamTurn g s) (length s)
   unfolding streamTurn
   stream-adv = hit-adv g (λ p. streamHit g s p (back digit s p)) s Lies hit-ahead
 
   -- behind digits that write a small number
-  then-most : (q e n k : ℕ) (ds l : List ℕ) → q ≤ k → k + length l ≡ e → e ≤ n → (oneToNine (length ds) ≡ true → decimal ds < 1000000000) → AtMost (Lies q n) (numberThen g ds k l)
+  then-most : (q e n k : ℕ) (ds l : List ℕ) → q ≤ k → k + length l ≡ e → e ≤ n → (oneToNine (length ds) ≡ true → valued ds < 1000000000) → AtMost (Lies q n) (numberThen g ds k l)
   then-most q e n k ds l c f m small = both (AtMost (Lies q n)) (oneToNine (length ds)) _ _ (λ y. most-from g (numbered ds) (Lies q n) k l (λ x j a b. (a, omega arith, small y, omega arith))) (λ y. tt)
 
   pub read-most : (q e n : ℕ) (l : List ℕ) → q + length l ≡ e → e ≤ n → AtMost (Lies q n) (readLine g q l)
@@ -221,7 +222,7 @@ module _ (g : ItemGrammar) (s : List ℕ) where
   line-adv = read-adv g (readLine g) s Lies read-most
 
   -- ---- where no digit is accepted, the line scan's nine digits are all
-  module _ (apart : (x : ℕ) → digit x ≡ true → g .accepts x ≡ false) where
+  module _ (apart : NoDigit g) where
     same-from : (p : ℕ) (l : List ℕ) → readFrom g p l ≡ numberFrom g p l
     same-from p l = by (decide (leb (length (leading digit l)) 9))
       where
@@ -489,5 +490,5 @@ pub lined-read : (g : ItemGrammar) (s : List ℕ) → allFound (lineTurn g s) (l
 lined-read g s = read-items g (readLine g) s Lies (read-most g s)
 
 -- and by every grammar that accepts no digit, the items of the page
-pub lined-items : (g : ItemGrammar) (s : List ℕ) → ((x : ℕ) → digit x ≡ true → g .accepts x ≡ false) → allFound (lineTurn g s) (length s) 0 ≡ numbers g s
+pub lined-items : (g : ItemGrammar) (s : List ℕ) → NoDigit g → allFound (lineTurn g s) (length s) 0 ≡ numbers g s
 lined-items g s apart = lined-read g s ∙ ap (λ (f : ℕ → List ℕ → List NumberedItem). itemsOf g f s) (fun-ext (λ a. fun-ext (same-line g s apart a)))

@@ -7,7 +7,7 @@
 // over separators and tabs to see that the item leads its line. Searching for the delimiter spares a search for ten digits; a stray
 // delimiter in prose fails at once, on the byte before it. With more delimiters the lines are read one by one.
 use common::items::blank_at;
-use common::items::leads_line;
+use common::items::leads_later;
 use common::refusal::Refusal;
 use common::sets::accepts;
 use common::sets::probe_matcher;
@@ -22,10 +22,11 @@ ghost use Prim.Native.Nat.{_≤_, _-_, min};
 ghost use lib.ListN.{length, take, drop};
 ghost use Rattle.search.specs.Promise.{Gives, Steps};
 ghost use Rattle.search.specs.Search.{oneOf, back};
-ghost use Rattle.common.specs.Items.{grammar, has};
+ghost use Rattle.decimal.specs.Decimal.{digit};
+ghost use Rattle.common.specs.Items.{grammar, has, Unled, Looked};
 ghost use Rattle.common.specs.Scanning.{at, first};
 ghost use Rattle.common.specs.Turn.{firstTurn};
-ghost use Rattle.block_numbered.specs.Numbered.{digit, few, readDigits, digitsAt, streamTurn, lineTurn, scanner, fresh, view, told, answer, state};
+ghost use Rattle.block_numbered.specs.Numbered.{few, readDigits, digitsAt, streamTurn, lineTurn, scanner, fresh, view, rests, told, answer, state};
 
 // The fields of the Rust's iterator; the text and the set of accepted delimiters are lent beside it.
 pub struct BlockNumberedIter {
@@ -64,6 +65,13 @@ enum NumberedTurn {
     Go(usize),
     Stop(usize),
     Found(u32, u8, usize, usize, usize),
+}
+
+// What a scan comes to: a number, its delimiter, the content from where to where, and the next line; or nothing, and the place where
+// it stops.
+enum NumberedFirst {
+    Found(u32, u8, usize, usize, usize),
+    Stopped(usize),
 }
 
 // Digits that were read: their number, and where they end.
@@ -160,8 +168,13 @@ fn stream_turn(
     tab: u8,
     needles: &[u8; 3],
     nn: usize,
+    lost: &mut [usize; 1],
 ) -> NumberedTurn
-    ensures { λ r. ⌜ Gives (streamTurn (grammar eol sep tab (oneOf (take nn (now (needles .entry))))) (now (src .entry)) q) (view r) ⌝ }
+    requires { ⌜ Unled eol sep tab (now src) (now lost) ⌝ }
+    ensures { λ r. ⌜
+        Looked eol sep tab (now (src .entry))
+        (streamTurn (grammar eol sep tab (oneOf (take nn (now (needles .entry))))) (now (src .entry)) q) (view r) (now (lost .exit))
+        ⌝ }
 {
     let len = src.len();
     let p = find_any_of(needles, nn, src, q);
@@ -174,7 +187,7 @@ fn stream_turn(
         return NumberedTurn::Go(nxt);
     }
     let k = p - n;
-    if leads_line(src, k, eol, sep, tab) {
+    if leads_later(src, k, eol, sep, tab, lost) {
         if blank_at(src, nxt, sep, tab) {
             let digits = read_digits(&src[..p], k);
             let start = p + 2;
@@ -195,21 +208,25 @@ fn first_streamed(
     tab: u8,
     needles: &[u8; 3],
     nn: usize,
-) -> NumberedTurn
+) -> NumberedFirst
     requires { ⌜ from ≤ length (now src) ⌝ }
-    ensures { λ r. ⌜ Gives (firstTurn (streamTurn (grammar eol sep tab (oneOf (take nn (now (needles .entry))))) (now (src .entry))) (length (now (src .entry))) from) (view r) ⌝ }
+    ensures { λ r. ⌜
+        Gives (firstTurn (streamTurn (grammar eol sep tab (oneOf (take nn (now (needles .entry))))) (now (src .entry)))
+        (length (now (src .entry))) from) (rests r)
+        ⌝ }
 {
+    let mut lost = [0usize; 1];
     let mut q = from;
     loop {
-        match stream_turn(src, q, eol, sep, tab, needles, nn) {
+        match stream_turn(src, q, eol, sep, tab, needles, nn, &mut lost) {
             NumberedTurn::Go(n) => {
                 q = n;
             }
             NumberedTurn::Stop(v) => {
-                return NumberedTurn::Stop(v);
+                return NumberedFirst::Stopped(v);
             }
             NumberedTurn::Found(v, d, a, e, n) => {
-                return NumberedTurn::Found(v, d, a, e, n);
+                return NumberedFirst::Found(v, d, a, e, n);
             }
         }
     }
@@ -252,9 +269,12 @@ fn first_lined(
     sep: u8,
     tab: u8,
     matches: &[bool; 256],
-) -> NumberedTurn
+) -> NumberedFirst
     requires { ⌜ from ≤ length (now src) ⌝ }
-    ensures { λ r. ⌜ Gives (firstTurn (lineTurn (grammar eol sep tab (has (now (matches .entry)))) (now (src .entry))) (length (now (src .entry))) from) (view r) ⌝ }
+    ensures { λ r. ⌜
+        Gives (firstTurn (lineTurn (grammar eol sep tab (has (now (matches .entry)))) (now (src .entry)))
+        (length (now (src .entry))) from) (rests r)
+        ⌝ }
 {
     let mut q = from;
     loop {
@@ -263,10 +283,10 @@ fn first_lined(
                 q = n;
             }
             NumberedTurn::Stop(v) => {
-                return NumberedTurn::Stop(v);
+                return NumberedFirst::Stopped(v);
             }
             NumberedTurn::Found(v, d, a, e, n) => {
-                return NumberedTurn::Found(v, d, a, e, n);
+                return NumberedFirst::Found(v, d, a, e, n);
             }
         }
     }
@@ -298,9 +318,9 @@ impl BlockNumberedIter {
     }
 
     // The first item at or after the state's place, by the scan that its flag says.
-    fn first(self, src: &[u8], matches: &[bool; 256]) -> NumberedTurn
+    fn first(self, src: &[u8], matches: &[bool; 256]) -> NumberedFirst
         requires { ⌜ self .pos ≤ length (now src) ⌝ }
-        ensures { λ r. ⌜ Gives (first scanner self (now (matches .entry)) (now (src .entry))) (view r) ⌝ }
+        ensures { λ r. ⌜ Gives (first scanner self (now (matches .entry)) (now (src .entry))) (rests r) ⌝ }
     {
         if self.streaming {
             let needles = self.needles;
@@ -318,7 +338,10 @@ impl BlockNumberedIter {
     }
 
     pub fn next(self, src: &[u8], matches: &[bool; 256]) -> NumberedStep
-        ensures { λ r. ⌜ Steps (answer self (now (matches .entry)) (now (src .entry))) (state self (now (matches .entry)) (now (src .entry))) (told (r .found)) (r .next) ⌝ }
+        ensures { λ r. ⌜
+            Steps (answer self (now (matches .entry)) (now (src .entry))) (state self (now (matches .entry)) (now (src .entry)))
+            (told (r .found)) (r .next)
+            ⌝ }
     {
         let pos = self.pos;
         let len = src.len();
@@ -335,7 +358,7 @@ impl BlockNumberedIter {
             };
         }
         match self.first(src, matches) {
-            NumberedTurn::Found(number, delimiter, a, e, after) => NumberedStep {
+            NumberedFirst::Found(number, delimiter, a, e, after) => NumberedStep {
                 found: NumberedFound::Item(NumberedItem {
                     number,
                     delimiter,
@@ -346,13 +369,9 @@ impl BlockNumberedIter {
                 }),
                 next: self.at(after),
             },
-            NumberedTurn::Stop(v) => NumberedStep {
+            NumberedFirst::Stopped(v) => NumberedStep {
                 found: NumberedFound::Nothing,
                 next: self.at(v),
-            },
-            NumberedTurn::Go(n) => NumberedStep {
-                found: NumberedFound::Nothing,
-                next: self.at(n),
             },
         }
     }

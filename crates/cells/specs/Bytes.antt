@@ -5,7 +5,7 @@ use mathlib.Core.List.{List, [], _∷_, map}
 use Prim.Native.Nat.{ℕ, _+_, _*_, _/_, _%_}
 use lib.Dec.{eqb, leb}
 use lib.ListN.{length, getD}
-use Rattle.common.specs.Entry.{rows}
+use Rattle.common.specs.Entry.{rows, wide}
 
 -- "each number of a list is four bytes, low byte first"
 abbrev pub four : ℕ → List ℕ
@@ -18,6 +18,10 @@ fromFour l = getD l 0 0 + getD l 1 0 * 256 + getD l 2 0 * 65536 + getD l 3 0 * 1
 -- the numbers of a byte run; bytes behind the last four make none
 unfoldable pub cells : List ℕ → List ℕ
 cells l = map fromFour (rows 4 (length l / 4) l)
+
+-- how many bytes a region's row has
+abbrev pub rowBytes : ℕ
+rowBytes = wide * 4
 
 -- a flag as a number
 abbrev pub asFlag : Bool → ℕ

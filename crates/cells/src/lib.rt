@@ -2,10 +2,14 @@
 pub mod columns; // rules by byte, from byte runs
 pub mod reply; // what an entry answers
 
+use common::list::WIDE;
 use common::sets::index;
 ghost use Rattle.search.specs.Promise.{Gives};
 ghost use lib.ListN.{getD};
 ghost use Rattle.cells.specs.Bytes.{cells, readable};
+
+// How many bytes a region's row has in a list.
+pub const ROW: usize = WIDE * 4;
 
 // The number in cell `k`, else 0.
 pub fn cell(run: &[u8], k: usize) -> u32

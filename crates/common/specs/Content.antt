@@ -4,9 +4,10 @@
 use mathlib.Core.Path.{_≡_}
 use mathlib.Core.Bool.{cond, _&&_}
 use mathlib.Core.List.{List}
-use Prim.Native.Nat.{ℕ, _-_, min}
+use Prim.Native.Nat.{ℕ, _+_, _-_, min}
 use lib.Dec.{leb}
 use lib.ListN.{length, take, drop}
+use denote.Ref.{RefT}
 use Rattle.common.specs.declared.span.Bounds.{Bounds}
 
 abbrev pub bounds : ℕ → ℕ → Bounds
@@ -21,6 +22,12 @@ stretch len a e = cond (leb a e && leb e len) (bounds a e) (bounds (min a len) (
 abbrev pub cut : List ℕ → Bounds → List ℕ
 cut s b = take (b .end - b .start) (drop (b .start) s)
 
--- what `content` promises: the bytes that stand in the stretch
-pub record Stretch (s : List ℕ) (a e : ℕ) (r : List ℕ) : Type 0 where
-  pub bytes : r ≡ cut s (stretch (length s) a e)
+-- where a text's bytes from place n on lie: in the text's own block, n further on
+abbrev pub onward : RefT (List ℕ) → ℕ → ℕ × ℕ
+onward text n = (text .ptr .0, n + text .ptr .1)
+
+-- what `content` promises: "the caller's own stretch of text". It begins where the stretch does, an empty one too, and its bytes are those
+-- that stand there
+pub record Stretch (text : RefT (List ℕ)) (a e : ℕ) (r : RefT (List ℕ)) : Type 0 where
+  pub place : r .ptr ≡ onward text (stretch (length (text .now)) a e .start)
+  pub bytes : r .now ≡ cut (text .now) (stretch (length (text .now)) a e)

@@ -8,9 +8,10 @@ use native.Mathlib.Omega.{arith}
 use lib.Dec.{leb}
 use lib.ListN.{length, take, drop}
 use borrow.Author.Tests.{le-leb, lt-leb, leb-true}
+use denote.Ref.{RefT}
 use Rattle.search.specs.Promise.{Gives}
 use Rattle.search.specs.SearchLaws.{decide}
-use Rattle.common.specs.Content.{bounds, stretch, Stretch, cut}
+use Rattle.common.specs.Content.{bounds, stretch, cut, onward, Stretch}
 use Rattle.common.specs.declared.span.Bounds.{Bounds}
 
 module _ (len a e : ℕ) where
@@ -38,8 +39,11 @@ module _ (len a e : ℕ) where
   pub stretch-inside : (b : Bounds) → Gives (stretch len a e) b → b .end ≤ len
   stretch-inside b g = subst (λ (x : Bounds). x .end ≤ len) (sym (g .answer)) (within .1)
 
-pub stretch-bytes : (s : List ℕ) (a e : ℕ) (b : Bounds) → Gives (stretch (length s) a e) b → Stretch s a e (take (b .end - b .start) (drop (b .start) s))
-stretch-bytes s a e b g = record { bytes = ap (cut s) (g .answer) }
+-- a part of a text between the bounds of a stretch, whatever its ghost name
+pub stretch-part : (text : RefT (List ℕ)) (a e k : ℕ) (b : Bounds) → Gives (stretch (length (text .now)) a e) b
+    → Stretch text a e (record { ptr = onward text (b .start); name = k; now = take (b .end - b .start) (drop (b .start) (text .now)) })
+stretch-part text a e k b g = record { place = ap (λ (b : Bounds). onward text (b .start)) (g .answer); bytes = ap (cut (text .now)) (g .answer) }
 
-pub stretch-unique : {s : List ℕ} {a e : ℕ} {r r′ : List ℕ} → Stretch s a e r → Stretch s a e r′ → r ≡ r′
-stretch-unique w w′ = w .bytes ∙ sym (w′ .bytes)
+-- two answers for one text and span begin at one place and have the same bytes
+pub stretch-unique : {text : RefT (List ℕ)} {a e : ℕ} {r r′ : RefT (List ℕ)} → Stretch text a e r → Stretch text a e r′ → (r .ptr ≡ r′ .ptr) × (r .now ≡ r′ .now)
+stretch-unique w w′ = (w .place ∙ sym (w′ .place), w .bytes ∙ sym (w′ .bytes))

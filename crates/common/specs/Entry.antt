@@ -18,6 +18,10 @@ abbrev pub rows : ℕ → ℕ → List ℕ → List (List ℕ)
 rows w zero l = []
 rows w (suc n) l = take w l ∷ rows w n (drop w l)
 
+-- "region k has its start at 2k and its exclusive end at 2k+1": how many numbers a region's row has
+abbrev pub wide : ℕ
+wide = 2
+
 -- the place where a row starts
 abbrev pub startOf : List ℕ → ℕ
 startOf row = getD row 0 0

@@ -23,6 +23,10 @@ module _ {A : Type 0} (flat : A → List ℕ) (w : ℕ) (wide : (a : A) → leng
   rows-flatten [] rest = refl
   rows-flatten (a ∷ l) rest = rw (append-assoc (flat a) (flatten flat l) rest, take-at (flat a) (flatten flat l ++ rest) w (wide a), drop-at (flat a) (flatten flat l ++ rest) w (wide a), rows-flatten l rest)
 
+pub flatten-map : {A B : Type 0} (flat : B → List ℕ) (f : A → B) (l : List A) → flatten flat (map f l) ≡ flatten (λ a. flat (f a)) l
+flatten-map flat f [] = refl
+flatten-map flat f (a ∷ l) = ap (λ (z : List ℕ). flat (f a) ++ z) (flatten-map flat f l)
+
 pub flatten-append : {A : Type 0} (flat : A → List ℕ) (a b : List A) → flatten flat (a ++ b) ≡ flatten flat a ++ flatten flat b
 flatten-append flat [] b = refl
 flatten-append flat (x ∷ a) b = ap (λ (l : List ℕ). flat x ++ l) (flatten-append flat a b) ∙ sym (append-assoc (flat x) (flatten flat a) (flatten flat b))

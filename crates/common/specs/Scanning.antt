@@ -2,15 +2,15 @@
 -- The page: "With up to three accepted bytes the streaming scan is used, else the line scan; in a handmade state its flag decides, and a
 -- needle count over 3 acts as 3.", "State fields follow the Rust's.", "For a scanner: 1, 2."
 use mathlib.Core.Path.{_≡_}
-use mathlib.Core.Bool.{Bool, cond}
-use mathlib.Core.List.{List}
-use Prim.Native.Nat.{ℕ}
+use mathlib.Core.Bool.{Bool, false, cond}
+use mathlib.Core.List.{List, [], _∷_}
+use Prim.Native.Nat.{ℕ, _≤_}
 use lib.ListN.{length, take}
 use Rattle.search.specs.Promise.{Steps}
 use Rattle.search.specs.Search.{oneOf}
 use Rattle.common.specs.Sets.{probe}
-use Rattle.common.specs.Refusals.{Outcome, read, unlessNone}
-use Rattle.common.specs.Turn.{Turn, firstTurn, allFound, Adv, yields}
+use Rattle.common.specs.Refusals.{Outcome, given, read, unlessNone}
+use Rattle.common.specs.Turn.{Turn, go, stop, found, firstTurn, allFound, Adv, yields}
 use Rattle.common.specs.Items.{ItemGrammar, grammar, has, answerBy, stateBy, stepFor}
 use Rattle.common.specs.declared.refusal.Refusal.{Refusal}
 use Rattle.common.specs.declared.sets.Probe.{Probe}
@@ -28,6 +28,10 @@ pub record Fields : Type 0 where
 -- those of a state at another place
 abbrev pub moved : Fields → ℕ → Fields
 moved f q = record { eol = f .eol; sep = f .sep; tab = f .tab; pos = q; needles = f .needles; nn = f .nn; streaming = f .streaming }
+
+-- those of a state with its flag off
+abbrev pub unflagged : Fields → Fields
+unflagged f = record { eol = f .eol; sep = f .sep; tab = f .tab; pos = f .pos; needles = f .needles; nn = f .nn; streaming = false }
 
 -- those that a probe makes: "With up to three accepted bytes the streaming scan is used, else the line scan"
 abbrev pub probed : ℕ → ℕ → ℕ → Probe → Fields
@@ -62,6 +66,10 @@ module _ {S A : Type 0} (c : Scanner S A) where
   abbrev pub at : S → ℕ → S
   at g q = c .made (moved (c .fields g) q)
 
+  -- the state with its flag off: it scans by lines
+  abbrev pub flagOff : S → S
+  flagOff g = c .made (unflagged (c .fields g))
+
   -- the turn that a state's fields choose: "in a handmade state its flag decides"
   abbrev pub turnBy : List Bool → List ℕ → Fields → ℕ → Turn A
   turnBy set s f = cond (f .streaming) (c .streams (byNeedles f) s) (c .lines (bySet f set) s)
@@ -84,6 +92,10 @@ module _ {S A : Type 0} (c : Scanner S A) where
   abbrev pub Keeps : S → List Bool → List ℕ → Outcome → S → Type 0
   Keeps g set s o n = Steps (answer g set s) (state g set s) o n
 
+  -- that promise of a state wherever it stands in the text: `says` is what a step's answer says, `next` the state after it
+  abbrev pub KeepsFrom : S → List Bool → List ℕ → (S → Outcome) → (S → S) → Type 0
+  KeepsFrom g set s says next = (q : ℕ) → q ≤ length s → Keeps (at g q) set s (says (at g q)) (next (at g q))
+
   -- what the code has for an answer, by what it has for an item, for none and for a refusal
   abbrev pub foundBy : {F : Type 0} → (A → F) → F → (Refusal → F) → Outcome → F
   foundBy item none denied = read (unlessNone none (λ l. item (c .back l))) denied
@@ -91,6 +103,26 @@ module _ {S A : Type 0} (c : Scanner S A) where
   -- all items that a state's scan has before it
   abbrev pub items : S → List Bool → List ℕ → List A
   items g set s = allFound (turn g set s) (length s) (c .fields g .pos)
+
+  -- ---- a step as one pair: what it answers, and the state after it
+  abbrev pub result : S → List Bool → List ℕ → Outcome × S
+  result g set s = (answer g set s, state g set s)
+
+  module _ (g : S) (set : List Bool) (s : List ℕ) where
+    -- that of the state from place n on
+    abbrev pub onFrom : ℕ → Outcome × S
+    onFrom n = result (at g n) set s
+
+    -- that of a line's item, if it has one, where the next line begins at n
+    abbrev pub ofLine : List A → ℕ → Outcome × S
+    ofLine [] n = onFrom n
+    ofLine (a ∷ l) n = (given (c .values a), at g n)
+
+    -- that of a turn
+    abbrev pub ofTurn : Turn A → Outcome × S
+    ofTurn (go n) = onFrom n
+    ofTurn (stop v) = (given [], at g v)
+    ofTurn (found a n) = (given (c .values a), at g n)
 
 -- ---- what the laws ask of a scanner; `Lies q n a` is what holds of an item a found between q and n
 pub record Lawful {S A : Type 0} (c : Scanner S A) (Lies : ℕ → ℕ → A → Type 0) : Type 0 where

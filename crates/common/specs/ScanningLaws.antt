@@ -1,24 +1,27 @@
--- Laws of scanners of items that lead a line: the ways out of a scanner's functions, and that stepping a state until none comes yields all items. Assumes nothing.
+-- Laws of scanners of items that lead a line: the ways out of a scanner's functions, a step unfolded, and that stepping a state until none comes yields all items. Assumes nothing.
 use mathlib.Core.Path.{_≡_, refl, sym, ap, _∙_}
-use mathlib.Core.Bool.{Bool, true, false}
-use mathlib.Core.List.{List, _∷_}
+use mathlib.Core.Bool.{Bool, true, false, cond}
+use mathlib.Core.List.{List, [], _∷_}
+use mathlib.Core.Logic.{_⊎_, inl, inr}
 use Prim.Native.Nat.{ℕ, suc, _≤_, _<_}
 use native.Mathlib.Omega.{arith}
 use mir.Val.{Fits}
 use mir.Syntax.{w32}
-use lib.Dec.{leb}
+use lib.Dec.{ltb, leb}
 use lib.ListN.{length, take}
 use lib.Seq.{take-all}
-use borrow.Author.Tests.{leb-true}
+use borrow.Author.Tests.{leb-true, le-leb, ltb-true, ltb-false}
 use Rattle.search.specs.Promise.{Gives, Steps}
+use Rattle.search.specs.Search.{find, lineEnd, nextLine}
+use Rattle.search.specs.SearchLaws.{decide}
 use Rattle.common.specs.Sets.{probe, accepted}
-use Rattle.common.specs.Refusals.{Outcome, refused}
+use Rattle.common.specs.Refusals.{Outcome, given, refused, tooLong, past}
 use Rattle.common.specs.RefusalLaws.{told-unique}
-use Rattle.common.specs.Turn.{Turn, thenCollect, firstTurn, allFound, Adv, Leads, Has, stepOf, thenDrain, drain}
-use Rattle.common.specs.TurnLaws.{by-turn, by-last, last-fits, collect-scan, scan-ends, drain-answers, answers-take}
-use Rattle.common.specs.Items.{grammar, has, said, placeOf, stepFor}
-use Rattle.common.specs.ItemLaws.{both, needle-set, step-long, step-past, step-served, step-seen, step-taken}
-use Rattle.common.specs.Scanning.{Fields, moved, probed, byNeedles, bySet, Scanner, fresh, at, turnBy, turn, first, answer, state, Keeps, items, Lawful}
+use Rattle.common.specs.Turn.{Turn, thenScan, thenCollect, firstTurn, allFound, Adv, Leads, Has, stepOf, thenDrain, drain}
+use Rattle.common.specs.TurnLaws.{by-turn, by-last, last-fits, scan-turn, collect-scan, scan-ends, drain-answers, answers-take}
+use Rattle.common.specs.Items.{ItemGrammar, grammar, has, lineBytes, lineFound, readTurn, hitTurn, said, placeOf, stepFor}
+use Rattle.common.specs.ItemLaws.{both, of-cond, needle-set, step-long, step-past, step-served, step-seen, step-taken}
+use Rattle.common.specs.Scanning.{Fields, moved, unflagged, probed, byNeedles, bySet, Scanner, fresh, at, flagOff, turnBy, turn, first, answer, state, Keeps, KeepsFrom, items, result, onFrom, ofLine, ofTurn, Lawful}
 use Rattle.common.specs.declared.sets.Probe.{Probe}
 
 -- ---- the ways out of `new`, `first` and `next`
@@ -48,6 +51,21 @@ module _ {S A : Type 0} (c : Scanner S A) where
       → (d e : D) (o : Outcome) (n : S) → d ≡ e → Gives (first c g set s) (view d) → o ≡ said (c .values) (view e) → Gives (at c g (placeOf (view e))) n → Keeps c g set s o n
   unfolding answer state
   next-told view g set s l h = step-seen (c .values) (at c) g s (c .fields g .pos) (first c g set s) l h view
+
+-- ---- what a turn at q makes of a step: one that looks for the next accepted byte, and one that reads a line
+module _ {S A : Type 0} (c : Scanner S A) (g : S) (set : List Bool) (s : List ℕ) where
+  pub hit-unfolded : (r : ItemGrammar) (hit : ℕ → Turn A) (q : ℕ) {x : Outcome × S} → ofTurn c g set s (hit (find (r .accepts) s q)) ≡ x
+      → ofTurn c g set s (hitTurn r hit s q) ≡ cond (ltb (find (r .accepts) s q) (length s)) x (given [], at c g q)
+  hit-unfolded r hit q e = of-cond (ofTurn c g set s) (ltb (find (r .accepts) s q) (length s)) _ _ ∙ rw e
+
+  pub read-unfolded : (r : ItemGrammar) (line : ℕ → List ℕ → List A) (q : ℕ)
+      → ofTurn c g set s (readTurn r line s q) ≡ cond (ltb q (length s)) (ofLine c g set s (line q (lineBytes r s q)) (nextLine (length s) (lineEnd (r .eol) s q))) (given [], at c g q)
+  unfolding readTurn
+  read-unfolded r line q = of-cond (ofTurn c g set s) (ltb q (length s)) _ _ ∙ rw (by (line q (lineBytes r s q)) (nextLine (length s) (lineEnd (r .eol) s q)))
+    where
+      by : (l : List A) (n : ℕ) → ofTurn c g set s (lineFound l n) ≡ ofLine c g set s l n
+      by [] n = refl
+      by (a ∷ l) n = refl
 
 -- two results that keep one promise of a step are equal, where `back` reads an answer back from what it says, and `make` makes a result
 pub step-unique : {F S R : Type 0} (told : F → Outcome) (back : Outcome → F) → ((f : F) → back (told f) ≡ f) → (make : F → S → R) → {o : Outcome} {g : S} {f f′ : F} {n n′ : S}
@@ -90,6 +108,9 @@ module _ {S A : Type 0} {c : Scanner S A} {Lies : ℕ → ℕ → A → Type 0} 
     items-at g q = ap (λ (f : Fields). allFound (turnBy c set s f) (length s) (f .pos)) (of-at g q)
 
   -- ---- a step, by what its answer says and the state after it
+  as-pair : (g : S) (set : List Bool) (s : List ℕ) {o : Outcome} {n : S} → Keeps c g set s o n → result c g set s ≡ (o, n)
+  as-pair g set s {o} {n} kept = ap (λ (o : Outcome). (o, state c g set s)) (sym (kept .answer)) ∙ ap (λ (n : S). (o, n)) (sym (kept .next))
+
   module _ (set : List Bool) (s : List ℕ) (short : length s ≤ 4294967295) where
     served : (g : S) (o : Outcome) (n : S) → c .fields g .pos ≤ length s → Keeps c g set s o n → (o ≡ said (c .values) (first c g set s)) × (n ≡ at c g (placeOf (first c g set s)))
     unfolding answer state
@@ -98,6 +119,29 @@ module _ {S A : Type 0} {c : Scanner S A} {Lies : ℕ → ℕ → A → Type 0} 
     step : (g : S) (o : Outcome) (n : S) → c .fields g .pos ≤ length s → Keeps c g set s o n → stepFor (c .back) (o .values) n ≡ stepOf (at c g) (first c g set s)
     unfolding answer state
     step g o n h = step-taken (c .values) (c .back) (w .reads) (at c) g s (c .fields g .pos) (first c g set s) h short o n
+
+    -- what a step answers and leaves where it is served, by its scan's answer
+    abbrev byScan : S → Turn A → Outcome × S
+    byScan g t = (said (c .values) t, at c g (placeOf t))
+
+    serves : (g : S) → c .fields g .pos ≤ length s → result c g set s ≡ byScan g (first c g set s)
+    serves g h =
+        let v = served g (answer c g set s) (state c g set s) h (record { answer = refl; next = refl }) in
+        as-pair g set s (record { answer = sym (v .0); next = sym (v .1) })
+
+    -- and by the turn at the state's place
+    serves-turn : (g : S) → c .fields g .pos ≤ length s → result c g set s ≡ ofTurn c g set s (turn c g set s (c .fields g .pos))
+    unfolding first
+    serves-turn g h =
+        serves g h
+        ∙ ap (byScan g) (scan-turn (turn-adv g set s) (c .fields g .pos) h)
+        ∙ by-turn (turn-adv g set s) (λ t. byScan g (thenScan (firstTurn (turn c g set s) (length s)) t) ≡ ofTurn c g set s t) (c .fields g .pos) h (λ n m i. sym (onward n i)) (λ v m i. refl) (λ a n m i l. refl)
+      where
+        onward : (n : ℕ) → n ≤ length s → onFrom c g set s n ≡ byScan g (firstTurn (turn c g set s) (length s) n)
+        onward n i =
+            serves (at c g n) (rw (of-at g n) i)
+            ∙ ap (byScan (at c g n)) (first-at set s g n)
+            ∙ ap (λ (a : ℕ → S). (said (c .values) (firstTurn (turn c g set s) (length s) n), a (placeOf (firstTurn (turn c g set s) (length s) n)))) (at-at g n)
 
     -- the items that a state's scan has before it are what a step yields, and those that the state after it has
     pub step-items : (g : S) (o : Outcome) (n : S) → c .fields g .pos ≤ length s → Keeps c g set s o n → items c g set s ≡ thenDrain (λ k. items c k set s) (stepFor (c .back) (o .values) n)
@@ -118,7 +162,7 @@ module _ {S A : Type 0} {c : Scanner S A} {Lies : ℕ → ℕ → A → Type 0} 
         (λ q i. by-turn (turn-adv g set s) (Leads (λ q. q ≤ length s) (λ t. placeOf t ≤ length s)) q i (λ n m j. j) (λ v m j. j) (λ a n m j w. j)) (λ q i. i) (suc (length s)) (c .fields g .pos) h)
 
     -- ---- the run, of every function that keeps the promise of a step: `says` is what its answer says, `next` the state after it
-    module _ (g : S) (says : S → Outcome) (next : S → S) (keeps : (q : ℕ) → q ≤ length s → Keeps c (at c g q) set s (says (at c g q)) (next (at c g q))) where
+    module _ (g : S) (says : S → Outcome) (next : S → S) (keeps : KeepsFrom c g set s says next) where
       -- the first n steps yield the first n of the items that the state's scan has before it
       pub run : (n : ℕ) → c .fields g .pos ≤ length s → drain (λ k. stepFor (c .back) (says k .values) (next k)) n g ≡ take n (items c g set s)
       run n h =
@@ -137,15 +181,57 @@ module _ {S A : Type 0} {c : Scanner S A} {Lies : ℕ → ℕ → A → Type 0} 
       pub run-all : (n : ℕ) → c .fields g .pos ≤ length s → length (items c g set s) ≤ n → drain (λ k. stepFor (c .back) (says k .values) (next k)) n g ≡ items c g set s
       run-all n h l = run n h ∙ take-all n (items c g set s) l
 
-  -- ---- a fresh state, by what both scans find from place 0
-  module _ (set : List Bool) (s : List ℕ) (eol sep tab : ℕ) (size : length set ≡ 256) (all : List A)
-      (streamed : length (accepted set) ≤ 3 → allFound (c .streams (grammar eol sep tab (has set)) s) (length s) 0 ≡ all) where
-    -- by the needles of at most three accepted bytes
-    pub fresh-streamed : length (accepted set) ≤ 3 → allFound (c .streams (byNeedles (probed eol sep tab (probe set))) s) (length s) 0 ≡ all
-    fresh-streamed h = ap (λ (t : ℕ → Bool). allFound (c .streams (grammar eol sep tab t) s) (length s) 0) (needle-set set (omega arith) h) ∙ streamed h
-
-    pub fresh-items : allFound (c .lines (grammar eol sep tab (has set)) s) (length s) 0 ≡ all → items c (fresh c eol sep tab set) set s ≡ all
+  -- ---- a step in one place: "For a scanner: 1, 2."; else, as the flag decides, what the turn of a scan at the state's place makes of it
+  module _ (g : S) (set : List Bool) (s : List ℕ) where
+    pub step-unfolded : {x y : Outcome × S} → ofTurn c g set s (c .streams (byNeedles (c .fields g)) s (c .fields g .pos)) ≡ x → ofTurn c g set s (c .lines (bySet (c .fields g) set) s (c .fields g .pos)) ≡ y
+        → result c g set s ≡ cond (tooLong s) (refused 1, g) (cond (past s (c .fields g .pos)) (refused 2, g) (cond (c .fields g .streaming) x y))
     unfolding turn
-    fresh-items lined =
+    step-unfolded {x} {y} e f =
+        by (decide (tooLong s)) (decide (past s (c .fields g .pos)))
+        ∙ ap (λ (r : Outcome × S). cond (tooLong s) (refused 1, g) (cond (past s (c .fields g .pos)) (refused 2, g) r))
+        (of-cond (λ (t : ℕ → Turn A). ofTurn c g set s (t (c .fields g .pos))) (c .fields g .streaming) _ _ ∙ rw (e, f))
+      where
+        by : (tooLong s ≡ true) ⊎ (tooLong s ≡ false) → (past s (c .fields g .pos) ≡ true) ⊎ (past s (c .fields g .pos) ≡ false)
+            → result c g set s ≡ cond (tooLong s) (refused 1, g) (cond (past s (c .fields g .pos)) (refused 2, g) (ofTurn c g set s (turn c g set s (c .fields g .pos))))
+        by (inl u) v = as-pair g set s (next-long c g set s (ltb-true 4294967295 (length s) u)) ∙ simp u
+        by (inr u) (inl v) = as-pair g set s (next-past c g set s (ltb-true (length s) (c .fields g .pos) v) (ltb-false 4294967295 (length s) u)) ∙ simp (u, v)
+        by (inr u) (inr v) = serves-turn set s (ltb-false 4294967295 (length s) u) g (ltb-false (length s) (c .fields g .pos) v) ∙ simp (u, v)
+
+  -- ---- a fresh state, by what both scans find from place 0
+  -- "With up to three accepted bytes the streaming scan is used"
+  pub fresh-streams : (eol sep tab : ℕ) (set : List Bool) → length (accepted set) ≤ 3 → c .fields (fresh c eol sep tab set) .streaming ≡ true
+  fresh-streams eol sep tab set h = ap (λ (f : Fields). f .streaming) (w .of-made (probed eol sep tab (probe set))) ∙ le-leb (length (accepted set)) 3 h
+
+  module _ (set : List Bool) (s : List ℕ) (eol sep tab : ℕ) (size : length set ≡ 256) (all : List A)
+      (streamed : length (accepted set) ≤ 3 → allFound (c .streams (grammar eol sep tab (has set)) s) (length s) 0 ≡ all)
+      (lined : allFound (c .lines (grammar eol sep tab (has set)) s) (length s) 0 ≡ all) where
+    -- by the needles of at most three accepted bytes
+    by-needles : length (accepted set) ≤ 3 → allFound (c .streams (byNeedles (probed eol sep tab (probe set))) s) (length s) 0 ≡ all
+    by-needles h = ap (λ (t : ℕ → Bool). allFound (c .streams (grammar eol sep tab t) s) (length s) 0) (needle-set set (omega arith) h) ∙ streamed h
+
+    pub fresh-items : items c (fresh c eol sep tab set) set s ≡ all
+    unfolding turn
+    fresh-items =
         ap (λ (f : Fields). allFound (turnBy c set s f) (length s) (f .pos)) (w .of-made (probed eol sep tab (probe set)))
-        ∙ both (λ t. allFound t (length s) 0 ≡ all) (leb (length (accepted set)) 3) _ _ (λ e. fresh-streamed (leb-true (length (accepted set)) 3 e)) (λ e. lined)
+        ∙ both (λ t. allFound t (length s) 0 ≡ all) (leb (length (accepted set)) 3) _ _ (λ e. by-needles (leb-true (length (accepted set)) 3 e)) (λ e. lined)
+
+    -- with its flag off it has the same
+    off-fields : c .fields (flagOff c (fresh c eol sep tab set)) ≡ unflagged (probed eol sep tab (probe set))
+    off-fields = w .of-made (unflagged (c .fields (fresh c eol sep tab set))) ∙ ap unflagged (w .of-made (probed eol sep tab (probe set)))
+
+    off-items : items c (flagOff c (fresh c eol sep tab set)) set s ≡ all
+    unfolding turn
+    off-items = ap (λ (f : Fields). allFound (turnBy c set s f) (length s) (f .pos)) off-fields ∙ lined
+
+    -- so every function that keeps the promise of a step yields them one by one, and none when there is none left
+    module _ (short : length s ≤ 4294967295) (says : S → Outcome) (next : S → S) where
+      pub fresh-run : KeepsFrom c (fresh c eol sep tab set) set s says next → (n : ℕ) → drain (λ k. stepFor (c .back) (says k .values) (next k)) n (fresh c eol sep tab set) ≡ take n all
+      fresh-run keeps n = run set s short (fresh c eol sep tab set) says next keeps n (omega (arith, fresh-place eol sep tab set)) ∙ ap (take n) fresh-items
+
+      off-run : KeepsFrom c (flagOff c (fresh c eol sep tab set)) set s says next → (n : ℕ) → drain (λ k. stepFor (c .back) (says k .values) (next k)) n (flagOff c (fresh c eol sep tab set)) ≡ take n all
+      off-run keeps n = run set s short (flagOff c (fresh c eol sep tab set)) says next keeps n (omega (arith, ap (λ (f : Fields). f .pos) off-fields)) ∙ ap (take n) off-items
+
+      -- "the streaming and line scans are proved to yield the same items in the same order"
+      pub same-run : KeepsFrom c (fresh c eol sep tab set) set s says next → KeepsFrom c (flagOff c (fresh c eol sep tab set)) set s says next
+          → (n : ℕ) → drain (λ k. stepFor (c .back) (says k .values) (next k)) n (fresh c eol sep tab set) ≡ drain (λ k. stepFor (c .back) (says k .values) (next k)) n (flagOff c (fresh c eol sep tab set))
+      same-run keeps keeps′ n = fresh-run keeps n ∙ sym (off-run keeps′ n)

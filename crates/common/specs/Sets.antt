@@ -20,9 +20,16 @@ pub record Index (b r : ℕ) : Type 0 where
 abbrev pub setOf : List ℕ → List Bool
 setOf accepted = tabulate (oneOf accepted) 256 0
 
--- "1 for a marker, 2 for a delimiter, 4 for a digit, 0 otherwise": markers - * +, delimiters . )
+-- "markers `- * +`; delimiters `. )`"
+abbrev pub markerBytes : List ℕ
+markerBytes = 45 ∷ 42 ∷ 43 ∷ []
+
+abbrev pub delimiterBytes : List ℕ
+delimiterBytes = 46 ∷ 41 ∷ []
+
+-- "1 for a marker, 2 for a delimiter, 4 for a digit, 0 otherwise"
 abbrev pub classOf : ℕ → ℕ
-classOf b = cond (oneOf (45 ∷ 42 ∷ 43 ∷ []) b) 1 (cond (oneOf (46 ∷ 41 ∷ []) b) 2 (cond (leb 48 b && leb b 57) 4 0))
+classOf b = cond (oneOf markerBytes b) 1 (cond (oneOf delimiterBytes b) 2 (cond (leb 48 b && leb b 57) 4 0))
 
 -- the set of the bytes of a class
 abbrev pub classSet : ℕ → List Bool

@@ -19,6 +19,30 @@ impl Grammar {
 
     pub const TAB: u8 = 9;
 
+    // The house's fences, and the least run of either.
+    pub const BACKTICK: u8 = 96;
+
+    pub const TILDE: u8 = 126;
+
+    pub const FENCE_MIN: u8 = 3;
+
+    // Its pairs: backticks, and a bracket that another closes; each run's count.
+    pub const OPENER: u8 = 60;
+
+    pub const CLOSER: u8 = 62;
+
+    pub const PAIR_COUNT: u32 = 1;
+
+    // Its mark of quoted lines, and how deep they nest at the most.
+    pub const QUOTE: u8 = 62;
+
+    pub const NEST: usize = 8;
+
+    // The classes of its accepted bytes.
+    pub const MARKERS: u8 = 1;
+
+    pub const DELIMITERS: u8 = 2;
+
     // How many distinct bytes a builder searches for at the most.
     pub const MAX_NEEDLES: usize = 11;
 

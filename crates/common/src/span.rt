@@ -44,7 +44,7 @@ pub fn content_bounds(len: usize, span: Span) -> Bounds
 
 // The stretch itself: the caller's own bytes, no copy. It refuses nothing.
 pub fn content(text: &[u8], span: Span) -> &[u8]
-    ensures { λ r. ⌜ Stretch (now (text .entry)) (span .start) (span .end) (now r) ⌝ }
+    ensures { λ r. ⌜ Stretch (text .entry) (span .start) (span .end) r ⌝ }
 {
     let bounds = content_bounds(text.len(), span);
     let start = bounds.start;

@@ -165,7 +165,10 @@ fn line_turn(
     requires { ⌜ held ≤ 32 ⌝ }
     requires { ⌜ ls < length (now src) ⌝ }
     requires { ⌜ length (now src) ≤ 4294967295 ⌝ }
-    ensures { λ r. ⌜ Turned (lineTurn m (now (src .entry)) ls (now («open» .entry)) held) (length (now (src .entry))) ls held (now («open» .exit)) r ⌝ }
+    ensures { λ r. ⌜
+        Turned (lineTurn m (now (src .entry)) ls (now («open» .entry)) held) (length (now (src .entry))) ls held
+        (now («open» .exit)) r
+        ⌝ }
 {
     let le = find_byte(src, ls, m.eol);
     let n = next_line(src.len(), le);
@@ -200,7 +203,10 @@ fn next_turn(
     requires { ⌜ held ≤ 32 ⌝ }
     requires { ⌜ pos ≤ length (now src) ⌝ }
     requires { ⌜ length (now src) ≤ 4294967295 ⌝ }
-    ensures { λ r. ⌜ Turned (nextTurn m (now (src .entry)) (stand pos (now («open» .entry)) held)) (length (now (src .entry))) pos held (now («open» .exit)) r ⌝ }
+    ensures { λ r. ⌜
+        Turned (nextTurn m (now (src .entry)) (stand pos (now («open» .entry)) held)) (length (now (src .entry))) pos held
+        (now («open» .exit)) r
+        ⌝ }
 {
     let len = src.len();
     if 0 < held {
@@ -234,7 +240,10 @@ fn scan(
     requires { ⌜ held ≤ 32 ⌝ }
     requires { ⌜ from ≤ length (now src) ⌝ }
     requires { ⌜ length (now src) ≤ 4294967295 ⌝ }
-    ensures { λ r. ⌜ Scanned (firstShut m (now (src .entry)) (stand from (now («open» .entry)) held)) (length (now (src .entry))) (now («open» .exit)) r ⌝ }
+    ensures { λ r. ⌜
+        Scanned (firstShut m (now (src .entry)) (stand from (now («open» .entry)) held)) (length (now (src .entry)))
+        (now («open» .exit)) r
+        ⌝ }
 {
     let mut pos = from;
     let mut n = held;
@@ -349,7 +358,10 @@ impl ContIter {
     // A pending frame goes first. Where none is pending, the scan closes frames, and the first of these goes.
     fn step(self, src: &[u8]) -> ContStep
         requires { ⌜ Served self (now src) ⌝ }
-        ensures { λ r. ⌜ Steps (spanOf (stepped self (now (src .entry)))) (stateOf (stepped self (now (src .entry)))) (toldSpan (r .found)) (r .next) ⌝ }
+        ensures { λ r. ⌜
+            Steps (spanOf (stepped self (now (src .entry)))) (stateOf (stepped self (now (src .entry)))) (toldSpan (r .found))
+            (r .next)
+            ⌝ }
     {
         if self.pending_idx < self.pending_len {
             return self.drain();

@@ -6,38 +6,36 @@ use mathlib.Core.List.{List, [], _∷_}
 use Prim.Native.Nat.{ℕ, _+_, _*_, _≤_}
 use lib.Dec.{ltb}
 use lib.ListN.{length}
-use Rattle.common.specs.Entry.{flatten, room as roomOf, over, putAt}
+use Rattle.common.specs.Entry.{flatten, room as roomOf, over, putAt, wide}
 use Rattle.common.specs.Refusals.{Outcome, given, refuse, tooLong}
 use Rattle.common.specs.declared.grammar.Grammar.{Grammar}
-use Rattle.region.specs.Region.{Caused, pair}
+use Rattle.region.specs.Region.{Caused, rowOf}
 use Rattle.region.specs.Regions.{regions}
-use Rattle.rules.specs.Columns.{Columns, columns, unequal, gramOf}
-use Rattle.rules.specs.Records.{gatheredOf}
-use Rattle.rules.specs.declared.records.Gathered.{Gathered}
+use Rattle.rules.specs.Columns.{Columns, unequal, gramOf}
 
 -- a run with room for region n, whose two places fit 32 bits
 pub record Puts (n start end : ℕ) (out : List ℕ) : Type 0 where
-  pub room : n * 2 + 2 ≤ length out
+  pub room : n * wide + wide ≤ length out
   pub low : start ≤ 4294967295
   pub high : end ≤ 4294967295
 
 pub record Put (n start end : ℕ) (out out′ : List ℕ) (r : ℕ) : Type 0 where
   pub next : r ≡ n + 1
-  pub list : out′ ≡ putAt (n * 2) (start ∷ end ∷ []) out
+  pub list : out′ ≡ putAt (n * wide) (start ∷ end ∷ []) out
 
 -- regions written over the front of a run, and how many
 pub record Wrote (l : List Caused) (out out′ : List ℕ) (n : ℕ) : Type 0 where
   pub count : n ≡ length l
-  pub list : out′ ≡ over (flatten pair l) out
+  pub list : out′ ≡ over (flatten rowOf l) out
 
 -- "the answer has more regions … than there is room for"
 abbrev pub full : List Caused → List ℕ → Bool
-full l out = ltb (roomOf 2 out) (length l)
+full l out = ltb (roomOf wide out) (length l)
 
 -- what filling a run with regions answers and leaves
 pub record Filled (l : List Caused) (out out′ : List ℕ) (o : Outcome) : Type 0 where
   pub answer : o ≡ refuse 3 (full l out) (given (length l ∷ []))
-  pub list : out′ ≡ cond (full l out) out (over (flatten pair l) out)
+  pub list : out′ ≡ cond (full l out) out (over (flatten rowOf l) out)
 
 -- "For building: 1, 6, 3."; else the count
 unfoldable pub builtAnswer : Grammar → Columns → List ℕ → List ℕ → Outcome
@@ -45,14 +43,9 @@ builtAnswer g c s out = refuse 1 (tooLong s) (refuse 6 (unequal c) (refuse 3 (fu
 
 -- "Success writes the regions from place 0 … and changes nothing beyond them"; a refusal changes nothing
 unfoldable pub builtList : Grammar → Columns → List ℕ → List ℕ → List ℕ
-builtList g c s out = cond (tooLong s) out (cond (unequal c) out (cond (full (regions (gramOf g c) s) out) out (over (flatten pair (regions (gramOf g c) s)) out)))
+builtList g c s out = cond (tooLong s) out (cond (unequal c) out (cond (full (regions (gramOf g c) s) out) out (over (flatten rowOf (regions (gramOf g c) s)) out)))
 
 -- the promise of building: its answer, and the list that it leaves
 pub record Built (g : Grammar) (c : Columns) (s out out′ : List ℕ) (o : Outcome) : Type 0 where
   pub answer : o ≡ builtAnswer g c s out
   pub list : out′ ≡ builtList g c s out
-
--- ---- by gathered rules
--- building by gathered rules is building by the columns that they were gathered from
-pub record BuiltFor (g : Grammar) (f : Gathered) (y t o k n s out out′ : List ℕ) (a : Outcome) : Type 0 where
-  pub built : (bytes mins : List ℕ) → length bytes ≡ length mins → f ≡ gatheredOf bytes mins → Built g (columns bytes mins y t o k n) s out out′ a

@@ -8,19 +8,19 @@ use native.Mathlib.Omega.{arith}
 use lib.ListN.{length, getD, drop, length-append}
 use Rattle.search.specs.SearchLaws.{decide}
 use Rattle.common.specs.Refusals.{Outcome, given, refused, tooLong}
-use Rattle.common.specs.Entry.{flatten, rows, room, over, Shaped}
+use Rattle.common.specs.Entry.{flatten, rows, room, over, Shaped, wide}
 use Rattle.common.specs.EntryLaws.{rows-flatten, length-flatten, fits-room}
 use Rattle.common.specs.declared.grammar.Grammar.{Grammar}
 use Rattle.rules.specs.Columns.{Columns, gramOf, unequal}
-use Rattle.region.specs.Region.{Region, Caused, InOrder, pair}
+use Rattle.region.specs.Region.{Caused, InOrder, rowOf}
 use Rattle.region.specs.Regions.{regions}
 use Rattle.region.specs.Ahead.{regions-in-order}
-use Rattle.region.specs.LoopLaws.{pair-two}
 use Rattle.cover.specs.Cursor.{coverage, coverRun, Rising}
 use Rattle.cover.specs.CursorLaws.{fresh-plain}
 use Rattle.context.specs.Build.{Filled, Built, full, builtAnswer, builtList}
+use Rattle.region.specs.LoopLaws.{row-wide}
 
-in-order-shaped : {T : Type 0} (from len : ℕ) (l : List (Region T)) → InOrder from len l → Shaped from len (map pair l)
+in-order-shaped : (from len : ℕ) (l : List Caused) → InOrder from len l → Shaped from len (map rowOf l)
 in-order-shaped from len [] h = tt
 in-order-shaped from len (r ∷ l) h = (h .0, h .1, h .2, in-order-shaped (r .stop) len l (h .3))
 
@@ -39,7 +39,7 @@ built-fits g c s out out′ n b = by (decide (tooLong s)) (decide (unequal c))
 
 -- "With a list as built, a fresh cursor and places that never fall, that is plain coverage."
 pub built-plain : (g : Grammar) (c : Columns) (s out out′ : List ℕ) (n low : ℕ) (ps : List ℕ) → Built g c s out out′ (given (n ∷ [])) → Rising low ps
-    → coverRun 2 out′ n 0 ps ≡ map (λ p. given (coverage p (map pair (regions (gramOf g c) s)))) ps
+    → coverRun wide out′ n 0 ps ≡ map (λ p. given (coverage p (map rowOf (regions (gramOf g c) s)))) ps
 built-plain g c s out out′ n low ps b up = by (decide (full l out))
   where
     l : List Caused
@@ -48,12 +48,12 @@ built-plain g c s out out′ n low ps b up = by (decide (full l out))
     f : Filled (regions (gramOf g c) s) out out′ (given (n ∷ []))
     f = built-fits g c s out out′ n b
 
-    by : (full l out ≡ true) ⊎ (full l out ≡ false) → coverRun 2 out′ n 0 ps ≡ map (λ p. given (coverage p (map pair l))) ps
+    by : (full l out ≡ true) ⊎ (full l out ≡ false) → coverRun wide out′ n 0 ps ≡ map (λ p. given (coverage p (map rowOf l))) ps
     by (inl u) = absurd (not-refused n 3 (f .answer ∙ simp u))
     by (inr u) =
         let y : given (n ∷ []) ≡ given (length l ∷ []) = f .answer ∙ simp u in
         let e : n ≡ length l = ap (λ (o : Outcome). getD (o .values) 0 0) y in
-        let z : out′ ≡ over (flatten pair l) out = f .list ∙ simp u in
-        let r : rows 2 n out′ ≡ map pair l = rw (e, z) (rows-flatten pair 2 pair-two l (drop (length (flatten pair l)) out)) in
-        let k : n ≤ room 2 out′ = fits-room 2 n out′ (omega arith) (omega (arith, ap length z, length-append (flatten pair l) (drop (length (flatten pair l)) out), length-flatten pair 2 pair-two l)) in
-        fresh-plain 2 (omega arith) out′ n 0 (length s) (rw r (in-order-shaped 0 (length s) l (regions-in-order (gramOf g c) s))) k low ps up ∙ rw r
+        let z : out′ ≡ over (flatten rowOf l) out = f .list ∙ simp u in
+        let r : rows wide n out′ ≡ map rowOf l = rw (e, z) (rows-flatten rowOf wide row-wide l (drop (length (flatten rowOf l)) out)) in
+        let k : n ≤ room wide out′ = fits-room wide n out′ (omega arith) (omega (arith, ap length z, length-append (flatten rowOf l) (drop (length (flatten rowOf l)) out), length-flatten rowOf wide row-wide l)) in
+        fresh-plain wide (omega arith) out′ n 0 (length s) (rw r (in-order-shaped 0 (length s) l (regions-in-order (gramOf g c) s))) k low ps up ∙ rw r

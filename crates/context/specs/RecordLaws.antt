@@ -1,64 +1,52 @@
--- Laws of building by fence rules as records: its ways out. Assumes nothing.
-use mathlib.Core.Path.{_≡_, sym as inv, ap, _∙_}
-use mathlib.Core.Bool.{Bool, true, false}
-use mathlib.Core.List.{List, []}
-use mathlib.Core.Logic.{_⊎_, inl, inr}
-use Prim.Native.Nat.{ℕ, _≤_, _<_, min}
-use native.Mathlib.Omega.{arith}
+-- Laws of building by fence rules as records: by the kept rules' columns it is building by the run's own. Assumes nothing.
+use mathlib.Core.Path.{_≡_, refl, sym as inv, subst, _∙_}
+use mathlib.Core.Bool.{Bool, cond}
+use mathlib.Core.List.{List, [], _∷_}
+use Prim.Native.Nat.{ℕ, _-_, min}
 use lib.Dec.{ltb}
-use lib.ListN.{length, take, length-map}
-use lib.Seq.{take-all}
-use borrow.Author.Tests.{ltb-true, ltb-false}
+use lib.ListN.{length, take, drop}
 use Rattle.search.specs.Promise.{Gives}
-use Rattle.search.specs.SearchLaws.{decide}
-use Rattle.common.specs.Refusals.{Outcome, refused}
+use Rattle.common.specs.Entry.{flatten, room, over, wide}
+use Rattle.common.specs.Refusals.{Outcome, given, refuse, tooLong}
 use Rattle.common.specs.declared.grammar.Grammar.{Grammar}
-use Rattle.rules.specs.Columns.{columns, unequalInline, unequal, gainedAll, gathered, asBytes, searchBytes, openRule, symRule, gramOf}
-use Rattle.rules.specs.ColumnLaws.{gathered-list}
-use Rattle.rules.specs.RuleTableLaws.{differ-inline}
-use Rattle.rules.specs.Tables.{gramIn, tablesFor}
-use Rattle.region.specs.Regions.{regions}
-use Rattle.context.specs.Build.{Filled, Built, BuiltFor}
-use Rattle.context.specs.BuildLaws.{built-long, built-differ, built-all, with-tables}
-use Rattle.rules.specs.Records.{ruleBytes, ruleMins, gatheredOf}
-use Rattle.rules.specs.declared.search_bytes.SearchBytes.{SearchBytes}
+use Rattle.rules.specs.Columns.{columns, unequalInline, unequal, gramOf}
+use Rattle.rules.specs.DifferLaws.{differ-inline}
+use Rattle.rules.specs.Records.{ruleBytes, ruleMins, keptBytes, keptMins, AllGathered}
+use Rattle.rules.specs.RecordLaws.{rules-even, kept-even, take-front}
 use Rattle.rules.specs.declared.records.FenceRule.{FenceRule}
 use Rattle.rules.specs.declared.records.Gathered.{Gathered}
+use Rattle.region.specs.Region.{rowOf}
+use Rattle.region.specs.Regions.{regions}
+use Rattle.region.specs.IndexLaws.{gathered-count, gathered-flat}
+use Rattle.context.specs.Build.{builtAnswer, builtList, Built}
 
--- ---- the ways out of building by gathered rules
-module _ (g : Grammar) (f : Gathered) (y t o k n s out : List ℕ) where
-  pub records-long : 4294967295 < length s → BuiltFor g f y t o k n s out out (refused 1)
-  records-long h = record { built = λ bytes mins same e. built-long g (columns bytes mins y t o k n) s out h }
+-- building by the kept rules that were gathered from records
+module _ (rules : List FenceRule) {g : Grammar} {f : Gathered} {y t o k n s out out′ : List ℕ} {a : Outcome} where
+  pub records-built : AllGathered rules f → Built g (columns (keptBytes f) (keptMins f) y t o k n) s out out′ a → Built g (columns (ruleBytes rules) (ruleMins rules) y t o k n) s out out′ a
+  unfolding builtAnswer builtList
+  records-built w b = record { answer = b .answer ∙ (λ j. answer (same j) (count j)); list = b .list ∙ (λ j. list (same j) (count j) (flat j)) }
+    where
+      answer : Bool → ℕ → Outcome
+      answer bad m = refuse 1 (tooLong s) (refuse 6 bad (refuse 3 (ltb (room wide out) m) (given (m ∷ []))))
 
-  module _ (b : Bool) (short : length s ≤ 4294967295) where
-    -- b says whether columns of any rules differ, where those of the fences don't
-    any : (bytes mins : List ℕ) → length bytes ≡ length mins → Gives (unequalInline y t o k n) b → Gives (unequal (columns bytes mins y t o k n)) b
-    any bytes mins same d = record { answer = differ-inline bytes mins y t o k n b same d }
+      list : Bool → ℕ → List ℕ → List ℕ
+      list bad m l = cond (tooLong s) out (cond bad out (cond (ltb (room wide out) m) out (over l out)))
 
-    pub records-differ : b ≡ true → Gives (unequalInline y t o k n) b → BuiltFor g f y t o k n s out out (refused 6)
-    records-differ e d = record { built = λ bytes mins same e′. built-differ g (columns bytes mins y t o k n) s out b short e (any bytes mins same d) }
+      even : (bytes mins : List ℕ) → length bytes ≡ length mins → unequalInline y t o k n ≡ unequal (columns bytes mins y t o k n)
+      even bytes mins e = differ-inline bytes mins y t o k n (unequalInline y t o k n) e (record { answer = refl })
 
-    pub records-all : (out′ : List ℕ) (a : Outcome) (v w : SearchBytes) → b ≡ false → Gives (unequalInline y t o k n) b → Gives (gathered (f .searched) y) v → Gives (gathered v o) w
-        → Filled (regions (gramIn g (w .bytes) (w .count) (f .has) (f .least) (f .rows) (tablesFor (symRule y t (openRule o k n)))) s) out out′ a → BuiltFor g f y t o k n s out out′ a
-    records-all out′ a v w e d hv hw p = record { built = λ bytes mins same e′. built-all g (columns bytes mins y t o k n) s out b short out′ a e (any bytes mins same d) (tables bytes mins e′) }
-      where
-        tables : (bytes mins : List ℕ) → f ≡ gatheredOf bytes mins → Filled (regions (gramOf g (columns bytes mins y t o k n)) s) out out′ a
-        tables bytes mins e =
-            let x = gathered-list [] bytes (omega arith) in
-            let z = gathered-list (gainedAll [] bytes) y (x .1) in
-            let ev : v ≡ asBytes (gainedAll (gainedAll [] bytes) y) = hv .answer ∙ ap (λ (q : Gathered). gathered (q .searched) y) e ∙ z .0 in
-            let ew : w ≡ searchBytes bytes y o = hw .answer ∙ ap (λ (q : SearchBytes). gathered q o) ev ∙ gathered-list (gainedAll (gainedAll [] bytes) y) o (z .1) .0 in
-            with-tables g bytes mins y t o k n s out out′ (record { has = f .has; least = f .least }) (f .rows) w a (record { answer = ap (λ (q : Gathered). record { has = q .has; least = q .least }) e }) (record { answer = ap (λ (q : Gathered). q .rows) e }) (record { answer = ew }) p
+      same : unequal (columns (keptBytes f) (keptMins f) y t o k n) ≡ unequal (columns (ruleBytes rules) (ruleMins rules) y t o k n)
+      same = inv (even (keptBytes f) (keptMins f) (kept-even rules f w)) ∙ even (ruleBytes rules) (ruleMins rules) (rules-even rules)
 
--- building by the rules that were gathered from records
-pub records-built : (rules : List FenceRule) {g : Grammar} {f : Gathered} {y t o k n s out out′ : List ℕ} {a : Outcome} → Gives (gatheredOf (ruleBytes rules) (ruleMins rules)) f → BuiltFor g f y t o k n s out out′ a
-    → Built g (columns (ruleBytes rules) (ruleMins rules) y t o k n) s out out′ a
-records-built rules e b = b .built (ruleBytes rules) (ruleMins rules) (length-map rules (λ r. r .byte) ∙ inv (length-map rules (λ r. r .min))) (e .answer)
+      count : length (regions (gramOf g (columns (keptBytes f) (keptMins f) y t o k n)) s) ≡ length (regions (gramOf g (columns (ruleBytes rules) (ruleMins rules) y t o k n)) s)
+      count = gathered-count rules f w g y t o k n s
 
--- the first n of k, where n may be more
-pub take-few : {A : Type 0} (l : List A) (n k m : ℕ) → length l ≡ k → Gives (min n k) m → take m l ≡ take n l
-take-few l n k m e g = by (decide (ltb n k))
-  where
-    by : (ltb n k ≡ true) ⊎ (ltb n k ≡ false) → take m l ≡ take n l
-    by (inl u) = let h = ltb-true n k u in let z : m ≡ n = omega (arith, g .answer) in rw z
-    by (inr u) = let h = ltb-false n k u in take-all m l (omega (arith, g .answer)) ∙ inv (take-all n l (omega arith))
+      -- a row says nothing of the rule that made its region
+      flat : flatten rowOf (regions (gramOf g (columns (keptBytes f) (keptMins f) y t o k n)) s) ≡ flatten rowOf (regions (gramOf g (columns (ruleBytes rules) (ruleMins rules) y t o k n)) s)
+      flat = gathered-flat rules f w g y t o k n s rowOf (λ h r. refl)
+
+-- building by the first of two columns
+pub front-built : (g : Grammar) (f m y t o k n s out out′ : List ℕ) (a : Outcome) (used p q : ℕ) → Gives (min used (length f)) p → Gives (min used (length m)) q
+    → Built g (columns (take (p - 0) (drop 0 f)) (take (q - 0) (drop 0 m)) y t o k n) s out out′ a → Built g (columns (take used f) (take used m) y t o k n) s out out′ a
+front-built g f m y t o k n s out out′ a used p q hp hq b =
+    subst (λ (l : List ℕ). Built g (columns l (take used m) y t o k n) s out out′ a) (take-front f used p hp) (subst (λ (l : List ℕ). Built g (columns (take (p - 0) (drop 0 f)) l y t o k n) s out out′ a) (take-front m used q hq) b)

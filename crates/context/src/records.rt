@@ -1,21 +1,54 @@
 // Building by a lent run of fence rule records.
-use crate::with_inline;
+use crate::build;
 use common::grammar::Grammar;
 use common::refusal::Answer;
-use common::refusal::Refusal;
-use common::span::MAX_INPUT_LEN;
 use rules::records::FenceRule;
 use rules::records::Gathered;
 use rules::records::gather;
-use rules::rule_tables::inline_columns_differ;
 use search::lesser;
 ghost use lib.ListN.{take};
 ghost use Rattle.common.specs.Refusals.{told};
 ghost use Rattle.rules.specs.Columns.{columns};
-ghost use Rattle.rules.specs.Records.{ruleBytes, ruleMins};
-ghost use Rattle.context.specs.Build.{Built, BuiltFor};
+ghost use Rattle.rules.specs.Records.{ruleBytes, ruleMins, keptBytes, keptMins};
+ghost use Rattle.context.specs.Build.{Built};
 
-// Building by gathered rules, which is building by the columns that they were gathered from.
+// Building by the first `used` fence rules of two columns, by all of a column where it is more.
+fn build_front(
+    src: &[u8],
+    g: Grammar,
+    fences: &[u8],
+    mins: &[u8],
+    used: usize,
+    symmetric: &[u8],
+    times: &[u32],
+    openers: &[u8],
+    closers: &[u8],
+    counts: &[u32],
+    out: &mut [u32],
+) -> Answer
+    ensures { λ r. ⌜
+        Built g (columns (take used (now (fences .entry))) (take used (now (mins .entry))) (now (symmetric .entry))
+        (now (times .entry)) (now (openers .entry)) (now (closers .entry)) (now (counts .entry))) (now (src .entry))
+        (now (out .entry)) (now (out .exit)) (told r)
+        ⌝ }
+{
+    let n = lesser(used, fences.len());
+    let m = lesser(used, mins.len());
+    build(
+        src,
+        g,
+        &fences[0..n],
+        &mins[0..m],
+        symmetric,
+        times,
+        openers,
+        closers,
+        counts,
+        out,
+    )
+}
+
+// Building by the columns of the rules that are kept.
 fn build_gathered(
     src: &[u8],
     g: Grammar,
@@ -27,28 +60,19 @@ fn build_gathered(
     counts: &[u32],
     out: &mut [u32],
 ) -> Answer
-    ensures { λ r. ⌜ BuiltFor g fences (now (symmetric .entry)) (now (times .entry)) (now (openers .entry)) (now (closers .entry)) (now (counts .entry)) (now (src .entry)) (now (out .entry)) (now (out .exit)) (told r) ⌝ }
+    ensures { λ r. ⌜
+        Built g (columns (keptBytes fences) (keptMins fences) (now (symmetric .entry)) (now (times .entry)) (now (openers .entry))
+        (now (closers .entry)) (now (counts .entry))) (now (src .entry)) (now (out .entry)) (now (out .exit)) (told r)
+        ⌝ }
 {
-    if src.len() > MAX_INPUT_LEN {
-        return Answer::Refused(Refusal::TextTooLong);
-    }
-    if inline_columns_differ(symmetric, times, openers, closers, counts) {
-        return Answer::Refused(Refusal::ColumnsDiffer);
-    }
-    let has = fences.has;
-    let least = fences.least;
-    let rows = fences.rows;
-    let before = fences.searched;
-    let searched = before.gather(symmetric).gather(openers);
-    let needles = searched.bytes;
-    with_inline(
+    let bytes = fences.bytes;
+    let mins = fences.mins;
+    build_front(
         src,
         g,
-        &needles,
-        searched.count,
-        &has,
-        &least,
-        &rows,
+        &bytes,
+        &mins,
+        fences.count,
         symmetric,
         times,
         openers,
@@ -70,7 +94,11 @@ pub fn build_records(
     counts: &[u32],
     out: &mut [u32],
 ) -> Answer
-    ensures { λ r. ⌜ Built g (columns (ruleBytes (now (rules .entry))) (ruleMins (now (rules .entry))) (now (symmetric .entry)) (now (times .entry)) (now (openers .entry)) (now (closers .entry)) (now (counts .entry))) (now (src .entry)) (now (out .entry)) (now (out .exit)) (told r) ⌝ }
+    ensures { λ r. ⌜
+        Built g (columns (ruleBytes (now (rules .entry))) (ruleMins (now (rules .entry))) (now (symmetric .entry))
+        (now (times .entry)) (now (openers .entry)) (now (closers .entry)) (now (counts .entry))) (now (src .entry))
+        (now (out .entry)) (now (out .exit)) (told r)
+        ⌝ }
 {
     build_gathered(
         src,
@@ -98,7 +126,11 @@ pub fn build_few(
     counts: &[u32],
     out: &mut [u32],
 ) -> Answer
-    ensures { λ r. ⌜ Built g (columns (ruleBytes (take used rules)) (ruleMins (take used rules)) (now (symmetric .entry)) (now (times .entry)) (now (openers .entry)) (now (closers .entry)) (now (counts .entry))) (now (src .entry)) (now (out .entry)) (now (out .exit)) (told r) ⌝ }
+    ensures { λ r. ⌜
+        Built g (columns (ruleBytes (take used rules)) (ruleMins (take used rules)) (now (symmetric .entry)) (now (times .entry))
+        (now (openers .entry)) (now (closers .entry)) (now (counts .entry))) (now (src .entry)) (now (out .entry))
+        (now (out .exit)) (told r)
+        ⌝ }
 {
     let n = lesser(used, 16);
     build_records(

@@ -1,14 +1,16 @@
 -- The cursor over a list of regions: what it answers of a place, and the index that it goes on from. Assumes nothing.
 -- The page: "The cursor skips regions whose end is at or before the place, never goes back, and gives the next region's end if its start
 -- is at or before the place." and "For a cursor: 5."
+use mathlib.Core.Path.{_≡_}
 use mathlib.Core.Bool.{Bool, true, false, cond, _&&_}
 use mathlib.Core.List.{List, [], _∷_}
 use Prim.Native.Nat.{ℕ, _+_, _*_, _≤_, _<_}
 use lib.Dec.{ltb, leb}
 use lib.ListN.{getD}
 use Rattle.search.specs.Search.{firstPlace}
-use Rattle.common.specs.Entry.{room, startOf, stopOf}
-use Rattle.common.specs.Refusals.{Outcome, given, refuse}
+use Rattle.common.specs.Entry.{room, wide, startOf, stopOf}
+use Rattle.common.specs.Refusals.{Outcome, given, refuse, toldFound}
+use Rattle.cover.specs.declared.cursor.CoverPair.{CoverPair}
 
 -- ---- a list of entries of w numbers each, of which the first two are a region
 -- "region k has its start at 2k and its exclusive end at 2k+1", at any width
@@ -56,6 +58,11 @@ coverage place (r ∷ l) = elim (covers place r) [ true ↦ stopOf r ∷ coverag
 unfoldable pub coverRun : ℕ → List ℕ → ℕ → ℕ → List ℕ → List Outcome
 coverRun w l count index [] = []
 coverRun w l count index (p ∷ ps) = coverAnswer w l count index p ∷ coverRun w l count (coverNext w l count index p) ps
+
+-- two queries: what they answer is a run, and the index behind it
+pub record CoveredBoth (l : List ℕ) (count index first second : ℕ) (r : CoverPair) : Type 0 where
+  pub answers : toldFound (r .first) ∷ toldFound (r .second) ∷ [] ≡ coverRun wide l count index (first ∷ second ∷ [])
+  pub next : r .index ≡ coverNext wide l count (coverNext wide l count index first) second
 
 -- "places that never fall", none of them before `low`
 abbrev pub Rising : ℕ → List ℕ → Type 0

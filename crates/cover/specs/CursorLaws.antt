@@ -13,11 +13,12 @@ use Rattle.search.specs.Promise.{Gives, Steps}
 use Rattle.search.specs.SearchLaws.{decide, first-le, first-here, first-next, first-end, first-before, first-at}
 use Rattle.common.specs.Refusals.{Outcome, given, refused, toldFound}
 use Rattle.common.specs.RefusalLaws.{found-unique}
-use Rattle.common.specs.Entry.{rows, room, startOf, stopOf, Shaped}
+use Rattle.common.specs.Entry.{rows, room, wide, startOf, stopOf, Shaped}
 use Rattle.common.specs.EntryLaws.{rows-at, length-rows}
 use Rattle.common.specs.declared.refusal.Found.{Found}
-use Rattle.cover.specs.Cursor.{startAt, stopAt, after, passed, endAt, coverAnswer, coverNext, covers, coverage, coverRun, Rising, Ended}
+use Rattle.cover.specs.Cursor.{startAt, stopAt, after, passed, endAt, coverAnswer, coverNext, covers, coverage, coverRun, CoveredBoth, Rising, Ended}
 use Rattle.cover.specs.declared.cursor.Cover.{Cover}
+use Rattle.cover.specs.declared.cursor.CoverPair.{CoverPair}
 
 -- ---- the loop that skips regions, at index i
 pub record Passes (w : ℕ) (l : List ℕ) (count index place i : ℕ) : Type 0 where
@@ -75,6 +76,26 @@ pub cover-unique : (w : ℕ) (l : List ℕ) (count index place : ℕ) {r r′ : 
 cover-unique w l count index place {r} {r′} a b =
     let e = query-unique w l count index place a b in
     ap (λ (f : Found). record { found = f; index = r .index }) (e .0) ∙ ap (λ (i : ℕ). record { found = r′ .found; index = i }) (e .1)
+
+-- ---- two queries, of which the second goes on from the index that the first left
+module _ (l : List ℕ) (count index first second : ℕ) where
+  pub cover-twice : (t u : Found) (m k : ℕ) → Steps (coverAnswer wide l count index first) (coverNext wide l count index first) (toldFound t) m
+      → Steps (coverAnswer wide l count m second) (coverNext wide l count m second) (toldFound u) k → CoveredBoth l count index first second (record { first = t; second = u; index = k })
+  unfolding coverRun
+  cover-twice t u m k a b =
+      record { answers = ap (λ (o : Outcome). o ∷ toldFound u ∷ []) (a .answer) ∙ ap (λ (o : Outcome). coverAnswer wide l count index first ∷ o ∷ []) (b .answer ∙ ap (λ (i : ℕ). coverAnswer wide l count i second) (a .next)); next = b .next ∙ ap (λ (i : ℕ). coverNext wide l count i second) (a .next) }
+
+  -- two results of the same queries are one
+  pub both-unique : {r r′ : CoverPair} → CoveredBoth l count index first second r → CoveredBoth l count index first second r′ → r ≡ r′
+  both-unique {r} {r′} a b =
+      let e : toldFound (r .first) ∷ toldFound (r .second) ∷ [] ≡ toldFound (r′ .first) ∷ toldFound (r′ .second) ∷ [] = a .answers ∙ sym (b .answers) in
+      let x : r .first ≡ r′ .first = found-unique {o = toldFound (r′ .first)} (record { answer = cc }) (record { answer = refl }) in
+      let y : r .second ≡ r′ .second = found-unique {o = toldFound (r′ .second)} (record { answer = cc }) (record { answer = refl }) in
+      let z : r .index ≡ r′ .index = a .next ∙ sym (b .next) in
+      alike x y z
+    where
+      alike : r .first ≡ r′ .first → r .second ≡ r′ .second → r .index ≡ r′ .index → r ≡ r′
+      alike x y z = ap (λ (f : Found). record { first = f; second = r .second; index = r .index }) x ∙ ap (λ (f : Found). record { first = r′ .first; second = f; index = r .index }) y ∙ ap (λ (i : ℕ). record { first = r′ .first; second = r′ .second; index = i }) z
 
 -- ---- plain coverage of a list in order
 module _ (place : ℕ) where

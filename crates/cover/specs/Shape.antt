@@ -4,10 +4,10 @@
 use mathlib.Core.Bool.{Bool, not, _||_}
 use mathlib.Core.List.{List}
 use Prim.Native.Nat.{ℕ}
-use Rattle.common.specs.Entry.{rows, shaped}
+use Rattle.common.specs.Entry.{rows, shaped, wide}
 use Rattle.cover.specs.Cursor.{overfull}
 
 -- 5: "a list's stated count is over its room; for an amendment or a work sheet also: regions unsorted, overlapping, empty (end not after
 -- start) or past the text", of a text of length len
 unfoldable pub misshapen : List ℕ → ℕ → ℕ → Bool
-misshapen l n len = overfull 2 l n || not (shaped 0 len (rows 2 n l))
+misshapen l n len = overfull wide l n || not (shaped 0 len (rows wide n l))

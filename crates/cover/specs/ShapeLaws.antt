@@ -8,45 +8,45 @@ use lib.ListN.{length, getD}
 use borrow.Author.Tests.{lt-ltb, le-ltb, ltb-false, not-false}
 use Rattle.search.specs.SearchLaws.{neither}
 use Rattle.search.specs.Promise.{Gives}
-use Rattle.common.specs.Entry.{rows, room, shaped, Shaped, Shaping}
+use Rattle.common.specs.Entry.{rows, room, shaped, Shaped, Shaping, wide}
 use Rattle.common.specs.EntryLaws.{shaped-holds, shaping-again, shaping-early, shaping-empty, shaping-long}
 use Rattle.cover.specs.Cursor.{overfull}
 use Rattle.cover.specs.Shape.{misshapen}
 
 -- ---- the loop that tests: a and b are the numbers that were read of row k
-module _ {n len from k low : ℕ} {l : List ℕ} (i : Shaping 2 l n len from k low) (h : k < n) (a b : ℕ) (ga : Gives (getD l (k * 2) 0) a) (gb : Gives (getD l (k * 2 + 1) 0) b) where
-  pub tested-again : low ≤ a → a < b → b ≤ len → Shaping 2 l n len from (k + 1) b
+module _ {n len from k low : ℕ} {l : List ℕ} (i : Shaping wide l n len from k low) (h : k < n) (a b : ℕ) (ga : Gives (getD l (k * wide) 0) a) (gb : Gives (getD l (k * wide + 1) 0) b) where
+  pub tested-again : low ≤ a → a < b → b ≤ len → Shaping wide l n len from (k + 1) b
   tested-again x y z = rw (gb .answer) (shaping-again i h (omega (arith, ga .answer)) (omega (arith, ga .answer, gb .answer)) (omega (arith, gb .answer)))
 
-  pub tested-early : a < low → false ≡ shaped from len (rows 2 n l)
+  pub tested-early : a < low → false ≡ shaped from len (rows wide n l)
   tested-early x = shaping-early i h (omega (arith, ga .answer))
 
-  pub tested-empty : b ≤ a → false ≡ shaped from len (rows 2 n l)
+  pub tested-empty : b ≤ a → false ≡ shaped from len (rows wide n l)
   tested-empty x = shaping-empty i h (omega (arith, ga .answer, gb .answer))
 
-  pub tested-long : len < b → false ≡ shaped from len (rows 2 n l)
+  pub tested-long : len < b → false ≡ shaped from len (rows wide n l)
   tested-long x = shaping-long i h (omega (arith, gb .answer))
 
 -- ---- the ways out of the test
-pub misshapen-over : (l : List ℕ) (n len : ℕ) → length l / 2 < n → true ≡ misshapen l n len
+pub misshapen-over : (l : List ℕ) (n len : ℕ) → length l / wide < n → true ≡ misshapen l n len
 unfolding misshapen
-misshapen-over l n len h = rw (lt-ltb (length l / 2) n h)
+misshapen-over l n len h = rw (lt-ltb (length l / wide) n h)
 
-module _ (l : List ℕ) (n len : ℕ) (h : n ≤ length l / 2) (y : Bool) where
-  pub misshapen-no : y ≡ true → Gives (shaped 0 len (rows 2 n l)) y → false ≡ misshapen l n len
+module _ (l : List ℕ) (n len : ℕ) (h : n ≤ length l / wide) (y : Bool) where
+  pub misshapen-no : y ≡ true → Gives (shaped 0 len (rows wide n l)) y → false ≡ misshapen l n len
   unfolding misshapen
-  misshapen-no e g = rw (le-ltb (length l / 2) n h, ← (g .answer), e)
+  misshapen-no e g = rw (le-ltb (length l / wide) n h, ← (g .answer), e)
 
-  pub misshapen-yes : y ≡ false → Gives (shaped 0 len (rows 2 n l)) y → true ≡ misshapen l n len
+  pub misshapen-yes : y ≡ false → Gives (shaped 0 len (rows wide n l)) y → true ≡ misshapen l n len
   unfolding misshapen
-  misshapen-yes e g = rw (le-ltb (length l / 2) n h, ← (g .answer), e)
+  misshapen-yes e g = rw (le-ltb (length l / wide) n h, ← (g .answer), e)
 
 -- ---- a list that is not misshapen
 module _ (l : List ℕ) (n len : ℕ) (e : misshapen l n len ≡ false) where
-  pub shape-fits : n ≤ room 2 l
+  pub shape-fits : n ≤ room wide l
   unfolding misshapen
-  shape-fits = ltb-false (room 2 l) n (neither (overfull 2 l n) (not (shaped 0 len (rows 2 n l))) e .0)
+  shape-fits = ltb-false (room wide l) n (neither (overfull wide l n) (not (shaped 0 len (rows wide n l))) e .0)
 
-  pub shape-order : Shaped 0 len (rows 2 n l)
+  pub shape-order : Shaped 0 len (rows wide n l)
   unfolding misshapen
-  shape-order = shaped-holds 0 len (rows 2 n l) (not-false (shaped 0 len (rows 2 n l)) (neither (overfull 2 l n) (not (shaped 0 len (rows 2 n l))) e .1))
+  shape-order = shaped-holds 0 len (rows wide n l) (not-false (shaped 0 len (rows wide n l)) (neither (overfull wide l n) (not (shaped 0 len (rows wide n l))) e .1))

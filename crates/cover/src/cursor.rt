@@ -1,12 +1,14 @@
 // A cursor over a list of regions, which tells what is covered. It only moves forward, so that a run of places that never fall costs
 // one pass over the list.
+use common::list::END;
+use common::list::WIDE;
 use common::refusal::Found;
 use common::refusal::Refusal;
 ghost use Prim.Native.Nat.{_≤_};
 ghost use Rattle.search.specs.Promise.{Gives, Steps};
 ghost use Rattle.common.specs.Refusals.{toldFound};
-ghost use Rattle.common.specs.Entry.{room};
-ghost use Rattle.cover.specs.Cursor.{passed, coverAnswer, coverNext};
+ghost use Rattle.common.specs.Entry.{room, wide};
+ghost use Rattle.cover.specs.Cursor.{passed, coverAnswer, coverNext, CoveredBoth};
 
 // What a query answers, and the index that the next one goes on from.
 pub struct Cover {
@@ -23,12 +25,12 @@ fn place_of(number: u32) -> usize
 
 // The first region from `index` on that ends after `place`, else the count.
 fn pass(list: &[u32], count: usize, index: usize, place: usize) -> usize
-    requires { ⌜ count ≤ room 2 (now list) ⌝ }
-    ensures { λ r. ⌜ Gives (passed 2 (now (list .entry)) count index place) r ⌝ }
+    requires { ⌜ count ≤ room wide (now list) ⌝ }
+    ensures { λ r. ⌜ Gives (passed wide (now (list .entry)) count index place) r ⌝ }
 {
     let mut i = index;
     while i < count {
-        let stop = place_of(list[i * 2 + 1]);
+        let stop = place_of(list[i * WIDE + END]);
         if place < stop {
             return i;
         }
@@ -40,9 +42,12 @@ fn pass(list: &[u32], count: usize, index: usize, place: usize) -> usize
 // If `place` is inside a region, that region's end, so that the caller can jump past it; and the index to go on from. Refusal 5 where
 // the count is over the list's room: then the index is the given one.
 pub fn covering_end(list: &[u32], count: usize, index: usize, place: usize) -> Cover
-    ensures { λ r. ⌜ Steps (coverAnswer 2 (now (list .entry)) count index place) (coverNext 2 (now (list .entry)) count index place) (toldFound (r .found)) (r .index) ⌝ }
+    ensures { λ r. ⌜
+        Steps (coverAnswer wide (now (list .entry)) count index place) (coverNext wide (now (list .entry)) count index place)
+        (toldFound (r .found)) (r .index)
+        ⌝ }
 {
-    if list.len() / 2 < count {
+    if list.len() / WIDE < count {
         return Cover {
             found: Found::Refused(Refusal::ListMisshapen),
             index,
@@ -55,14 +60,14 @@ pub fn covering_end(list: &[u32], count: usize, index: usize, place: usize) -> C
             index: i,
         };
     }
-    if place < place_of(list[i * 2]) {
+    if place < place_of(list[i * WIDE]) {
         return Cover {
             found: Found::Nothing,
             index: i,
         };
     }
     Cover {
-        found: Found::At(place_of(list[i * 2 + 1])),
+        found: Found::At(place_of(list[i * WIDE + END])),
         index: i,
     }
 }
@@ -76,21 +81,39 @@ pub struct Cursor {
 
 // The number form, at the cursor's index, which moves on to the next.
 pub fn covering(cursor: &mut Cursor, list: &[u32], count: usize, place: usize) -> Found
-    ensures { λ r. ⌜ Steps (coverAnswer 2 (now (list .entry)) count (now (cursor .entry) .index) place) (coverNext 2 (now (list .entry)) count (now (cursor .entry) .index) place) (toldFound r) (now (cursor .exit) .index) ⌝ }
+    ensures { λ r. ⌜
+        Steps (coverAnswer wide (now (list .entry)) count (now (cursor .entry) .index) place) (coverNext wide (now (list .entry))
+        count (now (cursor .entry) .index) place) (toldFound r) (now (cursor .exit) .index)
+        ⌝ }
 {
     let cover = covering_end(list, count, cursor.index, place);
     cursor.index = cover.index;
     cover.found
 }
 
-// One query of a cursor made at `index`: for callers that hold no cursor.
-pub fn covers(list: &[u32], count: usize, index: usize, place: usize) -> Cover
-    ensures { λ r. ⌜ Steps (coverAnswer 2 (now (list .entry)) count index place) (coverNext 2 (now (list .entry)) count index place) (toldFound (r .found)) (r .index) ⌝ }
+// What two queries answer, and the index that the next one goes on from.
+pub struct CoverPair {
+    pub first: Found,
+    pub second: Found,
+    pub index: usize,
+}
+
+// Two queries, one after the other, of a cursor made at `index`: it is lent to each, and the second finds it where the first left it.
+pub fn covers_both(
+    list: &[u32],
+    count: usize,
+    index: usize,
+    first: usize,
+    second: usize,
+) -> CoverPair
+    ensures { λ r. ⌜ CoveredBoth (now (list .entry)) count index first second r ⌝ }
 {
     let mut cursor = Cursor { index };
-    let found = covering(&mut cursor, list, count, place);
-    Cover {
-        found,
+    let before = covering(&mut cursor, list, count, first);
+    let after = covering(&mut cursor, list, count, second);
+    CoverPair {
+        first: before,
+        second: after,
         index: cursor.index,
     }
 }

@@ -1,8 +1,10 @@
 // The shape of a list: what an amendment and a work sheet ask of the regions that they are given.
+use common::list::END;
+use common::list::WIDE;
 ghost use Prim.Native.Nat.{_*_, _≤_};
 ghost use lib.ListN.{length, getD};
 ghost use Rattle.search.specs.Promise.{Gives};
-ghost use Rattle.common.specs.Entry.{rows, shaped};
+ghost use Rattle.common.specs.Entry.{rows, shaped, wide};
 ghost use Rattle.cover.specs.Shape.{misshapen};
 
 // The number at place `i`, else 0.
@@ -17,14 +19,14 @@ pub fn number(list: &[u32], i: usize) -> usize
 
 // Whether the first `count` regions are sorted, apart, none of them empty, and within `len`.
 fn in_order(list: &[u32], count: usize, len: usize) -> bool
-    requires { ⌜ count * 2 ≤ length (now list) ⌝ }
-    ensures { λ r. ⌜ Gives (shaped 0 len (rows 2 count (now (list .entry)))) r ⌝ }
+    requires { ⌜ count * wide ≤ length (now list) ⌝ }
+    ensures { λ r. ⌜ Gives (shaped 0 len (rows wide count (now (list .entry)))) r ⌝ }
 {
     let mut low = 0;
     let mut k = 0;
     while k < count {
-        let start = number(list, k * 2);
-        let end = number(list, k * 2 + 1);
+        let start = number(list, k * WIDE);
+        let end = number(list, k * WIDE + END);
         if start < low {
             return false;
         }
@@ -44,7 +46,7 @@ fn in_order(list: &[u32], count: usize, len: usize) -> bool
 pub fn is_misshapen(list: &[u32], count: usize, len: usize) -> bool
     ensures { λ r. ⌜ Gives (misshapen (now (list .entry)) count len) r ⌝ }
 {
-    if list.len() / 2 < count {
+    if list.len() / WIDE < count {
         return true;
     }
     if in_order(list, count, len) {

@@ -220,15 +220,15 @@ module _ (g : FenceIter) (count : ℕ) (s : List ℕ) where
         pub close-short : c < count → CloseTurned g count s from (close.Go n)
         close-short l = close-miss (simp (← (hj .here), ← (hc .answer), lt-leb count c l))
 
-        pub close-text : (m : ℕ) → Sought (other (either (g .sep) (g .tab))) s j m → m < e → CloseTurned g count s from (close.Go n)
-        close-text m hm l = close-miss (simp (← (hj .here), ← (he .here), ← (hm .here), lt-leb e m l, and-false))
+        pub close-text : (z : Bool) → z ≡ false → Gives (leb e (find (other (either (g .sep) (g .tab))) s j)) z → CloseTurned g count s from (close.Go n)
+        close-text z k hz = close-miss (simp (← (hj .here), ← (he .here), ← (hz .answer), k, and-false))
 
-        pub close-found : count ≤ c → (m : ℕ) → Sought (other (either (g .sep) (g .tab))) s j m → e ≤ m → CloseTurned g count s from (close.End n)
+        pub close-found : count ≤ c → (z : Bool) → z ≡ true → Gives (leb e (find (other (either (g .sep) (g .tab))) s j)) z → CloseTurned g count s from (close.End n)
         unfolding CloseTurned closes
-        close-found l m hm k =
+        close-found l z k hz =
             hn .answer
             ∙ ap (nextLine (length s)) (he .here ∙ ap (lineEnd (g .eol) s) (hj .here))
-            ∙ close-on from q (first-meet g s (shuts g count s) (shuts-parts g count s) from q hq inside (sym (hy .answer) ∙ start) (simp (← (hj .here), ← (hc .answer), le-leb count c l, ← (he .here), ← (hm .here), le-leb e m k))) inside
+            ∙ close-on from q (first-meet g s (shuts g count s) (shuts-parts g count s) from q hq inside (sym (hy .answer) ∙ start) (simp (← (hj .here), ← (hc .answer), le-leb count c l, ← (he .here), ← (hz .answer), k))) inside
 
 pub ruleset close-turn-rules = (close-none, close-skip, close-short, close-text, close-found)
 

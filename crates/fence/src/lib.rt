@@ -13,7 +13,7 @@ use common::span::SpanFound;
 use find::find_byte;
 use find::find_either;
 use lines::fence_tests::run_count;
-use search::blank_end;
+use search::blank_within;
 use search::line_start;
 use search::next_line;
 use search::run_end;
@@ -85,7 +85,7 @@ impl FenceIter {
     }
 
     // What the next fence byte at or after `search` says to the search for the close of a run of `count`.
-    fn close_turn(self, src: &[u8], count: u8, search: usize) -> CloseTurn
+    fn close_turn(self, src: &[u8], count: usize, search: usize) -> CloseTurn
         ensures { λ r. ⌜ CloseTurned self count (now (src .entry)) search r ⌝ }
     {
         let q = find_byte(src, search, self.byte);
@@ -99,16 +99,16 @@ impl FenceIter {
             if run_count(q, j) < count {
                 return CloseTurn::Go(n);
             }
-            if blank_end(src, j, self.sep, self.tab) < e {
-                return CloseTurn::Go(n);
+            if blank_within(src, j, e, self.sep, self.tab) {
+                return CloseTurn::End(n);
             }
-            return CloseTurn::End(n);
+            return CloseTurn::Go(n);
         }
         CloseTurn::Go(q + 1)
     }
 
     // Where the span of a fence ends whose opening run is `count` long, searched from `from`.
-    fn close(self, src: &[u8], count: u8, from: usize) -> usize
+    fn close(self, src: &[u8], count: usize, from: usize) -> usize
         ensures { λ r. ⌜ Gives (closeEnd self count (now (src .entry)) from) r ⌝ }
     {
         let mut search = from;
@@ -133,7 +133,7 @@ impl FenceIter {
         let e = find_byte(src, j, self.eol);
         let n = next_line(src.len(), e);
         let count = run_count(p, j);
-        if count < self.min {
+        if count < self.min as usize {
             return Turn::Go(n);
         }
         // One search for either, so that it never goes beyond the line.

@@ -2,19 +2,16 @@
 -- The page: "A fence begins its line, has a run of at least min and at least 1, and no further fence byte on that line. It is closed by
 -- the first later line whose run is as long or longer and whose rest is separators or tabs." and "Run counts stop at 255."
 
-use mathlib.Core.Bool.{Bool, true, false, cond, _&&_}
+use mathlib.Core.Bool.{Bool, cond, _&&_}
 use mathlib.Core.List.{List}
-use Prim.Native.Nat.{ℕ, _-_, min}
+use Prim.Native.Nat.{ℕ, _+_, _-_, min}
 use lib.Dec.{ltb, leb}
-use lib.ListN.{length, getD}
-use Rattle.search.specs.Search.{find, is, either, other, holds, lineStart, lineEnd, firstPlace}
+use lib.ListN.{getD}
+use Rattle.search.specs.Search.{find, is, either, other, holds, lineStart, lineEnd}
 use Rattle.common.specs.declared.grammar.Grammar.{Grammar}
-use Rattle.common.specs.Rules.{tabulate, hasRule, leastOf}
-use Rattle.lines.specs.declared.fence_tests.FenceTables.{FenceTables}
+use Rattle.common.specs.Rules.{tabulate, entry, row, hasRule}
 use Rattle.lines.specs.declared.fence_tests.Opening.{Opening}
 use Rattle.lines.specs.declared.fence_tests.Opening.the-variants.{Opens, Not}
-use Rattle.lines.specs.declared.fence_tests.Close.{Close}
-use Rattle.lines.specs.declared.fence_tests.Close.the-variants.{Closed, Unclosed}
 
 -- the end of the run of b that begins at p, within a line that ends at e
 abbrev pub runEnd : ℕ → List ℕ → ℕ → ℕ → ℕ
@@ -59,16 +56,17 @@ closesTo sep tab b count s q e = closesRun sep tab count s q (runEnd b s q e) e
 unfoldable pub closing : Grammar → ℕ → ℕ → List ℕ → ℕ → Bool
 closing g b count s q = lineStart (g .eol) s q && (holds (is b) s q && closesTo (g .sep) (g .tab) b count s q (lineEnd (g .eol) s q))
 
-abbrev pub closeAt : Grammar → List ℕ → Bool → ℕ → Close
-closeAt g s true q = Closed q (lineEnd (g .eol) s q)
-closeAt g s false q = Unclosed
-
--- "It is closed by the first later line whose run is as long or longer and whose rest is separators or tabs."
-unfoldable pub closeScan : Grammar → ℕ → ℕ → List ℕ → ℕ → Close
-closeScan g b count s from =
-    closeAt g s (ltb (firstPlace (closing g b count s) from (length s)) (length s)) (firstPlace (closing g b count s) from (length s))
-
 -- ---- the rules
--- "by the first rule with that byte": whether there is one and its minimum, as tables over the bytes
-abbrev pub tablesOf : List ℕ → List ℕ → FenceTables
-tablesOf bytes mins = record { has = tabulate (hasRule bytes) 256 0; least = tabulate (leastOf bytes mins) 256 0 }
+-- "by the first rule with that byte", as a table over the bytes: 0 where there is none, else one more than its minimum
+abbrev pub fenceCell : List ℕ → List ℕ → ℕ → ℕ
+fenceCell bytes mins b = cond (hasRule bytes b) (getD mins (row bytes b) 0 + 1) 0
+
+unfoldable pub fenceTable : List ℕ → List ℕ → List ℕ
+fenceTable bytes mins = tabulate (fenceCell bytes mins) 256 0
+
+-- what a table, also one made by hand, says of a byte: whether a rule has it, and its minimum
+unfoldable pub hasIn : List ℕ → ℕ → Bool
+hasIn fences b = ltb 0 (entry 0 fences b)
+
+unfoldable pub leastIn : List ℕ → ℕ → ℕ
+leastIn fences b = entry 0 fences b - 1

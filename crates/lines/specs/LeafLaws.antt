@@ -5,29 +5,35 @@ use mathlib.Core.List.{List, [], _∷_}
 use Prim.Native.Nat.{ℕ}
 use Rattle.search.specs.Promise.{Gives}
 use Rattle.common.specs.Refusals.{given}
-use Rattle.common.specs.Rules.{tabulate, entry, onByte, hasRule, leastOf}
-use Rattle.lines.specs.Fences.{tablesOf, opensLine}
-use Rattle.common.specs.TableLaws.{table-entry}
+use Rattle.common.specs.Rules.{onByte, hasRule}
+use Rattle.common.specs.declared.grammar.Grammar.{Grammar}
+use Rattle.lines.specs.Fences.{fenceTable, hasIn, leastIn, opensLine}
+use Rattle.lines.specs.Reader.{reader, readerIn}
+use Rattle.lines.specs.RuleLaws.{table-has, table-least}
 use Rattle.lines.specs.Paragraph.{nextIn}
 use Rattle.lines.specs.Leaf.{opensBy, toldHit}
-use Rattle.lines.specs.declared.fence_tests.FenceTables.{FenceTables}
 use Rattle.lines.specs.declared.fence_tests.Hit.{Hit}
 use Rattle.lines.specs.declared.fence_tests.Hit.the-variants.{At, End}
 
--- ---- the next byte in a paragraph, by the tables of the columns
-module _ (s : List ℕ) (from needle eol : ℕ) (bytes mins : List ℕ) (d : Hit) (t : FenceTables) where
-  by-tables : Gives (tablesOf bytes mins) t → Gives (nextIn eol (opensLine eol (entry false (t .has)) (entry 0 (t .least)) s) s needle from) d
+-- the grammar of which only the line end is asked
+abbrev pub lineEnded : ℕ → Grammar
+lineEnded eol = record { eol = eol; escape = 0; sep = 0; tab = 0 }
+
+-- ---- the next byte in a paragraph, by the table of the columns
+module _ (s : List ℕ) (from needle eol : ℕ) (bytes mins : List ℕ) (d : Hit) (t : List ℕ) where
+  by-table : Gives (fenceTable bytes mins) t → Gives (nextIn eol (readerIn (lineEnded eol) t .enters s) s needle from) d
       → toldHit d ≡ toldHit (nextIn eol (opensBy eol bytes mins s) s needle from)
-  by-tables g h =
+  unfolding reader
+  by-table g h =
       ap toldHit (h .answer)
-      ∙ ap (λ (f : FenceTables). toldHit (nextIn eol (opensLine eol (entry false (f .has)) (entry 0 (f .least)) s) s needle from)) (g .answer)
-      ∙ ap (λ (f : ℕ → Bool). toldHit (nextIn eol (opensLine eol f (entry 0 (tabulate (leastOf bytes mins) 256 0)) s) s needle from)) (table-entry false (hasRule bytes))
-      ∙ ap (λ (f : ℕ → ℕ). toldHit (nextIn eol (opensLine eol (onByte false (hasRule bytes)) f s) s needle from)) (table-entry 0 (leastOf bytes mins))
+      ∙ ap (λ (f : List ℕ). toldHit (nextIn eol (opensLine eol (hasIn f) (leastIn f) s) s needle from)) (g .answer)
+      ∙ ap (λ (f : ℕ → Bool). toldHit (nextIn eol (opensLine eol f (leastIn (fenceTable bytes mins)) s) s needle from)) (table-has bytes mins)
+      ∙ ap (λ (f : ℕ → ℕ). toldHit (nextIn eol (opensLine eol (onByte false (hasRule bytes)) f s) s needle from)) (table-least bytes mins)
 
-  pub paragraph-at : (q : ℕ) → d ≡ At q → Gives (tablesOf bytes mins) t → Gives (nextIn eol (opensLine eol (entry false (t .has)) (entry 0 (t .least)) s) s needle from) d
+  pub paragraph-at : (q : ℕ) → d ≡ At q → Gives (fenceTable bytes mins) t → Gives (nextIn eol (readerIn (lineEnded eol) t .enters s) s needle from) d
       → given (q ∷ []) ≡ toldHit (nextIn eol (opensBy eol bytes mins s) s needle from)
-  paragraph-at q e g h = sym (ap toldHit e) ∙ by-tables g h
+  paragraph-at q e g h = sym (ap toldHit e) ∙ by-table g h
 
-  pub paragraph-end : (u : ℕ) → d ≡ End u → Gives (tablesOf bytes mins) t → Gives (nextIn eol (opensLine eol (entry false (t .has)) (entry 0 (t .least)) s) s needle from) d
+  pub paragraph-end : (u : ℕ) → d ≡ End u → Gives (fenceTable bytes mins) t → Gives (nextIn eol (readerIn (lineEnded eol) t .enters s) s needle from) d
       → given [] ≡ toldHit (nextIn eol (opensBy eol bytes mins s) s needle from)
-  paragraph-end u e g h = sym (ap toldHit e) ∙ by-tables g h
+  paragraph-end u e g h = sym (ap toldHit e) ∙ by-table g h

@@ -1,5 +1,6 @@
 pub mod Fences
 pub mod Paragraph
+pub mod Reader
 pub mod Leaf
 pub mod Steps
 pub mod RuleLaws

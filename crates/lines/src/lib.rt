@@ -3,6 +3,7 @@
 // call.
 pub mod fence_tests; // what a line says of fences, and the search for a close
 
+use common::grammar::Grammar;
 use common::refusal::Answer;
 use common::refusal::Found;
 use common::refusal::Refusal;
@@ -58,10 +59,14 @@ pub fn next_in_paragraph(
     if from > src.len() {
         return Found::Refused(Refusal::PlaceOutside);
     }
-    let tables = fence_tests::fence_tables(bytes, mins);
-    let has = tables.has;
-    let least = tables.least;
-    match fence_tests::next_in(src, from, needle, eol, &has, &least) {
+    let fences = fence_tests::fence_table(bytes, mins);
+    let g = Grammar {
+        eol, // the only byte of a grammar that a paragraph is read by
+        escape: 0,
+        sep: 0,
+        tab: 0,
+    };
+    match fence_tests::next_in(src, from, needle, g, &fences) {
         fence_tests::Hit::At(q) => Found::At(q),
         fence_tests::Hit::End(_) => Found::Nothing,
     }

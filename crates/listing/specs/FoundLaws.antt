@@ -2,14 +2,14 @@
 use mathlib.Core.Path.{_≡_, refl, sym, ap, _∙_}
 use mathlib.Core.Bool.{Bool, false}
 use mathlib.Core.List.{List, [], _∷_, map, append-nil}
-use Prim.Native.Nat.{ℕ, _/_, _≤_}
+use Prim.Native.Nat.{ℕ, _/_, _≤_, _*_}
 use native.Mathlib.Omega.{arith}
 use lib.ListN.{length, getD, drop, length-append, length-drop}
 use borrow.Author.Tests.{le-ltb, eq-eqb}
 use Rattle.search.specs.Promise.{Gives}
 use Rattle.search.specs.SearchLaws.{clash}
 use Rattle.common.specs.Grammars.{house}
-use Rattle.common.specs.Entry.{flatten, rows, Shaped, over}
+use Rattle.common.specs.Entry.{flatten, rows, Shaped, over, wide}
 use Rattle.common.specs.EntryLaws.{length-flatten, rows-flatten, holds-shaped}
 use Rattle.common.specs.Refusals.{Outcome, given, refused, numberOf, told}
 use Rattle.common.specs.RefusalLaws.{number-some}
@@ -17,7 +17,7 @@ use Rattle.common.specs.declared.grammar.Grammar.{Grammar}
 use Rattle.common.specs.declared.refusal.Answer.{Answer}
 use Rattle.common.specs.declared.refusal.Answer.the-variants.{Value, Refused}
 use Rattle.common.specs.declared.refusal.Refusal.{Refusal}
-use Rattle.region.specs.Region.{Caused, pair, InOrder}
+use Rattle.region.specs.Region.{Caused, InOrder, rowOf}
 use Rattle.region.specs.Regions as context
 use Rattle.rules.specs.Columns.{gramOf}
 use Rattle.context.specs.Build.{builtAnswer, builtList, Built}
@@ -46,12 +46,12 @@ pub few-regions : (s : List ℕ) → length s ≤ 8192 → length (regions s) �
 unfolding regions
 few-regions s h = omega (arith, regions-few (gramOf house houseRules) s)
 
-module _ (s list list′ : List ℕ) (g : Grammar) (a : Answer) (e : Gives house g) (h : length s ≤ 8192) (size : length list ≡ 8194) (w : Built g houseRules s list list′ (told a)) where
-  built-is : (told a ≡ given (length (regions s) ∷ [])) × (list′ ≡ over (flatten pair (regions s)) list)
+module _ (s list list′ : List ℕ) (g : Grammar) (a : Answer) (e : Gives house g) (h : length s ≤ 8192) (size : length list ≡ wide * 4097) (w : Built g houseRules s list list′ (told a)) where
+  built-is : (told a ≡ given (length (regions s) ∷ [])) × (list′ ≡ over (flatten rowOf (regions s)) list)
   unfolding builtAnswer builtList regions
   built-is =
       let short = le-ltb 4294967295 (length s) (omega arith) in
-      let roomy = le-ltb (length list / 2) (length (context.regions (gramOf house houseRules) s)) (omega (arith, few-regions s h)) in
+      let roomy = le-ltb (length list / wide) (length (context.regions (gramOf house houseRules) s)) (omega (arith, few-regions s h)) in
       (w .answer ∙ rw (e .answer, short, roomy), w .list ∙ rw (e .answer, short, roomy))
 
   pub regions-found : (n : ℕ) → a ≡ Value n → Held s list′ n
@@ -59,16 +59,16 @@ module _ (s list list′ : List ℕ) (g : Grammar) (a : Answer) (e : Gives house
       let b = built-is in
       let z : length (regions s) ≡ n = value-is n (length (regions s) ∷ []) (ap told (sym v) ∙ b .0) in
       record {
-        same = rw (b .1, ← z) (rows-flatten pair 2 (λ r. refl) (regions s) (drop (length (flatten pair (regions s))) list));
+        same = rw (b .1, ← z) (rows-flatten rowOf wide (λ r. refl) (regions s) (drop (length (flatten rowOf (regions s))) list));
         few = omega (arith, few-regions s h);
-        long = ap length (b .1) ∙ over-length (flatten pair (regions s)) list (omega (arith, few-regions s h, length-flatten pair 2 (λ r. refl) (regions s))) ∙ size;
+        long = ap length (b .1) ∙ over-length (flatten rowOf (regions s)) list (omega (arith, few-regions s h, length-flatten rowOf wide (λ r. refl) (regions s))) ∙ size;
       }
 
   pub regions-refused : (x : Refusal) (n : ℕ) → a ≡ Refused x → Held s list′ n
   regions-refused x n v = never x (length (regions s) ∷ []) (ap told (sym v) ∙ built-is .0)
 
 -- ---- the list of a text's regions is in order
-in-order : (from len : ℕ) (l : List Caused) → InOrder from len l → Shaped from len (map pair l)
+in-order : (from len : ℕ) (l : List Caused) → InOrder from len l → Shaped from len (map rowOf l)
 in-order from len [] w = tt
 in-order from len (r ∷ l) w = (w .0, w .1, w .2, in-order (r .stop) len l (w .3))
 
@@ -76,20 +76,20 @@ module _ {s list : List ℕ} {n : ℕ} (w : Held s list n) where
   held-shape : misshapen list n (length s) ≡ false
   unfolding misshapen regions
   held-shape =
-      let fits = le-ltb (length list / 2) n (omega (arith, w .few, w .long)) in
-      rw (fits, w .same, holds-shaped 0 (length s) (map pair (regions s)) (in-order 0 (length s) (regions s) (regions-in-order (gramOf house houseRules) s)))
+      let fits = le-ltb (length list / wide) n (omega (arith, w .few, w .long)) in
+      rw (fits, w .same, holds-shaped 0 (length s) (map rowOf (regions s)) (in-order 0 (length s) (regions s) (regions-in-order (gramOf house houseRules) s)))
 
   held-sheet : sheetOf house houseMarkers houseDelims list n s ≡ shown s
   unfolding sheetOf shown
   held-sheet =
-      let x : rows 2 (length (regions s)) (flatten pair (regions s)) ≡ map pair (regions s) = ap (rows 2 (length (regions s))) (sym (append-nil (flatten pair (regions s)))) ∙ rows-flatten pair 2 (λ r. refl) (regions s) [] in
+      let x : rows wide (length (regions s)) (flatten rowOf (regions s)) ≡ map rowOf (regions s) = ap (rows wide (length (regions s))) (sym (append-nil (flatten rowOf (regions s)))) ∙ rows-flatten rowOf wide (λ r. refl) (regions s) [] in
       rw (w .same, x)
 
 -- ---- the work sheet
 pub few-shown : (s : List ℕ) → length (shown s) ≤ length s
 unfolding shown sheetOf
 few-shown s =
-    omega (arith, outside-few (rows 2 (length (regions s)) (flatten pair (regions s))) (merge (markItems house houseMarkers s) (numberedItems house houseDelims s)), items-few house houseMarkers houseDelims s)
+    omega (arith, outside-few (rows wide (length (regions s)) (flatten rowOf (regions s))) (merge (markItems house houseMarkers s) (numberedItems house houseDelims s)), items-few house houseMarkers houseDelims s)
 
 module _ (s list items items′ : List ℕ) (markers delims : List Bool) (count : ℕ) (g : Grammar) (a : Answer) (e : Gives house g) (em : markers ≡ houseMarkers) (ed : delims ≡ houseDelims) (h : length s ≤ 8192)
     (held : Held s list count) (space : length items ≡ 40965) (w : Sheeted g markers delims list count s items items′ (told a)) where

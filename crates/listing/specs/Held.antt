@@ -6,21 +6,21 @@ use mathlib.Core.List.{List, [], _∷_, _++_, map}
 use Prim.Native.Nat.{ℕ, _+_, _-_, _*_, _≤_}
 use lib.Dec.{eqb}
 use lib.ListN.{length, getD, drop}
-use Rattle.common.specs.Entry.{rows, putAt}
-use Rattle.region.specs.Region.{pair}
+use Rattle.common.specs.Entry.{rows, putAt, wide}
 use Rattle.sheet.specs.Sheet.{five}
 use Rattle.listing.specs.Lines.{lines}
 use Rattle.listing.specs.Listing.{regions, shown}
+use Rattle.region.specs.Region.{rowOf}
 
 -- a run whose first n rows are the text's regions
 pub record Held (s list : List ℕ) (n : ℕ) : Type 0 where
-  pub same : rows 2 n list ≡ map pair (regions s)
+  pub same : rows wide n list ≡ map rowOf (regions s)
   pub few : n ≤ 4097
-  pub long : length list ≡ 8194
+  pub long : length list ≡ wide * 4097
 
 -- the lines of its first n rows
 unfoldable pub heldLines : List ℕ → ℕ → List ℕ
-heldLines list n = lines 82 (λ r. r) (rows 2 n list)
+heldLines list n = lines 82 (λ r. r) (rows wide n list)
 
 -- a run whose first n rows are the items of the text's work sheet
 pub record Filed (s list : List ℕ) (n : ℕ) : Type 0 where

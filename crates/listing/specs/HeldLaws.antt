@@ -8,15 +8,15 @@ use native.Mathlib.Omega.{arith}
 use lib.ListN.{length, getD, take, drop, length-append}
 use lib.Seq.{drop-cons, drop-drop}
 use borrow.Author.Tests.{eq-eqb, ne-eqb}
-use Rattle.common.specs.Entry.{rows, putAt}
+use Rattle.common.specs.Entry.{rows, putAt, wide}
 use Rattle.common.specs.EntryLaws.{length-put, put-append}
-use Rattle.region.specs.Region.{pair}
 use Rattle.sheet.specs.Sheet.{five}
 use Rattle.listing.specs.Lines.{line, lines}
 use Rattle.listing.specs.Put.{Laid, Put, Room}
 use Rattle.listing.specs.GoingLaws.{lines-map}
 use Rattle.listing.specs.Listing.{regions, regionLines, shown, sheetLines}
 use Rattle.listing.specs.Held.{Held, heldLines, Filed, rowFields, filedLines, Rowing}
+use Rattle.region.specs.Region.{rowOf}
 
 -- ---- the loop over rows
 module _ (letter w : ℕ) (row : List ℕ → List ℕ) (l : List ℕ) (n : ℕ) where
@@ -74,24 +74,24 @@ five-row k l h =
 
 -- ---- regions
 module _ (l : List ℕ) (n : ℕ) where
-  pub regions-first : {n₀ : ℕ} {out : List ℕ} → Room n₀ (heldLines l n) → Rowing 82 2 (λ r. r) l n n₀ out 0 out n₀
+  pub regions-first : {n₀ : ℕ} {out : List ℕ} → Room n₀ (heldLines l n) → Rowing 82 wide (λ r. r) l n n₀ out 0 out n₀
   unfolding heldLines
-  regions-first h = rowing-first 82 2 (λ r. r) l n h
+  regions-first h = rowing-first 82 wide (λ r. r) l n h
 
-  module _ {n₀ i k : ℕ} {out₀ out : List ℕ} (g : Rowing 82 2 (λ r. r) l n n₀ out₀ i out k) where
-    pub regions-again : {k′ : ℕ} {out′ : List ℕ} → i < n → Put 24 (line 82 (getD l (i * 2) 0 ∷ getD l (i * 2 + 1) 0 ∷ [])) k out out′ k′ → n ≤ 4097 → length l ≡ 8194 → Rowing 82 2 (λ r. r) l n n₀ out₀ (i + 1) out′ k′
+  module _ {n₀ i k : ℕ} {out₀ out : List ℕ} (g : Rowing 82 wide (λ r. r) l n n₀ out₀ i out k) where
+    pub regions-again : {k′ : ℕ} {out′ : List ℕ} → i < n → Put 24 (line 82 (getD l (i * wide) 0 ∷ getD l (i * wide + 1) 0 ∷ [])) k out out′ k′ → n ≤ 4097 → length l ≡ wide * 4097 → Rowing 82 wide (λ r. r) l n n₀ out₀ (i + 1) out′ k′
     regions-again {k′} {out′} h p b e =
-        let q : Put 24 (line 82 (take 2 (drop (i * 2) l))) k out out′ k′ = rw (two-row (i * 2) l (omega arith)) p in
-        rowing-again 82 2 (λ r. r) l n g h q
+        let q : Put 24 (line 82 (take wide (drop (i * wide) l))) k out out′ k′ = rw (two-row (i * wide) l (omega arith)) p in
+        rowing-again 82 wide (λ r. r) l n g h q
 
     pub regions-end : n ≤ i → Laid (heldLines l n) n₀ out₀ out k
     unfolding heldLines
-    regions-end h = rowing-end 82 2 (λ r. r) l n g h
+    regions-end h = rowing-end 82 wide (λ r. r) l n g h
 
 module _ {s list : List ℕ} {n : ℕ} (w : Held s list n) where
   held-lines : heldLines list n ≡ regionLines s
   unfolding heldLines regionLines
-  held-lines = ap (lines 82 (λ (r : List ℕ). r)) (w .same) ∙ lines-map 82 (λ (r : List ℕ). r) pair (regions s)
+  held-lines = ap (lines 82 (λ (r : List ℕ). r)) (w .same) ∙ lines-map 82 (λ (r : List ℕ). r) rowOf (regions s)
 
   pub held-room : {k : ℕ} → Room k (regionLines s) → Room k (heldLines list n)
   held-room h = rw held-lines h

@@ -11,6 +11,7 @@ use borrow.Author.Tests.{ltb-true, eqb-true}
 use Rattle.common.specs.Rules.{tabulate}
 use Rattle.search.specs.Search.{find, oneOf, back, holds}
 use Rattle.search.specs.SearchLaws.{decide, clash, find-at}
+use Rattle.decimal.specs.Decimal.{digit}
 use Rattle.common.specs.Sets.{acceptedFrom}
 use Rattle.common.specs.Items.{ItemGrammar, blank, leads, hitTurn}
 use Rattle.common.specs.Scanning.{Scanner, byNeedles, turn}
@@ -81,9 +82,9 @@ pub number-byte : (s : List ℕ) (q : ℕ) → OnFound Delimiter (turn numbered.
 unfolding numbered.streamTurn
 number-byte s q =
     let g = byNeedles (numbered.scanner .fields (numbered.fresh 10 32 9 houseDelims)) in
-    let digits = back numbered.digit s in
+    let digits = back digit s in
     streams-find numbered.scanner Delimiter (numbered.fresh 10 32 9 houseDelims) houseDelims s q number-streams
-    (hit-finds g (λ p. numbered.streamHit g s p (back numbered.digit s p)) Delimiter s q
+    (hit-finds g (λ p. numbered.streamHit g s p (back digit s p)) Delimiter s q
     (λ p y. both (OnFound Delimiter) (numbered.oneToNine (digits p) && (leads (g .eol) (g .sep) (g .tab) s (p - digits p) && holds (blank g) s (p + 1))) _ _ (λ v. number-needles (getD s p 0) y) (λ v. tt)))
 
 -- ---- what all items have, those of a sheet have

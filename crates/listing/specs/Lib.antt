@@ -1,5 +1,4 @@
 pub mod Lines
-pub mod LineLaws
 pub mod Listing
 pub mod Parts
 pub mod Put

@@ -11,7 +11,7 @@ use lib.ListN.{length}
 use Rattle.common.specs.Entry.{flatten, over}
 use Rattle.common.specs.Grammars.{house}
 use Rattle.common.specs.Refusals.{Outcome, given, refuse, spanValues}
-use Rattle.common.specs.Sets.{setOf}
+use Rattle.common.specs.Sets.{setOf, markerBytes, delimiterBytes}
 use Rattle.common.specs.declared.span.Span.{Span}
 use Rattle.fence.specs.Fence as fence
 use Rattle.cont.specs.Frames.{frames}
@@ -19,7 +19,7 @@ use Rattle.cont.specs.Cont as cont
 use Rattle.common.specs.Scanning.{Scanner, fresh, items}
 use Rattle.block_marker.specs.Marker as marker
 use Rattle.block_numbered.specs.Numbered as numbered
-use Rattle.region.specs.Region.{Caused, pair}
+use Rattle.region.specs.Region.{Caused, rowOf}
 use Rattle.rules.specs.Columns.{Columns, columns, gramOf}
 use Rattle.region.specs.Regions as context
 use Rattle.sheet.specs.Sheet.{sheetOf}
@@ -33,17 +33,17 @@ houseRules = columns (96 ∷ 126 ∷ []) (3 ∷ 3 ∷ []) (96 ∷ []) (1 ∷ [])
 
 -- "markers `- * +`; delimiters `. )`"
 abbrev pub houseMarkers : List Bool
-houseMarkers = setOf (45 ∷ 42 ∷ 43 ∷ [])
+houseMarkers = setOf markerBytes
 
 abbrev pub houseDelims : List Bool
-houseDelims = setOf (46 ∷ 41 ∷ [])
+houseDelims = setOf delimiterBytes
 
 -- ---- "`R` start end"
 unfoldable pub regions : List ℕ → List Caused
 regions s = context.regions (gramOf house houseRules) s
 
 unfoldable pub regionLines : List ℕ → List ℕ
-regionLines s = lines 82 pair (regions s)
+regionLines s = lines 82 rowOf (regions s)
 
 -- ---- "`F` start end fence byte"
 abbrev pub fenceRow : ℕ → fence.Fence → List ℕ
@@ -77,7 +77,7 @@ sheetRow i = cond (eqb (i .kind) 0) (i .start ∷ i .end ∷ i .byte ∷ []) (i 
 
 -- the work sheet by the list of the text's regions
 unfoldable pub shown : List ℕ → List SheetItem
-shown s = sheetOf house houseMarkers houseDelims (flatten pair (regions s)) (length (regions s)) s
+shown s = sheetOf house houseMarkers houseDelims (flatten rowOf (regions s)) (length (regions s)) s
 
 unfoldable pub sheetLines : List ℕ → List ℕ
 sheetLines s = lines 87 sheetRow (shown s)

@@ -1,6 +1,6 @@
 -- The items of a listing are those that the page declares: of the text's lines, by their bytes. Assumes nothing.
 use mathlib.Core.Path.{_≡_, refl, ap, _∙_}
-use mathlib.Core.Bool.{true, false}
+use mathlib.Core.Bool.{false}
 use mathlib.Core.List.{List, [], _∷_}
 use Prim.Native.Nat.{ℕ}
 use native.Mathlib.Omega.{arith}
@@ -9,12 +9,13 @@ use borrow.Author.Tests.{leb-true, lt-ltb, ne-eqb}
 use Rattle.common.specs.Rules.{tabulate}
 use Rattle.search.specs.Search.{oneOf}
 use Rattle.search.specs.SearchLaws.{and-true}
+use Rattle.decimal.specs.Decimal.{digit}
 use Rattle.common.specs.TableLaws.{length-tabulate, table-entry}
 use Rattle.common.specs.Items.{ItemGrammar, grammar, has, Apart}
 use Rattle.block_marker.specs.Marker as marker
 use Rattle.block_marker.specs.MarkerRun as markerRun
 use Rattle.block_numbered.specs.Numbered as numbered
-use Rattle.block_numbered.specs.Numbered.{DigitsApart}
+use Rattle.block_numbered.specs.Numbered.{NoDigit, DigitsApart}
 use Rattle.block_numbered.specs.NumberedRun as numberedRun
 use Rattle.listing.specs.Lines.{lines}
 use Rattle.listing.specs.Listing.{houseMarkers, houseDelims, markerLines, numberedLines}
@@ -30,8 +31,8 @@ marks-apart : Apart marks
 unfolding tabulate oneOf
 marks-apart = record { not-eol = refl; not-sep = refl; not-tab = refl; eol-sep = λ e. omega arith; eol-tab = λ e. omega arith }
 
-no-digit : (x : ℕ) → numbered.digit x ≡ true → has houseDelims x ≡ false
-unfolding numbered.digit oneOf
+no-digit : NoDigit delims
+unfolding digit oneOf
 no-digit x e =
     let w = and-true (leb 48 x) (leb x 57) e in
     let low = leb-true 48 x (w .0) in
@@ -39,7 +40,7 @@ no-digit x e =
     ap (λ (f : ℕ → _). f x) (table-entry false (oneOf (46 ∷ 41 ∷ []))) ∙ rw (lt-ltb x 256 (omega arith), ne-eqb x 46 (λ z. omega arith), ne-eqb x 41 (λ z. omega arith))
 
 delims-apart : DigitsApart delims
-unfolding tabulate oneOf numbered.digit
+unfolding tabulate oneOf digit
 delims-apart = record {
   apart = record { not-eol = refl; not-sep = refl; not-tab = refl; eol-sep = λ e. omega arith; eol-tab = λ e. omega arith };
   not-digit = no-digit;

@@ -1,17 +1,19 @@
 -- Laws of what is put at a place of a run: one behind the other, and the rules of the functions that put bytes, numbers and lines. Assumes nothing.
 use mathlib.Core.Path.{_≡_, refl, sym, ap, _∙_}
 use mathlib.Core.List.{List, [], _∷_, _++_, append-assoc, append-nil}
-use Prim.Native.Nat.{ℕ, _+_, _≤_, _<_, _/_, _%_}
+use Prim.Native.Nat.{ℕ, _+_, _≤_, _<_}
+use native.Mathlib.Numerals.{add-one}
 use native.Mathlib.Omega.{arith}
-use lib.ListN.{length, set, length-append}
-use lib.Seq.{set-out}
+use lib.ListN.{length, getD, take, set, length-append, length-take}
+use lib.Seq.{set-out, take-suc}
 use mir.Val.{Fits}
 use mir.Syntax.{w32}
 use Rattle.search.specs.Promise.{Gives}
-use Rattle.common.specs.Entry.{putAt}
-use Rattle.common.specs.EntryLaws.{put-append}
-use Rattle.listing.specs.Lines.{decimal, field, fields, line}
-use Rattle.listing.specs.LineLaws.{decimal-small, decimal-more, decimal-few}
+use Rattle.decimal.specs.Decimal.{decimal, digitsOf}
+use Rattle.decimal.specs.DecimalLaws.{digits-ten, digits-long, digits-front}
+use Rattle.decimal.specs.declared.Digits.{Digits}
+use Rattle.common.specs.EntryLaws.{length-put, put-append}
+use Rattle.listing.specs.Lines.{field, fields, line}
 use Rattle.listing.specs.Put.{Put}
 
 -- ---- one byte
@@ -33,21 +35,44 @@ module _ {a b : List ℕ} {n r r′ : ℕ} {out out′ out″ : List ℕ} where
       }
 
 -- ---- a number
-module _ {x d n r : ℕ} {out out′ : List ℕ} where
-  pub number-small : x < 10 → Gives (48 + x % 10) d → Put 1 (d ∷ []) n out out′ r → Put 10 (decimal x) n out out′ r
-  number-small h g w =
-      let e : d ∷ [] ≡ decimal x = rw (decimal-small x h, g .answer) (ap (λ (y : ℕ). y ∷ []) (omega arith)) in
-      record { next = w .next ∙ ap (λ (l : List ℕ). n + length l) e; list = w .list ∙ ap (λ (l : List ℕ). putAt n l out) e; short = omega (arith, w .short) }
+-- the first i of its digits are put
+pub record Putting (d : Digits) (n : ℕ) (out₀ out : List ℕ) (k i : ℕ) : Type 0 where
+  pub put : Put 10 (take i (d .bytes)) n out₀ out k
+  pub within : i ≤ d .count
+  pub few : d .count ≤ 10
+  pub long : d .count ≤ length (d .bytes)
 
-  pub number-more : {k : ℕ} {out″ : List ℕ} → 10 ≤ x → Gives (48 + x % 10) d → Put 1 (d ∷ []) k out′ out″ r → Put 10 (decimal (x / 10)) n out out′ k → Fits w32 x → Put 10 (decimal x) n out out″ r
-  number-more h g w v b =
-      let e : decimal (x / 10) ++ (d ∷ []) ≡ decimal x = rw (g .answer) (sym (decimal-more x h)) in
-      let u = then v w (1 + 10) (omega (arith, w .short, v .short)) in
-      record {
-        next = u .next ∙ ap (λ (l : List ℕ). n + length l) e;
-        list = u .list ∙ ap (λ (l : List ℕ). putAt n l out) e;
-        short = omega (arith, u .next, ap length e, decimal-few 9 x (omega (arith, b .fits)));
-      }
+module _ (d : Digits) {n : ℕ} {out₀ : List ℕ} where
+  pub putting-first : (x : ℕ) → Gives (digitsOf x) d → Fits w32 x → Putting d n out₀ out₀ n 0
+  putting-first x g b =
+      let z : n ≡ n + 0 = omega arith in
+      rw (g .answer)
+      (record {
+        put = record { next = z; list = refl; short = omega arith };
+        within = omega arith;
+        few = digits-ten x (omega (arith, b .fits));
+        long = digits-long x;
+      })
+
+  module _ {k i : ℕ} {out : List ℕ} where
+    pub putting-again : {r : ℕ} {out′ : List ℕ} → i < d .count → Put 1 (getD (d .bytes) i 0 ∷ []) k out out′ r → Putting d n out₀ out k i → Putting d n out₀ out′ r (i + 1)
+    putting-again h w v =
+        let e : take (i + 1) (d .bytes) ≡ take i (d .bytes) ++ (getD (d .bytes) i 0 ∷ []) = rw (add-one i, take-suc (d .bytes) i 0 (omega (arith, v .long))) in
+        record {
+          put = rw e (then (v .put) w 10 (omega (arith, w .next, v .put .next, v .few, length-take i (d .bytes))));
+          within = omega arith;
+          few = v .few;
+          long = v .long;
+        }
+
+    pub putting-same : Putting d n out₀ out k i → length out ≡ length out₀
+    putting-same v = ap length (v .put .list) ∙ length-put n (take i (d .bytes)) out₀
+
+    pub putting-end : (x : ℕ) → d .count ≤ i → Gives (digitsOf x) d → Putting d n out₀ out k i → Put 10 (decimal x) n out₀ out k
+    putting-end x h g v =
+        let z : i ≡ d .count = omega (arith, v .within) in
+        let e : take i (d .bytes) ≡ decimal x = rw (z, g .answer) (digits-front x) in
+        rw (← e) (v .put)
 
 -- ---- fields and lines
 module _ {n r r₁ : ℕ} {out out₁ out′ : List ℕ} where

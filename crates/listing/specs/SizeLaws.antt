@@ -8,12 +8,14 @@ use native.Mathlib.Omega.{arith}
 use lib.Dec.{ltb}
 use lib.ListN.{length, length-append}
 use borrow.Author.Tests.{ltb-false}
+use Rattle.decimal.specs.Decimal.{decimal}
+use Rattle.decimal.specs.DecimalLaws.{decimal-few}
 use Rattle.common.specs.Grammars.{house}
-use Rattle.common.specs.Entry.{flatten, rows}
+use Rattle.common.specs.Entry.{flatten, rows, wide}
 use Rattle.common.specs.Turn.{Turn, go, stop, found, thenCollect, collect, Adv, Each, OnFound}
 use Rattle.common.specs.TurnLaws.{by-turn, collect-each}
 use Rattle.common.specs.ItemLaws.{both}
-use Rattle.region.specs.Region.{Caused, pair, InOrder}
+use Rattle.region.specs.Region.{Caused, InOrder, rowOf}
 use Rattle.rules.specs.Columns.{gramOf}
 use Rattle.region.specs.Ahead.{regions-in-order}
 use Rattle.fence.specs.Fence as fence
@@ -32,8 +34,7 @@ use Rattle.block_numbered.specs.declared.NumberedItem.{NumberedItem}
 use Rattle.feed.specs.Items.{marked, counted, markItems, numberedItems, merge}
 use Rattle.sheet.specs.Sheet.{sheetOf}
 use Rattle.feed.specs.declared.item.SheetItem.{SheetItem}
-use Rattle.listing.specs.Lines.{decimal, field, fields, line, lines}
-use Rattle.listing.specs.LineLaws.{decimal-few}
+use Rattle.listing.specs.Lines.{field, fields, line, lines}
 use Rattle.listing.specs.Put.{Room}
 use Rattle.listing.specs.Listing.{houseRules, houseMarkers, houseDelims, regions, regionLines, fenceRow, fencesOf, frameRow, frameLines, itemsOf, markerLines, numberedLines, sheetRow, shown, sheetLines, entries, listed}
 use Rattle.listing.specs.FoundLaws.{few-regions, few-shown}
@@ -115,13 +116,13 @@ items-most {c = c} w letter m house s P fits each =
 
 module _ (s : List ℕ) (h : length s ≤ 8192) where
   -- ---- regions
-  regions-inside : (from : ℕ) (l : List Caused) → InOrder from (length s) l → Each (λ r. length (line 82 (pair r)) ≤ 12) l
+  regions-inside : (from : ℕ) (l : List Caused) → InOrder from (length s) l → Each (λ r. length (line 82 (rowOf r)) ≤ 12) l
   regions-inside from [] w = tt
   regions-inside from (r ∷ l) w = (two-most 82 (r .start) (r .stop) (omega arith) (omega arith), regions-inside (r .stop) l (w .3))
 
   region-most : length (regionLines s) ≤ 49164
   unfolding regionLines regions
-  region-most = omega (arith, few-regions s h, lines-most 82 12 pair (regions s) (regions-inside 0 (regions s) (regions-in-order (gramOf house houseRules) s)))
+  region-most = omega (arith, few-regions s h, lines-most 82 12 rowOf (regions s) (regions-inside 0 (regions s) (regions-in-order (gramOf house houseRules) s)))
 
   -- ---- fences
   fence-most : (byte : ℕ) → byte < 256 → length (fencesOf byte s) ≤ 131072
@@ -177,7 +178,7 @@ module _ (s : List ℕ) (h : length s ≤ 8192) where
       let ns = numbered.items (numbered.fresh 10 32 9 houseDelims) houseDelims s in
       let a : Each P (map marked ms) = each-map P marked ms (each-as (λ i. (i .span .start ≤ 8192) × (i .span .end ≤ 8192) × (i .marker < 256)) (λ i. P (marked i)) (λ i w. omega (arith, three-most 87 (i .span .start) (i .span .end) (w .0) (w .1) (i .marker) (w .2))) ms marks-fit) in
       let b : Each P (map counted ns) = each-map P counted ns (each-as (λ i. (i .span .start ≤ 8192) × (i .span .end ≤ 8192) × (i .delimiter < 256) × (i .number < 1000000000)) (λ i. P (counted i)) (λ i w. four-most 87 (i .span .start) (i .span .end) (w .0) (w .1) (i .delimiter) (w .2) (i .number) (w .3)) ns numbers-fit) in
-      each-outside P (rows 2 (length (regions s)) (flatten pair (regions s))) (merge (map marked ms) (map counted ns)) (each-merge P (map marked ms) (map counted ns) a b)
+      each-outside P (rows wide (length (regions s)) (flatten rowOf (regions s))) (merge (map marked ms) (map counted ns)) (each-merge P (map marked ms) (map counted ns) a b)
 
   sheet-most : length (sheetLines s) ≤ 212992
   unfolding sheetLines

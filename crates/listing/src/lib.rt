@@ -6,9 +6,10 @@ mod put; // bytes, numbers and lines
 mod scans; // the lines of the scanners
 mod tables; // the lines of the region list and of the work sheet
 
+use common::grammar::Grammar;
 use common::refusal::Answer;
 use common::refusal::Refusal;
-use common::sets::byte_set;
+use common::sets::class_set;
 use put::put_one;
 use scans::put_scans;
 use tables::REGION_ROOM;
@@ -59,8 +60,8 @@ fn put_entries(text: &[u8], out: &mut [u8]) -> usize
 {
     let mut list = [0u32; REGION_ROOM];
     let count = find_regions(text, &mut list);
-    let markers = byte_set(b"-*+");
-    let delims = byte_set(b".)");
+    let markers = class_set(Grammar::MARKERS);
+    let delims = class_set(Grammar::DELIMITERS);
     let k = put_regions(&list, count, out, 0);
     put_later(text, &markers, &delims, &list, count, out, k)
 }

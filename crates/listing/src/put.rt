@@ -1,21 +1,15 @@
 // Bytes, numbers and lines, put at a place of a run. What lies past the run's end is passed over but counted: so that the same code
 // counts and writes. A listing ends at or before place 1,000,000 and its lines are short, so that no place is too large for a sum.
+use decimal::digits_of;
 ghost use mathlib.Core.List.{[], _∷_};
-ghost use Prim.Native.Nat.{_+_, _%_, _≤_};
-ghost use Rattle.search.specs.Promise.{Gives};
-ghost use Rattle.listing.specs.Lines.{decimal, field, fields, line};
+ghost use Prim.Native.Nat.{_≤_};
+ghost use Rattle.decimal.specs.Decimal.{decimal};
+ghost use Rattle.listing.specs.Lines.{field, fields, line};
 ghost use Rattle.listing.specs.Put.{Put};
 
 const TAB: u8 = 9;
 
 const EOL: u8 = 10;
-
-// The last digit of a number.
-fn digit(x: u32) -> u8
-    ensures { λ r. ⌜ Gives (48 + x % 10) r ⌝ }
-{
-    (48 + x % 10) as u8
-}
 
 // Puts one byte at place `n`, and answers the next place.
 fn put_byte(out: &mut [u8], n: usize, b: u8) -> usize
@@ -34,11 +28,15 @@ fn put_number(out: &mut [u8], n: usize, x: u32) -> usize
     requires { ⌜ n ≤ 1000090 ⌝ }
     ensures { λ r. ⌜ Put 10 (decimal x) n (now (out .entry)) (now (out .exit)) r ⌝ }
 {
-    if x < 10 {
-        return put_byte(out, n, digit(x));
+    let digits = digits_of(x);
+    let bytes = digits.bytes;
+    let mut k = n;
+    let mut i = 0;
+    while i < digits.count {
+        k = put_byte(out, k, bytes[i]);
+        i += 1;
     }
-    let k = put_number(out, n, x / 10);
-    put_byte(out, k, digit(x))
+    k
 }
 
 // A tab and a number.

@@ -23,7 +23,13 @@ fn put_fences_of(text: &[u8], byte: u8, out: &mut [u8], n: usize) -> usize
     requires { ⌜ Room n (fencesOf byte (now text)) ⌝ }
     ensures { λ r. ⌜ Laid (fencesOf byte (now (text .entry))) n (now (out .entry)) (now (out .exit)) r ⌝ }
 {
-    let mut state = FenceIter::new(byte, 3, Grammar::EOL, Grammar::SEP, Grammar::TAB);
+    let mut state = FenceIter::new(
+        byte,
+        Grammar::FENCE_MIN,
+        Grammar::EOL,
+        Grammar::SEP,
+        Grammar::TAB,
+    );
     let mut k = n;
     loop {
         let step = state.next(text);
@@ -50,8 +56,8 @@ fn put_fences(text: &[u8], out: &mut [u8], n: usize) -> usize
     requires { ⌜ Room n (fenceLines (now text)) ⌝ }
     ensures { λ r. ⌜ Laid (fenceLines (now (text .entry))) n (now (out .entry)) (now (out .exit)) r ⌝ }
 {
-    let k = put_fences_of(text, b'`', out, n);
-    put_fences_of(text, b'~', out, k)
+    let k = put_fences_of(text, Grammar::BACKTICK, out, n);
+    put_fences_of(text, Grammar::TILDE, out, k)
 }
 
 // The frames, as the scanner yields them.
@@ -60,7 +66,13 @@ fn put_frames(text: &[u8], out: &mut [u8], n: usize) -> usize
     requires { ⌜ Room n (frameLines (now text)) ⌝ }
     ensures { λ r. ⌜ Laid (frameLines (now (text .entry))) n (now (out .entry)) (now (out .exit)) r ⌝ }
 {
-    let mut state = ContIter::new(b'>', Grammar::EOL, Grammar::SEP, Grammar::TAB, 8);
+    let mut state = ContIter::new(
+        Grammar::QUOTE,
+        Grammar::EOL,
+        Grammar::SEP,
+        Grammar::TAB,
+        Grammar::NEST,
+    );
     let mut k = n;
     loop {
         let step = state.next(text);

@@ -3,20 +3,23 @@ use crate::put::put_four;
 use crate::put::put_three;
 use crate::put::put_two;
 use common::grammar::Grammar;
+use common::list::END;
+use common::list::WIDE;
 use common::refusal::Answer;
 use context::build;
 use sheet::sheet;
 ghost use mathlib.Core.Path.{_≡_};
 ghost use mathlib.Core.List.{[], _∷_};
-ghost use Prim.Native.Nat.{_≤_};
+ghost use Prim.Native.Nat.{_≤_, _*_};
 ghost use lib.ListN.{length};
 ghost use Rattle.listing.specs.Lines.{line};
 ghost use Rattle.listing.specs.Put.{Put, Laid, Room};
 ghost use Rattle.listing.specs.Listing.{houseMarkers, houseDelims, sheetLines};
 ghost use Rattle.listing.specs.Held.{Held, heldLines, Filed, rowFields, filedLines};
+ghost use Rattle.common.specs.Entry.{wide};
 
 // Numbers for the regions of 8,192 bytes: there are at most half as many as bytes, and one more.
-pub(crate) const REGION_ROOM: usize = 8194;
+pub(crate) const REGION_ROOM: usize = WIDE * 4097;
 
 // Numbers for their items: each has a byte of its own.
 const ITEM_ROOM: usize = 40965;
@@ -26,12 +29,12 @@ pub(crate) fn find_regions(text: &[u8], list: &mut [u32; REGION_ROOM]) -> usize
     requires { ⌜ length (now text) ≤ 8192 ⌝ }
     ensures { λ r. ⌜ Held (now (text .entry)) (now (list .exit)) r ⌝ }
 {
-    let fences = [b'`', b'~'];
-    let mins = [3u8, 3];
-    let symmetric = [b'`'];
-    let openers = [b'<'];
-    let closers = [b'>'];
-    let once = [1u32];
+    let fences = [Grammar::BACKTICK, Grammar::TILDE];
+    let mins = [Grammar::FENCE_MIN, Grammar::FENCE_MIN];
+    let symmetric = [Grammar::BACKTICK];
+    let openers = [Grammar::OPENER];
+    let closers = [Grammar::CLOSER];
+    let once = [Grammar::PAIR_COUNT];
     match build(
         text,
         Grammar::house(),
@@ -57,15 +60,15 @@ pub(crate) fn put_regions(
     n: usize,
 ) -> usize
     requires { ⌜ count ≤ 4097 ⌝ }
-    requires { ⌜ length (now list) ≡ 8194 ⌝ }
+    requires { ⌜ length (now list) ≡ wide * 4097 ⌝ }
     requires { ⌜ Room n (heldLines (now list) count) ⌝ }
     ensures { λ r. ⌜ Laid (heldLines (now (list .entry)) count) n (now (out .entry)) (now (out .exit)) r ⌝ }
 {
     let mut i = 0;
     let mut k = n;
     while i < count {
-        let at = i * 2;
-        k = put_two(out, k, b'R', list[at], list[at + 1]);
+        let at = i * WIDE;
+        k = put_two(out, k, b'R', list[at], list[at + END]);
         i += 1;
     }
     k

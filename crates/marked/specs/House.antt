@@ -1,7 +1,6 @@
 -- The house rules of document 01. Assumes nothing.
 -- The page: "House grammar: line end 10, escape 92, separator 32, tab 9; fences backtick and tilde, min 3; symmetric backtick, count 1;
 -- asymmetric `<` `>`, count 1; markers `- * +`; delimiters `. )`; continuation `>`, nest 8."
-use mathlib.Core.List.{[], _∷_}
 use Prim.Native.Nat.{ℕ}
 use Rattle.common.specs.Grammars.{house}
 use Rattle.search.specs.Search.{oneOf}
@@ -12,6 +11,7 @@ use Rattle.listing.specs.Listing.{houseRules}
 use Rattle.fence.specs.Fence.{fresh}
 use Rattle.fence.specs.declared.FenceIter.{FenceIter}
 use Rattle.cont.specs.declared.Marks.{Marks}
+use Rattle.common.specs.Sets.{delimiterBytes}
 
 -- "fences backtick and tilde, min 3; symmetric backtick, count 1; asymmetric `<` `>`, count 1"
 abbrev pub gram : Gram
@@ -23,7 +23,7 @@ fence byte = fresh byte 3 (house .eol) (house .sep) (house .tab)
 
 -- "delimiters `. )`"
 abbrev pub delimiters : ItemGrammar
-delimiters = grammar (house .eol) (house .sep) (house .tab) (oneOf (46 ∷ 41 ∷ []))
+delimiters = grammar (house .eol) (house .sep) (house .tab) (oneOf delimiterBytes)
 
 -- "continuation `>`", to a depth
 abbrev pub quotes : ℕ → Marks

@@ -3,13 +3,15 @@
 use mathlib.Core.Path.{refl}
 use Rattle.search.specs.Search.{is, either, oneOf, other, holds, firstOf, firstPlace, find, back, lineStart}
 use Rattle.lines.specs.Fences.{opensLine, closesTo, closing}
+use Rattle.lines.specs.Reader.{reader}
 use Rattle.lines.specs.Paragraph.{endsAt, paragraphEnd, nextIn}
 use Rattle.common.specs.Turn.{scan, collect, gather}
 use Rattle.region.specs.Regions.{shutPlace, oddBefore, symTurn, asymTurn, inline, regionTurn, regions}
 use Rattle.rules.specs.Columns.{searched, openRule, symRule}
 use Rattle.fence.specs.Fence.{begins, opens, closes, closeEnd, nextFence, fences}
 use Rattle.common.specs.Items.{leading, beyond, itemAt, itemsOf}
-use Rattle.block_numbered.specs.Numbered.{digit, decimalFrom, numberLine}
+use Rattle.decimal.specs.Decimal.{digit, valuedFrom}
+use Rattle.block_numbered.specs.Numbered.{numberLine}
 use Rattle.cont.specs.Frames.{markAt, afterMark, marksFrom, marks, begun, ending, frames}
 use Rattle.region.specs.Region.{reaches, keepBefore, keepFrom}
 use Rattle.cover.specs.Shape.{misshapen}
@@ -18,5 +20,5 @@ use Rattle.amend.specs.Amended.{listed, amendedRegions, offJoint, leftOpen, ame
 use Rattle.marked.specs.Page.{All, page}
 
 pub marked : All page
-unfolding is either oneOf other holds firstOf firstPlace find back lineStart opensLine closesTo closing endsAt paragraphEnd nextIn scan collect shutPlace oddBefore symTurn asymTurn inline regionTurn regions searched openRule symRule begins opens closes closeEnd nextFence fences leading beyond itemAt itemsOf digit decimalFrom numberLine markAt afterMark marksFrom marks begun ending frames gather reaches keepBefore keepFrom joint listed amendedRegions misshapen offJoint leftOpen amendedAnswer
-marked = (refl, (refl, (refl, (refl, (refl, (refl, (refl, (refl, (refl, (refl, (refl, (refl, (refl, (refl, (refl, (refl, (refl, (record { answer = refl; list = refl }, (record { answer = refl; list = refl }, (record { answer = refl; list = refl }, (record { answer = refl; list = refl }, (refl, (record { answer = refl; list = refl }, tt)))))))))))))))))))))))
+unfolding is either oneOf other holds firstOf firstPlace find back lineStart opensLine closesTo closing reader endsAt paragraphEnd nextIn scan collect shutPlace oddBefore symTurn asymTurn inline regionTurn regions searched openRule symRule begins opens closes closeEnd nextFence fences leading beyond itemAt itemsOf digit valuedFrom numberLine markAt afterMark marksFrom marks begun ending frames gather reaches keepBefore keepFrom joint listed amendedRegions misshapen offJoint leftOpen amendedAnswer
+marked = (refl, (refl, (refl, (refl, (refl, (refl, (refl, (refl, (refl, (refl, (refl, (refl, (refl, (refl, (refl, (refl, (refl, (refl, (record { answer = refl; list = refl }, (record { answer = refl; list = refl }, (record { answer = refl; list = refl }, (record { answer = refl; list = refl }, (refl, (record { answer = refl; list = refl }, tt))))))))))))))))))))))))

@@ -4,10 +4,9 @@ use mathlib.Core.Path.{_≡_}
 use mathlib.Core.List.{List, [], _∷_}
 use Prim.Native.Nat.{ℕ, _/_}
 use lib.ListN.{length}
-use Rattle.common.specs.Entry.{flatten, over}
+use Rattle.common.specs.Entry.{flatten, over, wide}
 use Rattle.common.specs.Grammars.{house}
 use Rattle.common.specs.Refusals.{given, refused}
-use Rattle.region.specs.Region.{pair}
 use Rattle.region.specs.Regions.{regions}
 use Rattle.fence.specs.Fence.{fences}
 use Rattle.block_numbered.specs.Numbered.{numbers, values}
@@ -15,6 +14,7 @@ use Rattle.cont.specs.Frames.{frames}
 use Rattle.listing.specs.Listing.{houseRules}
 use Rattle.amend.specs.Amended.{edit, Amended}
 use Rattle.marked.specs.House.{gram, fence, delimiters, quotes}
+use Rattle.region.specs.Region.{rowOf}
 
 -- a text with the list of its regions; with its fences of a byte, start and end each; with its numbered items, start, end, delimiter and
 -- number each; with its frames to a depth, start and end each; with two cuts, a replacement and the list that amending its own list
@@ -29,7 +29,7 @@ pub data Row : Type 0 where
 
 -- the list that building leaves of a text
 abbrev pub own : List ℕ → List ℕ
-own s = flatten pair (regions gram s)
+own s = flatten rowOf (regions gram s)
 
 -- a run with room for four regions
 abbrev pub blank : List ℕ
@@ -37,12 +37,12 @@ blank = 0 ∷ 0 ∷ 0 ∷ 0 ∷ 0 ∷ 0 ∷ 0 ∷ 0 ∷ []
 
 -- what a row says
 abbrev pub Says : Row → Type 0
-Says (listed s l) = flatten pair (regions gram s) ≡ l
+Says (listed s l) = flatten rowOf (regions gram s) ≡ l
 Says (fenced byte s l) = flatten (λ f. f .start ∷ f .end ∷ []) (fences (fence byte) s) ≡ l
 Says (counted s l) = flatten values (numbers delimiters s) ≡ l
 Says (framed nest s l) = flatten (λ f. f .start ∷ f .end ∷ []) (frames (quotes nest) s) ≡ l
-Says (mended s a b r l) = Amended house houseRules s (own s) (length (own s) / 2) (edit a b r) blank (over l blank) (given (length l / 2 ∷ []))
-Says (refusing s a b r n) = Amended house houseRules s (own s) (length (own s) / 2) (edit a b r) blank blank (refused n)
+Says (mended s a b r l) = Amended house houseRules s (own s) (length (own s) / wide) (edit a b r) blank (over l blank) (given (length l / wide ∷ []))
+Says (refusing s a b r n) = Amended house houseRules s (own s) (length (own s) / wide) (edit a b r) blank blank (refused n)
 
 -- what all rows of a table say
 abbrev pub All : List Row → Type 0
@@ -66,6 +66,7 @@ page =
     ∷ fenced 126 (126 ∷ 126 ∷ 126 ∷ []) (0 ∷ 3 ∷ [])
     -- P3: ~~
     ∷ listed (126 ∷ 126 ∷ []) []
+    ∷ fenced 126 (126 ∷ 126 ∷ []) []
     -- P4: a `b` c
     ∷ listed (97 ∷ 32 ∷ 96 ∷ 98 ∷ 96 ∷ 32 ∷ 99 ∷ []) (2 ∷ 5 ∷ [])
     -- P5: \`a`

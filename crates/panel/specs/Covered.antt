@@ -8,6 +8,7 @@ use Rattle.common.specs.Refusals.{Outcome}
 use Rattle.cover.specs.Cursor.{coverAnswer, coverNext}
 use Rattle.cells.specs.Bytes.{cells}
 use Rattle.cells.specs.Reply.{served}
+use Rattle.common.specs.Entry.{wide}
 
 -- an answer's values behind an index; a refusal has none
 abbrev pub behind : ℕ → Outcome → Outcome
@@ -15,4 +16,4 @@ behind i o = record { number = o .number; values = cond (served o) (i ∷ o .val
 
 -- the next index, and the end or none, over the list that a byte run holds
 unfoldable pub covered : List ℕ → ℕ → ℕ → ℕ → Outcome
-covered list count index place = behind (coverNext 2 (cells list) count index place) (coverAnswer 2 (cells list) count index place)
+covered list count index place = behind (coverNext wide (cells list) count index place) (coverAnswer wide (cells list) count index place)

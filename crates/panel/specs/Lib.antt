@@ -6,3 +6,11 @@ pub mod LeafLaws
 pub mod CoveredLaws
 pub mod StateLaws
 pub mod ContStateLaws
+pub mod Back
+pub mod EachLaws
+pub mod BackLaws
+pub mod ListBackLaws
+pub mod ContBackLaws
+pub mod RunLaws
+pub mod ContRunLaws
+pub mod ItemRunLaws

@@ -1,6 +1,9 @@
 // The cursor's number form over a list in bytes.
+use cells::ROW;
 use cells::cell;
 use cells::reply;
+use common::list::END;
+use common::list::WIDE;
 use common::refusal::Found;
 use common::refusal::Refusal;
 use cover::cursor::Cover;
@@ -11,12 +14,16 @@ ghost use Rattle.cover.specs.Cursor.{coverAnswer, coverNext};
 ghost use Rattle.cells.specs.Bytes.{cells};
 ghost use Rattle.cells.specs.Reply.{Replied};
 ghost use Rattle.panel.specs.Covered.{covered};
+ghost use Rattle.common.specs.Entry.{wide};
 
 // The core's query on one region after the other, until one is not passed.
 fn query(list: &[u8], count: usize, index: usize, place: usize) -> Cover
-    ensures { λ r. ⌜ Steps (coverAnswer 2 (cells (now (list .entry))) count index place) (coverNext 2 (cells (now (list .entry))) count index place) (toldFound (r .found)) (r .index) ⌝ }
+    ensures { λ r. ⌜
+        Steps (coverAnswer wide (cells (now (list .entry))) count index place) (coverNext wide (cells (now (list .entry))) count
+        index place) (toldFound (r .found)) (r .index)
+        ⌝ }
 {
-    if list.len() / 8 < count {
+    if list.len() / ROW < count {
         return Cover {
             found: Found::Refused(Refusal::ListMisshapen),
             index,
@@ -24,7 +31,7 @@ fn query(list: &[u8], count: usize, index: usize, place: usize) -> Cover
     }
     let mut i = index;
     while i < count {
-        let region = [cell(list, i * 2), cell(list, i * 2 + 1)];
+        let region = [cell(list, i * WIDE), cell(list, i * WIDE + END)];
         let one = covering_end(&region, 1, 0, place);
         if one.index == 0 {
             let found = one.found;

@@ -35,7 +35,10 @@ pub extern "C" fn rack_next_in_paragraph(
     mins: &[u8],
     answer: &mut [u8],
 ) -> u32
-    ensures { λ r. ⌜ Replied (nextInParagraph (now (text .entry)) from needle eol (now (fences .entry)) (now (mins .entry))) (now (answer .entry)) (now (answer .exit)) r ⌝ }
+    ensures { λ r. ⌜
+        Replied (nextInParagraph (now (text .entry)) from needle eol (now (fences .entry)) (now (mins .entry)))
+        (now (answer .entry)) (now (answer .exit)) r
+        ⌝ }
 {
     reply::found(
         lines::next_in_paragraph(text, from, needle, eol, fences, mins),
@@ -63,7 +66,10 @@ pub extern "C" fn rack_search_bytes(
     openers: &[u8],
     answer: &mut [u8],
 ) -> u32
-    ensures { λ r. ⌜ Replied (searched (now (fences .entry)) (now (symmetric .entry)) (now (openers .entry))) (now (answer .entry)) (now (answer .exit)) r ⌝ }
+    ensures { λ r. ⌜
+        Replied (searched (now (fences .entry)) (now (symmetric .entry)) (now (openers .entry))) (now (answer .entry))
+        (now (answer .exit)) r
+        ⌝ }
 {
     let all = search_bytes(fences, symmetric, openers);
     let bytes = all.bytes;

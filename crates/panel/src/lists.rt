@@ -25,7 +25,11 @@ pub extern "C" fn rack_build(
     out: &mut [u8],
     answer: &mut [u8],
 ) -> u32
-    ensures { λ r. ⌜ BuiltBytes (grammar eol escape sep tab) (now (fences .entry)) (now (mins .entry)) (now (symmetric .entry)) (now (times .entry)) (now (openers .entry)) (now (closers .entry)) (now (counts .entry)) (now (text .entry)) (now (out .entry)) (now (out .exit)) (now (answer .entry)) (now (answer .exit)) r ⌝ }
+    ensures { λ r. ⌜
+        BuiltBytes (grammar eol escape sep tab) (now (fences .entry)) (now (mins .entry)) (now (symmetric .entry))
+        (now (times .entry)) (now (openers .entry)) (now (closers .entry)) (now (counts .entry)) (now (text .entry))
+        (now (out .entry)) (now (out .exit)) (now (answer .entry)) (now (answer .exit)) r
+        ⌝ }
 {
     build_columns(
         text,
@@ -63,7 +67,11 @@ pub extern "C" fn rack_build_rules(
     out: &mut [u8],
     answer: &mut [u8],
 ) -> u32
-    ensures { λ r. ⌜ BuiltRules (grammar eol escape sep tab) (now (rules .entry)) (now (symmetric .entry)) (now (times .entry)) (now (openers .entry)) (now (closers .entry)) (now (counts .entry)) (now (text .entry)) (now (out .entry)) (now (out .exit)) (now (answer .entry)) (now (answer .exit)) r ⌝ }
+    ensures { λ r. ⌜
+        BuiltRules (grammar eol escape sep tab) (now (rules .entry)) (now (symmetric .entry)) (now (times .entry))
+        (now (openers .entry)) (now (closers .entry)) (now (counts .entry)) (now (text .entry)) (now (out .entry))
+        (now (out .exit)) (now (answer .entry)) (now (answer .exit)) r
+        ⌝ }
 {
     build_rules(
         text,
@@ -104,7 +112,12 @@ pub extern "C" fn rack_sheet(
     out: &mut [u8],
     answer: &mut [u8],
 ) -> u32
-    ensures { λ r. ⌜ SheetBytes (grammar eol escape sep tab) (now (fences .entry)) (now (mins .entry)) (now (symmetric .entry)) (now (times .entry)) (now (openers .entry)) (now (closers .entry)) (now (counts .entry)) (now (markers .entry)) (now (delims .entry)) (now (text .entry)) (now (out .entry)) (now (out .exit)) (now (answer .entry)) (now (answer .exit)) r ⌝ }
+    ensures { λ r. ⌜
+        SheetBytes (grammar eol escape sep tab) (now (fences .entry)) (now (mins .entry)) (now (symmetric .entry))
+        (now (times .entry)) (now (openers .entry)) (now (closers .entry)) (now (counts .entry)) (now (markers .entry))
+        (now (delims .entry)) (now (text .entry)) (now (out .entry)) (now (out .exit)) (now (answer .entry)) (now (answer .exit))
+        r
+        ⌝ }
 {
     sheet_columns(
         text,

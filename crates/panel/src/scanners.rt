@@ -36,7 +36,10 @@ pub extern "C" fn rack_fence_new(
 // The next fence: its start and end, or no value.
 #[no_mangle]
 pub extern "C" fn rack_fence_step(text: &[u8], state: &mut [u8], answer: &mut [u8]) -> u32
-    ensures { λ r. ⌜ Stepped fenceFrom fenceCells fenceLimits fenceAnswer fenceState (now (text .entry)) (now (state .entry)) (now (state .exit)) (now (answer .entry)) (now (answer .exit)) r ⌝ }
+    ensures { λ r. ⌜
+        Stepped fenceFrom fenceCells fenceLimits fenceAnswer fenceState (now (text .entry)) (now (state .entry))
+        (now (state .exit)) (now (answer .entry)) (now (answer .exit)) r
+        ⌝ }
 {
     if text.len() > MAX_INPUT_LEN {
         return 1;
@@ -61,7 +64,9 @@ pub extern "C" fn rack_marker_new(
     accepted: &[u8],
     state: &mut [u8],
 ) -> u32
-    ensures { λ r. ⌜ Made (markerCells (freshMarker eol sep tab (setOf (now (accepted .entry))))) (now (state .entry)) (now (state .exit)) r ⌝ }
+    ensures { λ r. ⌜
+        Made (markerCells (freshMarker eol sep tab (setOf (now (accepted .entry))))) (now (state .entry)) (now (state .exit)) r
+        ⌝ }
 {
     let set = byte_set(accepted);
     let all = states::marker_cells(BlockMarkerIter::new(eol, sep, tab, &set));
@@ -76,7 +81,10 @@ pub extern "C" fn rack_marker_step(
     state: &mut [u8],
     answer: &mut [u8],
 ) -> u32
-    ensures { λ r. ⌜ Stepped markerFrom markerCells markerLimits (markerAnswer (now (accepted .entry))) (markerState (now (accepted .entry))) (now (text .entry)) (now (state .entry)) (now (state .exit)) (now (answer .entry)) (now (answer .exit)) r ⌝ }
+    ensures { λ r. ⌜
+        Stepped markerFrom markerCells markerLimits (markerAnswer (now (accepted .entry))) (markerState (now (accepted .entry)))
+        (now (text .entry)) (now (state .entry)) (now (state .exit)) (now (answer .entry)) (now (answer .exit)) r
+        ⌝ }
 {
     if text.len() > MAX_INPUT_LEN {
         return 1;
@@ -102,7 +110,10 @@ pub extern "C" fn rack_numbered_new(
     accepted: &[u8],
     state: &mut [u8],
 ) -> u32
-    ensures { λ r. ⌜ Made (numberedCells (freshNumbered eol sep tab (setOf (now (accepted .entry))))) (now (state .entry)) (now (state .exit)) r ⌝ }
+    ensures { λ r. ⌜
+        Made (numberedCells (freshNumbered eol sep tab (setOf (now (accepted .entry))))) (now (state .entry)) (now (state .exit))
+        r
+        ⌝ }
 {
     let set = byte_set(accepted);
     let all = states::numbered_cells(BlockNumberedIter::new(eol, sep, tab, &set));
@@ -117,7 +128,11 @@ pub extern "C" fn rack_numbered_step(
     state: &mut [u8],
     answer: &mut [u8],
 ) -> u32
-    ensures { λ r. ⌜ Stepped numberedFrom numberedCells markerLimits (numberedAnswer (now (accepted .entry))) (numberedState (now (accepted .entry))) (now (text .entry)) (now (state .entry)) (now (state .exit)) (now (answer .entry)) (now (answer .exit)) r ⌝ }
+    ensures { λ r. ⌜
+        Stepped numberedFrom numberedCells markerLimits (numberedAnswer (now (accepted .entry)))
+        (numberedState (now (accepted .entry))) (now (text .entry)) (now (state .entry)) (now (state .exit)) (now (answer .entry))
+        (now (answer .exit)) r
+        ⌝ }
 {
     if text.len() > MAX_INPUT_LEN {
         return 1;
@@ -153,7 +168,10 @@ pub extern "C" fn rack_cont_new(
 // The next frame: its start and end, or no value.
 #[no_mangle]
 pub extern "C" fn rack_cont_step(text: &[u8], state: &mut [u8], answer: &mut [u8]) -> u32
-    ensures { λ r. ⌜ Stepped contFrom contCells contLimits contAnswer contState (now (text .entry)) (now (state .entry)) (now (state .exit)) (now (answer .entry)) (now (answer .exit)) r ⌝ }
+    ensures { λ r. ⌜
+        Stepped contFrom contCells contLimits contAnswer contState (now (text .entry)) (now (state .entry)) (now (state .exit))
+        (now (answer .entry)) (now (answer .exit)) r
+        ⌝ }
 {
     if text.len() > MAX_INPUT_LEN {
         return 1;

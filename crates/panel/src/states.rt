@@ -37,7 +37,10 @@ pub(crate) fn made(all: &[usize], state: &mut [u8]) -> u32
 // Writes the next state, and the values of an answer; 3 where the answer run is too short for them.
 fn moved(all: &[usize], next: &[usize], state: &mut [u8], answer: &mut [u8]) -> u32
     requires { ⌜ length (now next) * 4 ≡ length (now state) ⌝ }
-    ensures { λ r. ⌜ Moved (given (now (all .entry))) (now (next .entry)) (now (state .entry)) (now (state .exit)) (now (answer .entry)) (now (answer .exit)) r ⌝ }
+    ensures { λ r. ⌜
+        Moved (given (now (all .entry))) (now (next .entry)) (now (state .entry)) (now (state .exit)) (now (answer .entry))
+        (now (answer .exit)) r
+        ⌝ }
 {
     if all.len() < room_of(answer.len()) {
         put_numbers(state, 0, next);
@@ -54,7 +57,10 @@ pub(crate) fn moved_span(
     answer: &mut [u8],
 ) -> u32
     requires { ⌜ length (now next) * 4 ≡ length (now state) ⌝ }
-    ensures { λ r. ⌜ Moved (toldSpan found) (now (next .entry)) (now (state .entry)) (now (state .exit)) (now (answer .entry)) (now (answer .exit)) r ⌝ }
+    ensures { λ r. ⌜
+        Moved (toldSpan found) (now (next .entry)) (now (state .entry)) (now (state .exit)) (now (answer .entry))
+        (now (answer .exit)) r
+        ⌝ }
 {
     match found {
         SpanFound::At(span) => {
@@ -76,7 +82,10 @@ pub(crate) fn moved_marker(
     answer: &mut [u8],
 ) -> u32
     requires { ⌜ length (now next) * 4 ≡ length (now state) ⌝ }
-    ensures { λ r. ⌜ Moved (toldMarker found) (now (next .entry)) (now (state .entry)) (now (state .exit)) (now (answer .entry)) (now (answer .exit)) r ⌝ }
+    ensures { λ r. ⌜
+        Moved (toldMarker found) (now (next .entry)) (now (state .entry)) (now (state .exit)) (now (answer .entry))
+        (now (answer .exit)) r
+        ⌝ }
 {
     match found {
         MarkerFound::Item(item) => {
@@ -102,7 +111,10 @@ pub(crate) fn moved_numbered(
     answer: &mut [u8],
 ) -> u32
     requires { ⌜ length (now next) * 4 ≡ length (now state) ⌝ }
-    ensures { λ r. ⌜ Moved (toldNumbered found) (now (next .entry)) (now (state .entry)) (now (state .exit)) (now (answer .entry)) (now (answer .exit)) r ⌝ }
+    ensures { λ r. ⌜
+        Moved (toldNumbered found) (now (next .entry)) (now (state .entry)) (now (state .exit)) (now (answer .entry))
+        (now (answer .exit)) r
+        ⌝ }
 {
     match found {
         NumberedFound::Item(item) => {

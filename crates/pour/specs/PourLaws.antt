@@ -1,98 +1,100 @@
 -- Laws of regions written into a list in bytes, and the ways out of building. Assumes nothing.
-use mathlib.Core.Path.{_≡_, refl, sym, ap, subst, _∙_}
-use mathlib.Core.Bool.{Bool, true, false, not, _||_}
+use mathlib.Core.Path.{_≡_, refl, sym, subst, _∙_}
+use mathlib.Core.Bool.{Bool, true, false, cond, not, _||_}
 use mathlib.Core.List.{List, [], _∷_}
-use Prim.Native.Nat.{ℕ, _+_, _*_, _/_, _%_, _≤_, _<_}
+use Prim.Native.Nat.{ℕ, _+_, _-_, _*_, _/_, _%_, _≤_, _<_, min}
 use native.Mathlib.Omega.{arith}
-use lib.Dec.{eqb, leb}
-use lib.ListN.{length}
+use lib.Dec.{eqb, ltb, leb}
+use lib.ListN.{length, take, drop}
 use borrow.Author.Tests.{le-leb, eq-eqb, ne-eqb}
 use Rattle.search.specs.Promise.{Gives}
-use Rattle.common.specs.Entry.{flatten}
-use Rattle.common.specs.Rules.{tabulate}
-use Rattle.lines.specs.Fences.{tablesOf}
+use Rattle.common.specs.Entry.{flatten, over}
+use Rattle.common.specs.Refusals.{given, refuse}
+use Rattle.lines.specs.Fences.{fenceTable}
 use Rattle.common.specs.declared.grammar.Grammar.{Grammar}
-use Rattle.lines.specs.declared.fence_tests.FenceTables.{FenceTables}
 use Rattle.region.specs.Region.{Caused}
 use Rattle.rules.specs.Grammar.{Gram}
-use Rattle.region.specs.Regions.{nextRegion, regions}
-use Rattle.rules.specs.Columns.{columns, gainedAll, gathered, asBytes, searchBytes, openRule, symRule, fenceRow, gramOf}
-use Rattle.rules.specs.ColumnLaws.{gathered-list}
-use Rattle.rules.specs.Tables.{tablesFor, gramIn}
-use Rattle.rules.specs.Records.{ruleBytes, ruleMins, gatheredOf}
+use Rattle.region.specs.Regions.{regions}
+use Rattle.rules.specs.Columns.{alphabetOf}
+use Rattle.rules.specs.Rows.{gramBy, Folded}
+use Rattle.rules.specs.Records.{ruleBytes, ruleMins, keptBytes, keptMins, AllGathered}
+use Rattle.rules.specs.RecordLaws.{take-front}
 use Rattle.region.specs.LoopLaws.{Pouring, counting-end, pouring-next, pouring-end}
 use Rattle.region.specs.Ahead.{regions-few}
-use Rattle.rules.specs.RuleTableLaws.{gram-same}
-use Rattle.region.specs.Views.{viewNext, placed}
+use Rattle.region.specs.IndexLaws.{gathered-count, gathered-flat}
+use Rattle.rules.specs.RowLaws.{gram-same}
+use Rattle.region.specs.Memory.{Keeps}
 use Rattle.region.specs.declared.Region.{Region as Told}
 use Rattle.region.specs.declared.Next.{Next}
 use Rattle.region.specs.declared.Next.the-variants as next
-use Rattle.rules.specs.declared.search_bytes.SearchBytes.{SearchBytes}
-use Rattle.rules.specs.declared.tables.InlineTables.{InlineTables}
+use Rattle.rules.specs.declared.search_bytes.Alphabet.{Alphabet}
 use Rattle.rules.specs.declared.records.Gathered.{Gathered}
-use Rattle.cells.specs.Bytes.{four, cells}
-use Rattle.cells.specs.Reply.{LaidIf}
+use Rattle.cells.specs.Bytes.{four, cells, rowBytes}
+use Rattle.cells.specs.Reply.{LaidIf, Replied, served, fitted}
 use Rattle.cells.specs.Poured.{Wrote, PouredAs, builtBy}
 use Rattle.cells.specs.PouredLaws.{build-bad, build-good, or-right}
 use Rattle.pour.specs.Building.{regionBytes, Put, PouredBy, BuiltRules}
 use Rattle.cells.specs.ByteRules.{uneven, rulesOf}
 use Rattle.cells.specs.ReplyLaws.{laid-there}
 
-pub laid-region : (n start end : ℕ) (out out′ : List ℕ) → n * 8 + 8 ≤ length out → LaidIf (n * 8) (flatten four (start ∷ end ∷ [])) out out′ → Put n start end out out′ (n + 1)
-laid-region n start end out out′ h d = record { next = refl; laid = laid-there (n * 8) (flatten four (start ∷ end ∷ [])) out out′ h d }
+pub laid-region : (n start end : ℕ) (out out′ : List ℕ) → n * rowBytes + rowBytes ≤ length out → LaidIf (n * rowBytes) (flatten four (start ∷ end ∷ [])) out out′ → Put n start end out out′ (n + 1)
+laid-region n start end out out′ h d = record { next = refl; laid = laid-there (n * rowBytes) (flatten four (start ∷ end ∷ [])) out out′ h d }
 
--- ---- the loop that writes: eight bytes a region
-pub bytes-eight : (r : Caused) → length (regionBytes r) ≡ 8
-bytes-eight r = refl
+-- ---- the loop that writes: `rowBytes` a region
+pub row-bytes : (r : Caused) → length (regionBytes r) ≡ rowBytes
+row-bytes r = refl
 
-module _ (g : Gram) (s out₀ out : List ℕ) (n q : ℕ) (d : Next) (i : Pouring regionBytes 8 g s out₀ out n q) (told : Gives (placed (nextRegion g s q)) (viewNext d)) where
-  pub pours-next : (r : Told) (m : ℕ) (out′ : List ℕ) (n′ : ℕ) → d ≡ next.Region r m → Put n (r .start) (r .end) out out′ n′ → Pouring regionBytes 8 g s out₀ out′ n′ m
-  pours-next r m out′ n′ e p = pouring-next regionBytes 8 g s out₀ out n q d i told r m e out′ n′ (p .next) (p .laid .list)
+module _ (g : Gram) (s m out₀ out : List ℕ) (n q : ℕ) (d : Next) (m′ : List ℕ) (i : Pouring regionBytes rowBytes g s m out₀ out n q) (kept : Keeps g s m q d m′) where
+  pub pours-next : (r : Told) (k : ℕ) (out′ : List ℕ) (n′ : ℕ) → d ≡ next.Region r k → Put n (r .start) (r .end) out out′ n′ → Pouring regionBytes rowBytes g s m′ out₀ out′ n′ k
+  pours-next r k out′ n′ e p = pouring-next regionBytes rowBytes g s m out₀ out n q d m′ i kept r k e out′ n′ (p .next) (p .laid .list)
 
   pub pours-end : d ≡ next.Nothing → Wrote regionBytes (regions g s) out₀ out n
-  pours-end e = record { count = counting-end g s n q d (i .counting) told e; list = pouring-end regionBytes 8 g s out₀ out n q d i told e }
+  pours-end e = record { count = counting-end g s m n q d m′ (i .counting) kept e; list = pouring-end regionBytes rowBytes g s m out₀ out n q d m′ i kept e }
 
 -- ---- the question whether `len` bytes have room for all regions
-pub fits-roomy : (g : Gram) (s : List ℕ) (len most : ℕ) → length s / 2 < most → Gives (len / 8) most → true ≡ leb (length (regions g s)) (len / 8)
-fits-roomy g s len most h room = sym (le-leb (length (regions g s)) (len / 8) (omega (arith, regions-few g s, room .answer)))
+pub fits-roomy : (g : Gram) (s : List ℕ) (len most : ℕ) → length s / 2 < most → Gives (len / rowBytes) most → true ≡ leb (length (regions g s)) (len / rowBytes)
+fits-roomy g s len most h room = sym (le-leb (length (regions g s)) (len / rowBytes) (omega (arith, regions-few g s, room .answer)))
 
-pub fits-counted : (g : Gram) (s : List ℕ) (len most k : ℕ) → Gives (len / 8) most → Gives (length (regions g s)) k → leb k most ≡ leb (length (regions g s)) (len / 8)
+pub fits-counted : (g : Gram) (s : List ℕ) (len most k : ℕ) → Gives (len / rowBytes) most → Gives (length (regions g s)) k → leb k most ≡ leb (length (regions g s)) (len / rowBytes)
 fits-counted g s len most k room c = rw (c .answer, room .answer)
 
--- ---- by tables
-pub poured-inline : (g : Grammar) (needles : List ℕ) (c : ℕ) (has : List Bool) (least rows s out out′ run run′ : List ℕ) (it t : InlineTables) (r : ℕ) → Gives t it
-    → PouredAs regionBytes 8 (regions (gramIn g needles c has least rows it) s) out out′ run run′ r
-    → PouredAs regionBytes 8 (regions (gramIn g needles c has least rows t) s) out out′ run run′ r
-poured-inline g needles c has least rows s out out′ run run′ it t r h v =
-    subst (λ (x : InlineTables). PouredAs regionBytes 8 (regions (gramIn g needles c has least rows x) s) out out′ run run′ r) (h .answer) v
+-- ---- by the rules, folded
+pub poured-columns : (g : Grammar) (f m y t o k n s out out′ run run′ : List ℕ) (a : Alphabet) (fences : List ℕ) (rows : List (List ℕ)) (r : ℕ) → Gives (alphabetOf g f y o) a → Gives (fenceTable f m) fences
+    → Folded f y (cells t) o k (cells n) rows → PouredAs regionBytes rowBytes (regions (gramBy a fences rows) s) out out′ run run′ r → PouredBy g f m y t o k n s out out′ run run′ r
+poured-columns g f m y t o k n s out out′ run run′ a fences rows r ha hf hr v =
+    subst (λ (z : Gram). PouredAs regionBytes rowBytes (regions z s) out out′ run run′ r) (gram-same f y (cells t) o k (cells n) rows hr g m a fences ha hf) v
 
-pub poured-columns : (g : Grammar) (f m y t o k n s out out′ run run′ : List ℕ) (ft : FenceTables) (rows : List ℕ) (w : SearchBytes) (r : ℕ) → Gives (tablesOf f m) ft → Gives (tabulate (fenceRow f) 256 0) rows → Gives (searchBytes f y o) w
-    → PouredAs regionBytes 8 (regions (gramIn g (w .bytes) (w .count) (ft .has) (ft .least) rows (tablesFor (symRule y (cells t) (openRule o k (cells n))))) s) out out′ run run′ r
-    → PouredBy g f m y t o k n s out out′ run run′ r
-poured-columns g f m y t o k n s out out′ run run′ ft rows w r hf hr hw v =
-    let G : gramIn g (w .bytes) (w .count) (ft .has) (ft .least) rows (tablesFor (symRule y (cells t) (openRule o k (cells n)))) ≡ gramOf g (columns f m y (cells t) o k (cells n)) = rw (hf .answer, hr .answer, hw .answer) (gram-same g f m y (cells t) o k (cells n)) in
-    subst (λ (z : Gram). PouredAs regionBytes 8 (regions z s) out out′ run run′ r) G v
+-- by the first of two columns
+pub poured-front : (g : Grammar) (f m y t o k n s out out′ run run′ : List ℕ) (used p q r : ℕ) → Gives (min used (length f)) p → Gives (min used (length m)) q
+    → PouredBy g (take (p - 0) (drop 0 f)) (take (q - 0) (drop 0 m)) y t o k n s out out′ run run′ r → PouredBy g (take used f) (take used m) y t o k n s out out′ run run′ r
+poured-front g f m y t o k n s out out′ run run′ used p q r hp hq v =
+    subst (λ (l : List ℕ). PouredBy g l (take used m) y t o k n s out out′ run run′ r) (take-front f used p hp)
+    (subst (λ (l : List ℕ). PouredBy g (take (p - 0) (drop 0 f)) l y t o k n s out out′ run run′ r) (take-front m used q hq) v)
 
-pub poured-rules : (g : Grammar) (f m y t o k n s out out′ run run′ : List ℕ) (q : Gathered) (v w : SearchBytes) (r : ℕ) → Gives (gatheredOf f m) q → Gives (gathered (q .searched) y) v → Gives (gathered v o) w
-    → PouredAs regionBytes 8 (regions (gramIn g (w .bytes) (w .count) (q .has) (q .least) (q .rows) (tablesFor (symRule y (cells t) (openRule o k (cells n))))) s) out out′ run run′ r
-    → PouredBy g f m y t o k n s out out′ run run′ r
-poured-rules g f m y t o k n s out out′ run run′ q v w r hq hv hw p =
-    let a = gathered-list [] f (omega arith) in
-    let z = gathered-list (gainedAll [] f) y (a .1) in
-    let ev : v ≡ asBytes (gainedAll (gainedAll [] f) y) = hv .answer ∙ ap (λ (c : Gathered). gathered (c .searched) y) (hq .answer) ∙ z .0 in
-    let ew : w ≡ searchBytes f y o = hw .answer ∙ ap (λ (c : SearchBytes). gathered c o) ev ∙ gathered-list (gainedAll (gainedAll [] f) y) o (z .1) .0 in
-    let G : gramIn g (w .bytes) (w .count) (q .has) (q .least) (q .rows) (tablesFor (symRule y (cells t) (openRule o k (cells n)))) ≡ gramOf g (columns f m y (cells t) o k (cells n)) = rw (hq .answer, ew) (gram-same g f m y (cells t) o k (cells n)) in
-    subst (λ (z : Gram). PouredAs regionBytes 8 (regions z s) out out′ run run′ r) G p
+-- by the rules that are kept of those that byte runs hold
+pub poured-rules : (g : Grammar) (l y t o k n s out out′ run run′ : List ℕ) (f : Gathered) (r : ℕ) → AllGathered (rulesOf l) f → PouredBy g (keptBytes f) (keptMins f) y t o k n s out out′ run run′ r
+    → PouredBy g (ruleBytes (rulesOf l)) (ruleMins (rulesOf l)) y t o k n s out out′ run run′ r
+poured-rules g l y t o k n s out out′ run run′ f r w v =
+    let count = gathered-count (rulesOf l) f w g y (cells t) o k (cells n) s in
+    let flat = gathered-flat (rulesOf l) f w g y (cells t) o k (cells n) s regionBytes (λ h r. refl) in
+    poured-same (builtBy g (keptBytes f) (keptMins f) y t o k n s) (builtBy g (ruleBytes (rulesOf l)) (ruleMins (rulesOf l)) y t o k n s) count flat v
+  where
+    -- pouring sees how many entries there are, and their bytes
+    poured-same : (a b : List Caused) → length a ≡ length b → flatten regionBytes a ≡ flatten regionBytes b → PouredAs regionBytes rowBytes a out out′ run run′ r → PouredAs regionBytes rowBytes b out out′ run run′ r
+    poured-same a b count flat v = record {
+      reply = subst (λ (c : ℕ). Replied (refuse 3 (ltb (length out / rowBytes) c) (given (c ∷ []))) run run′ r) count (v .reply);
+      left = v .left ∙ (λ j. cond (served (fitted (refuse 3 (ltb (length out / rowBytes) (count j)) (given (count j ∷ []))) run)) (over (flat j) out) out);
+    }
 
 -- ---- the ways out of building by fence rules of two bytes each
 module _ (g : Grammar) (l y t o k n s out run : List ℕ) where
   pub rules-odd : length s ≤ 4294967295 → (length l % 2 ≡ 0 → ⊥) → BuiltRules g l y t o k n s out out run run 6
-  rules-odd h d = build-bad regionBytes 8 (not (eqb (length l % 2) 0) || uneven y t o k n) (builtBy g (ruleBytes (rulesOf l)) (ruleMins (rulesOf l)) y t o k n s) s out run h (rw (ne-eqb (length l % 2) 0 d))
+  rules-odd h d = build-bad regionBytes rowBytes (not (eqb (length l % 2) 0) || uneven y t o k n) (builtBy g (ruleBytes (rulesOf l)) (ruleMins (rulesOf l)) y t o k n s) s out run h (rw (ne-eqb (length l % 2) 0 d))
 
   pub rules-uneven : (b : Bool) → length s ≤ 4294967295 → b ≡ true → Gives (uneven y t o k n) b → BuiltRules g l y t o k n s out out run run 6
-  rules-uneven b h e u = build-bad regionBytes 8 (not (eqb (length l % 2) 0) || uneven y t o k n) (builtBy g (ruleBytes (rulesOf l)) (ruleMins (rulesOf l)) y t o k n s) s out run h (or-right (not (eqb (length l % 2) 0)) (uneven y t o k n) (sym (u .answer) ∙ e))
+  rules-uneven b h e u = build-bad regionBytes rowBytes (not (eqb (length l % 2) 0) || uneven y t o k n) (builtBy g (ruleBytes (rulesOf l)) (ruleMins (rulesOf l)) y t o k n s) s out run h (or-right (not (eqb (length l % 2) 0)) (uneven y t o k n) (sym (u .answer) ∙ e))
 
   pub rules-built : (b : Bool) (out′ run′ : List ℕ) (r : ℕ) → length s ≤ 4294967295 → length l % 2 ≡ 0 → b ≡ false → Gives (uneven y t o k n) b → PouredBy g (ruleBytes (rulesOf l)) (ruleMins (rulesOf l)) y t o k n s out out′ run run′ r
       → BuiltRules g l y t o k n s out out′ run run′ r
   rules-built b out′ run′ r h e u x v =
-      build-good regionBytes 8 (not (eqb (length l % 2) 0) || uneven y t o k n) (builtBy g (ruleBytes (rulesOf l)) (ruleMins (rulesOf l)) y t o k n s) s out run out′ run′ r h (rw (eq-eqb (length l % 2) 0 e) (sym (x .answer) ∙ u)) v
+      build-good regionBytes rowBytes (not (eqb (length l % 2) 0) || uneven y t o k n) (builtBy g (ruleBytes (rulesOf l)) (ruleMins (rulesOf l)) y t o k n s) s out run out′ run′ r h (rw (eq-eqb (length l % 2) 0 e) (sym (x .answer) ∙ u)) v

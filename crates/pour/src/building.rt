@@ -2,62 +2,18 @@
 // are.
 use crate::pouring::pour;
 use cells::columns::gather_rules;
-use cells::columns::inline_rules;
 use cells::columns::is_uneven;
+use cells::columns::rule_rows;
 use common::grammar::Grammar;
 use common::span::MAX_INPUT_LEN;
-use lines::fence_tests::fence_tables;
-use rules::search_bytes::search_bytes;
-use rules::tables::fence_rows;
-ghost use Rattle.region.specs.Regions.{regions};
-ghost use Rattle.rules.specs.Columns.{openRule, symRule};
-ghost use Rattle.rules.specs.Tables.{tablesFor, gramIn};
+use lines::fence_tests::fence_table;
+use rules::search_bytes::Alphabet;
+use search::lesser;
+ghost use lib.ListN.{take};
 ghost use Rattle.rules.specs.Records.{ruleBytes, ruleMins};
-ghost use Rattle.cells.specs.Bytes.{cells};
-ghost use Rattle.cells.specs.Poured.{grammar, PouredAs};
-ghost use Rattle.pour.specs.Building.{regionBytes, PouredBy, BuiltBytes, BuiltRules};
+ghost use Rattle.cells.specs.Poured.{grammar};
+ghost use Rattle.pour.specs.Building.{PouredBy, BuiltBytes, BuiltRules};
 ghost use Rattle.cells.specs.ByteRules.{rulesOf};
-
-// The inline rules into tables, and on.
-fn with_inline(
-    text: &[u8],
-    g: Grammar,
-    needles: &[u8; Grammar::MAX_NEEDLES],
-    n: usize,
-    has: &[bool; 256],
-    least: &[u8; 256],
-    rows: &[usize; 256],
-    symmetric: &[u8],
-    times: &[u8],
-    openers: &[u8],
-    closers: &[u8],
-    counts: &[u8],
-    out: &mut [u8],
-    answer: &mut [u8],
-) -> u32
-    ensures { λ r. ⌜ PouredAs regionBytes 8 (regions (gramIn g (now (needles .entry)) n (now (has .entry)) (now (least .entry)) (now (rows .entry)) (tablesFor (symRule (now (symmetric .entry)) (cells (now (times .entry))) (openRule (now (openers .entry)) (now (closers .entry)) (cells (now (counts .entry))))))) (now (text .entry))) (now (out .entry)) (now (out .exit)) (now (answer .entry)) (now (answer .exit)) r ⌝ }
-{
-    let inline = inline_rules(symmetric, times, openers, closers, counts);
-    let kind = inline.kind;
-    let closer = inline.closer;
-    let count = inline.count;
-    let index = inline.index;
-    pour(
-        text,
-        g,
-        needles,
-        n,
-        has,
-        least,
-        rows,
-        &kind,
-        &closer,
-        &count,
-        &index,
-        out,
-        answer,
-    )
-}
 
 // All rules of columns into tables, once, and on.
 fn with_columns(
@@ -73,22 +29,46 @@ fn with_columns(
     out: &mut [u8],
     answer: &mut [u8],
 ) -> u32
-    ensures { λ r. ⌜ PouredBy g (now (fences .entry)) (now (mins .entry)) (now (symmetric .entry)) (now (times .entry)) (now (openers .entry)) (now (closers .entry)) (now (counts .entry)) (now (text .entry)) (now (out .entry)) (now (out .exit)) (now (answer .entry)) (now (answer .exit)) r ⌝ }
+    ensures { λ r. ⌜
+        PouredBy g (now (fences .entry)) (now (mins .entry)) (now (symmetric .entry)) (now (times .entry)) (now (openers .entry))
+        (now (closers .entry)) (now (counts .entry)) (now (text .entry)) (now (out .entry)) (now (out .exit))
+        (now (answer .entry)) (now (answer .exit)) r
+        ⌝ }
 {
-    let fenced = fence_tables(fences, mins);
-    let rows = fence_rows(fences);
-    let searched = search_bytes(fences, symmetric, openers);
-    let has = fenced.has;
-    let least = fenced.least;
-    let needles = searched.bytes;
-    with_inline(
+    let alphabet = Alphabet::of(g, fences, symmetric, openers);
+    let table = fence_table(fences, mins);
+    let rows = rule_rows(fences, symmetric, times, openers, closers, counts);
+    pour(text, alphabet, &table, &rows, out, answer)
+}
+
+// By the first `used` fence rules of two columns, by all of a column where it is more.
+fn with_front(
+    text: &[u8],
+    g: Grammar,
+    fences: &[u8],
+    mins: &[u8],
+    used: usize,
+    symmetric: &[u8],
+    times: &[u8],
+    openers: &[u8],
+    closers: &[u8],
+    counts: &[u8],
+    out: &mut [u8],
+    answer: &mut [u8],
+) -> u32
+    ensures { λ r. ⌜
+        PouredBy g (take used (now (fences .entry))) (take used (now (mins .entry))) (now (symmetric .entry)) (now (times .entry))
+        (now (openers .entry)) (now (closers .entry)) (now (counts .entry)) (now (text .entry)) (now (out .entry))
+        (now (out .exit)) (now (answer .entry)) (now (answer .exit)) r
+        ⌝ }
+{
+    let n = lesser(used, fences.len());
+    let m = lesser(used, mins.len());
+    with_columns(
         text,
         g,
-        &needles,
-        searched.count,
-        &has,
-        &least,
-        &rows,
+        &fences[0..n],
+        &mins[0..m],
         symmetric,
         times,
         openers,
@@ -99,7 +79,7 @@ fn with_columns(
     )
 }
 
-// Fence rules of two bytes each into tables, and on.
+// Fence rules of two bytes each, by the columns of those that are kept.
 fn with_rules(
     text: &[u8],
     g: Grammar,
@@ -112,23 +92,21 @@ fn with_rules(
     out: &mut [u8],
     answer: &mut [u8],
 ) -> u32
-    ensures { λ r. ⌜ PouredBy g (ruleBytes (rulesOf (now (rules .entry)))) (ruleMins (rulesOf (now (rules .entry)))) (now (symmetric .entry)) (now (times .entry)) (now (openers .entry)) (now (closers .entry)) (now (counts .entry)) (now (text .entry)) (now (out .entry)) (now (out .exit)) (now (answer .entry)) (now (answer .exit)) r ⌝ }
+    ensures { λ r. ⌜
+        PouredBy g (ruleBytes (rulesOf (now (rules .entry)))) (ruleMins (rulesOf (now (rules .entry)))) (now (symmetric .entry))
+        (now (times .entry)) (now (openers .entry)) (now (closers .entry)) (now (counts .entry)) (now (text .entry))
+        (now (out .entry)) (now (out .exit)) (now (answer .entry)) (now (answer .exit)) r
+        ⌝ }
 {
     let fences = gather_rules(rules);
-    let has = fences.has;
-    let least = fences.least;
-    let rows = fences.rows;
-    let before = fences.searched;
-    let searched = before.gather(symmetric).gather(openers);
-    let needles = searched.bytes;
-    with_inline(
+    let bytes = fences.bytes;
+    let mins = fences.mins;
+    with_front(
         text,
         g,
-        &needles,
-        searched.count,
-        &has,
-        &least,
-        &rows,
+        &bytes,
+        &mins,
+        fences.count,
         symmetric,
         times,
         openers,
@@ -157,7 +135,11 @@ pub fn build_columns(
     out: &mut [u8],
     answer: &mut [u8],
 ) -> u32
-    ensures { λ r. ⌜ BuiltBytes (grammar eol escape sep tab) (now (fences .entry)) (now (mins .entry)) (now (symmetric .entry)) (now (times .entry)) (now (openers .entry)) (now (closers .entry)) (now (counts .entry)) (now (text .entry)) (now (out .entry)) (now (out .exit)) (now (answer .entry)) (now (answer .exit)) r ⌝ }
+    ensures { λ r. ⌜
+        BuiltBytes (grammar eol escape sep tab) (now (fences .entry)) (now (mins .entry)) (now (symmetric .entry))
+        (now (times .entry)) (now (openers .entry)) (now (closers .entry)) (now (counts .entry)) (now (text .entry))
+        (now (out .entry)) (now (out .exit)) (now (answer .entry)) (now (answer .exit)) r
+        ⌝ }
 {
     if text.len() > MAX_INPUT_LEN {
         return 1;
@@ -206,7 +188,11 @@ pub fn build_rules(
     out: &mut [u8],
     answer: &mut [u8],
 ) -> u32
-    ensures { λ r. ⌜ BuiltRules (grammar eol escape sep tab) (now (rules .entry)) (now (symmetric .entry)) (now (times .entry)) (now (openers .entry)) (now (closers .entry)) (now (counts .entry)) (now (text .entry)) (now (out .entry)) (now (out .exit)) (now (answer .entry)) (now (answer .exit)) r ⌝ }
+    ensures { λ r. ⌜
+        BuiltRules (grammar eol escape sep tab) (now (rules .entry)) (now (symmetric .entry)) (now (times .entry))
+        (now (openers .entry)) (now (closers .entry)) (now (counts .entry)) (now (text .entry)) (now (out .entry))
+        (now (out .exit)) (now (answer .entry)) (now (answer .exit)) r
+        ⌝ }
 {
     if text.len() > MAX_INPUT_LEN {
         return 1;

@@ -1,8 +1,13 @@
 pub mod Region
 pub mod Regions
+pub mod Sight
 pub mod Views
+pub mod Memory
 pub mod Parts
 pub mod Ahead
+pub mod IndexLaws
+pub mod Dead
+pub mod MemoryLaws
 pub mod StepLaws
 pub mod NextLaws
 pub mod LoopLaws

@@ -4,7 +4,9 @@ use mathlib.Core.Bool.{Bool, true, false, _||_, _&&_}
 use mathlib.Core.List.{List, [], _∷_, map}
 use Prim.Native.Nat.{ℕ, _+_, _≤_, _<_}
 use lib.Dec.{ltb, leb}
+use Rattle.common.specs.Entry.{startOf, stopOf}
 use Rattle.region.specs.declared.Cause.{Cause}
+use Rattle.region.specs.declared.Cause.the-variants.{Fence, Symmetric, Asymmetric}
 use Rattle.region.specs.declared.Region.{Region as Told}
 
 -- a region: its start, its exclusive end, and what a list says of it besides
@@ -19,20 +21,26 @@ pub record Origin : Type 0 where
   pub index : ℕ
   pub closed : Bool
 
--- a region with the rule that made it, and one without
+-- the rule that made a region, where fence rule i stands at h i
+abbrev pub indexFor : (ℕ → ℕ) → Cause → ℕ → ℕ
+indexFor h Fence i = h i
+indexFor h Symmetric i = i
+indexFor h Asymmetric i = i
+
+abbrev pub reindex : (ℕ → ℕ) → Origin → Origin
+reindex h o = record { cause = o .cause; index = indexFor h (o .cause) (o .index); closed = o .closed }
+
+-- a region with the rule that made it
 abbrev pub Caused : Type 0
 Caused = Region Origin
-
-abbrev pub Plain : Type 0
-Plain = Region (Unit {0})
 
 -- a region from p up to e that the rule of a kind and an index made
 abbrev pub caused : Cause → ℕ → Bool → ℕ → ℕ → Caused
 caused k i closed p e = record { start = p; stop = e; tag = record { cause = k; index = i; closed = closed } }
 
--- a region without its rule
-abbrev pub dropTag : {T : Type 0} → Region T → Plain
-dropTag r = record { start = r .start; stop = r .stop; tag = tt }
+-- a region of which something else is said
+abbrev pub retag : {S T : Type 0} → (S → T) → Region S → Region T
+retag f r = record { start = r .start; stop = r .stop; tag = f (r .tag) }
 
 -- what the code's region says
 abbrev pub regionOf : Told → Caused
@@ -65,6 +73,29 @@ abbrev pub InOrder : {T : Type 0} → ℕ → ℕ → List (Region T) → Type 0
 InOrder from len [] = Unit {0}
 InOrder from len (r ∷ l) = (from ≤ r .start) × (r .start < r .stop) × (r .stop ≤ len) × InOrder (r .stop) len l
 
--- "A region list is a lent run of 32-bit numbers: region k has its start at 2k and its exclusive end at 2k+1."
-abbrev pub pair : {T : Type 0} → Region T → List ℕ
-pair r = r .start ∷ r .stop ∷ []
+-- ---- a region as a list has it
+-- what a list says of a region besides its places: nothing
+abbrev pub Tag : Type 0
+Tag = Unit {0}
+
+-- and of the rule that made it
+abbrev pub tagOf : Origin → Tag
+tagOf o = tt
+
+abbrev pub Listed : Type 0
+Listed = Region Tag
+
+abbrev pub asListed : Caused → Listed
+asListed r = retag tagOf r
+
+-- "A region list is a lent run of 32-bit numbers: region k has its start at 2k and its exclusive end at 2k+1.": its row, `wide` numbers
+abbrev pub row : Listed → List ℕ
+row r = r .start ∷ r .stop ∷ []
+
+-- the region that a row says
+abbrev pub unrow : List ℕ → Listed
+unrow l = record { start = startOf l; stop = stopOf l; tag = tt }
+
+-- the row of a region that a rule made
+abbrev pub rowOf : Caused → List ℕ
+rowOf r = row (asListed r)

@@ -2,7 +2,7 @@
 -- The page, module 6: "A fence at a line start goes first, by the first rule with that byte; … A failed fence falls to the inline rule,
 -- symmetric before asymmetric, first match." and so on, a sentence to a definition.
 use mathlib.Core.Bool.{Bool, true, false, cond}
-use mathlib.Core.List.{List}
+use mathlib.Core.List.{List, map}
 use Prim.Native.Nat.{ℕ, _+_, _-_, _%_}
 use lib.Dec.{eqb, ltb}
 use lib.ListN.{length, getD}
@@ -11,7 +11,7 @@ use Rattle.lines.specs.Paragraph.{nextIn}
 use Rattle.common.specs.Turn.{Turn, go, stop, found, firstTurn, allFound}
 use Rattle.lines.specs.declared.fence_tests.Hit.{Hit}
 use Rattle.lines.specs.declared.fence_tests.Hit.the-variants.{At, End}
-use Rattle.region.specs.Region.{Caused, caused}
+use Rattle.region.specs.Region.{Caused, caused, Region, Origin, retag}
 use Rattle.rules.specs.Grammar.{Rule, plain, sym, asym, Gram}
 use Rattle.region.specs.declared.Cause.{Cause}
 use Rattle.region.specs.declared.Cause.the-variants.{Fence, Symmetric, Asymmetric}
@@ -22,6 +22,7 @@ unfoldable pub shutPlace : Gram → List ℕ → ℕ → ℕ
 shutPlace g s p = firstPlace (g .fences .shuts (getD s p 0) (g .fences .size s p) s) (nextLine (length s) (lineEnd (g .eol) s p)) (length s)
 
 -- "its region ends before the closing line's line end"; where no line closes it, at the text's end
+-- (the scan goes on behind that line end: `~\n~\n>` with minimum 1 and an opener that is the line end is 0-3 alone)
 abbrev pub fencedTo : Gram → List ℕ → ℕ → Bool → ℕ → Turn Caused
 fencedTo g s p true q = found (caused Fence (g .fenceIndex (getD s p 0)) true p (lineEnd (g .eol) s q)) (nextLine (length s) (lineEnd (g .eol) s q))
 fencedTo g s p false q = found (caused Fence (g .fenceIndex (getD s p 0)) false p (length s)) (length s)
@@ -45,6 +46,7 @@ nextOf g s x j = nextIn (g .eol) (g .fences .enters s) s x j
 abbrev pub symRun : ℕ → ℕ → ℕ → Turn ℕ
 symRun count q t = cond (eqb (t - q) count) (found t t) (go t)
 
+-- an escaped byte is passed alone, so that the rest of its run is judged as a run of its own: `` `\`` `` with a backtick and count 1 is 0-4
 abbrev pub symAfter : Gram → List ℕ → ℕ → ℕ → Hit → Turn ℕ
 symAfter g s b count (At q) = cond (escaped g s q) (go (q + 1)) (symRun count q (find (other (is b)) s q))
 symAfter g s b count (End u) = stop u
@@ -93,3 +95,7 @@ nextRegion g s q = firstTurn (regionTurn g s) (length s) q
 -- all regions of a text, each with the rule that made it
 unfoldable pub regions : Gram → List ℕ → List Caused
 regions g s = allFound (regionTurn g s) (length s) 0
+
+-- the same, with what f says of the rules
+abbrev pub tagged : {T : Type 0} → (Origin → T) → Gram → List ℕ → List (Region T)
+tagged f g s = map (retag f) (regions g s)

@@ -6,6 +6,7 @@ use Rattle.common.specs.Turn.{Turn, go, stop, found}
 use Rattle.lines.specs.declared.fence_tests.Hit.{Hit}
 use Rattle.lines.specs.declared.fence_tests.Hit.the-variants as hit
 use Rattle.region.specs.Region.{Caused, regionOf}
+use Rattle.region.specs.Sight.{Sight, turned, lost}
 use Rattle.region.specs.declared.pairs.PairTurn.{PairTurn}
 use Rattle.region.specs.declared.pairs.PairTurn.the-variants as pairTurn
 use Rattle.region.specs.declared.Turn.{Turn as Told}
@@ -23,10 +24,11 @@ abbrev pub viewHit : Hit → Turn ℕ
 viewHit (hit.At t) = found t t
 viewHit (hit.End u) = stop u
 
-abbrev pub viewTurn : Told → Turn Caused
-viewTurn (told.Go n) = go n
-viewTurn (told.Stop v) = stop v
-viewTurn (told.Made r n) = found (regionOf r) n
+abbrev pub viewTurn : Told → Sight
+viewTurn (told.Go n) = turned (go n)
+viewTurn (told.Stop v) = turned (stop v)
+viewTurn (told.Made r n) = turned (found (regionOf r) n)
+viewTurn (told.Lost b r u) = lost b r u
 
 -- a region and where the scan goes on after it
 pub record Placed : Type 0 where

@@ -32,22 +32,21 @@ fn sym_turn(
     src: &[u8],
     j: usize,
     byte: u8,
-    count: u32,
+    count: usize,
     g: Grammar,
-    has: &[bool; 256],
-    least: &[u8; 256],
+    fences: &[u16; 256],
 ) -> PairTurn
     requires { ⌜ j ≤ length (now src) ⌝ }
-    ensures { λ r. ⌜ Gives (symTurn (fenceGram g (now (has .entry)) (now (least .entry))) (now (src .entry)) byte count j) (viewPair r) ⌝ }
+    ensures { λ r. ⌜ Gives (symTurn (fenceGram g (now (fences .entry))) (now (src .entry)) byte count j) (viewPair r) ⌝ }
 {
-    match next_in(src, j, byte, g.eol, has, least) {
+    match next_in(src, j, byte, g, fences) {
         Hit::End(u) => PairTurn::End(u),
         Hit::At(q) => {
             if is_escaped(src, q, g.escape) {
                 return PairTurn::Go(q + 1);
             }
             let t = run_end(src, q, byte);
-            if t - q == count as usize {
+            if t - q == count {
                 return PairTurn::Close(t);
             }
             PairTurn::Go(t)
@@ -60,17 +59,19 @@ pub(crate) fn sym_close(
     src: &[u8],
     from: usize,
     byte: u8,
-    count: u32,
+    count: usize,
     g: Grammar,
-    has: &[bool; 256],
-    least: &[u8; 256],
+    fences: &[u16; 256],
 ) -> Hit
     requires { ⌜ from ≤ length (now src) ⌝ }
-    ensures { λ r. ⌜ Gives (firstTurn (symTurn (fenceGram g (now (has .entry)) (now (least .entry))) (now (src .entry)) byte count) (length (now (src .entry))) from) (viewHit r) ⌝ }
+    ensures { λ r. ⌜
+        Gives (firstTurn (symTurn (fenceGram g (now (fences .entry))) (now (src .entry)) byte count) (length (now (src .entry)))
+        from) (viewHit r)
+        ⌝ }
 {
     let mut j = from;
     loop {
-        match sym_turn(src, j, byte, count, g, has, least) {
+        match sym_turn(src, j, byte, count, g, fences) {
             PairTurn::Go(n) => {
                 j = n;
             }
@@ -85,18 +86,11 @@ pub(crate) fn sym_close(
 }
 
 // The next closing byte in the paragraph: passed if it is escaped.
-fn asym_turn(
-    src: &[u8],
-    j: usize,
-    close: u8,
-    g: Grammar,
-    has: &[bool; 256],
-    least: &[u8; 256],
-) -> PairTurn
+fn asym_turn(src: &[u8], j: usize, close: u8, g: Grammar, fences: &[u16; 256]) -> PairTurn
     requires { ⌜ j ≤ length (now src) ⌝ }
-    ensures { λ r. ⌜ Gives (asymTurn (fenceGram g (now (has .entry)) (now (least .entry))) (now (src .entry)) close j) (viewPair r) ⌝ }
+    ensures { λ r. ⌜ Gives (asymTurn (fenceGram g (now (fences .entry))) (now (src .entry)) close j) (viewPair r) ⌝ }
 {
-    match next_in(src, j, close, g.eol, has, least) {
+    match next_in(src, j, close, g, fences) {
         Hit::End(u) => PairTurn::End(u), // not beyond the paragraph
         Hit::At(q) => {
             if is_escaped(src, q, g.escape) {
@@ -108,20 +102,16 @@ fn asym_turn(
 }
 
 // Where an asymmetric pair closes whose opening run ends at `from`.
-pub(crate) fn asym_close(
-    src: &[u8],
-    from: usize,
-    close: u8,
-    g: Grammar,
-    has: &[bool; 256],
-    least: &[u8; 256],
-) -> Hit
+pub(crate) fn asym_close(src: &[u8], from: usize, close: u8, g: Grammar, fences: &[u16; 256]) -> Hit
     requires { ⌜ from ≤ length (now src) ⌝ }
-    ensures { λ r. ⌜ Gives (firstTurn (asymTurn (fenceGram g (now (has .entry)) (now (least .entry))) (now (src .entry)) close) (length (now (src .entry))) from) (viewHit r) ⌝ }
+    ensures { λ r. ⌜
+        Gives (firstTurn (asymTurn (fenceGram g (now (fences .entry))) (now (src .entry)) close) (length (now (src .entry))) from)
+        (viewHit r)
+        ⌝ }
 {
     let mut j = from;
     loop {
-        match asym_turn(src, j, close, g, has, least) {
+        match asym_turn(src, j, close, g, fences) {
             PairTurn::Go(n) => {
                 j = n;
             }

@@ -1,58 +1,33 @@
-// An answer in a list's terms: 1 and the value, 2 for none, 0 for a refusal and then its number.
-use crate::numbers::Numbers;
+// Answers in a list's terms that the leaves and the scanners alone give.
 use common::refusal::Answer;
-use common::refusal::Found;
-use common::refusal::Refusal;
 use common::span::Span;
 use common::span::SpanFound;
+use stored::numbers::Numbers;
 
-// More steps than any stored run has. A run that doesn't end by then is cut, and differs.
-pub(crate) const STEPS: u32 = 2000;
-
-impl Numbers {
-    pub(crate) fn value(self, v: usize) -> Self {
-        self.and(1).size(v)
+pub(crate) fn answer(a: Answer, reply: Numbers) -> Numbers {
+    match a {
+        Answer::Value(v) => reply.value(v),
+        Answer::Refused(r) => reply.refused(r),
     }
+}
 
-    pub(crate) fn refused(self, r: Refusal) -> Self {
-        let mut all = self.and(0);
-        all.cut = true;
-        all.and(r.number())
+// What a search found: the length, or a place past it, is none.
+pub(crate) fn sought(place: usize, length: usize, reply: Numbers) -> Numbers {
+    if place < length {
+        return reply.value(place);
     }
+    reply.and(2)
+}
 
-    pub(crate) fn answer(self, a: Answer) -> Self {
-        match a {
-            Answer::Value(v) => self.value(v),
-            Answer::Refused(r) => self.refused(r),
-        }
-    }
+pub(crate) fn span(s: Span, reply: Numbers) -> Numbers {
+    reply.and(s.start).and(s.end)
+}
 
-    pub(crate) fn found(self, f: Found) -> Self {
-        match f {
-            Found::At(place) => self.value(place),
-            Found::Nothing => self.and(2),
-            Found::Refused(r) => self.refused(r),
-        }
-    }
-
-    // What a search found: the length, or a place past it, is none.
-    pub(crate) fn sought(self, place: usize, length: usize) -> Self {
-        if place < length {
-            return self.value(place);
-        }
-        self.and(2)
-    }
-
-    pub(crate) fn span(self, s: Span) -> Self {
-        self.and(s.start).and(s.end)
-    }
-
-    // What a scanner of spans found.
-    pub(crate) fn span_found(self, f: SpanFound) -> Self {
-        match f {
-            SpanFound::At(s) => self.and(1).span(s),
-            SpanFound::Nothing => self.and(2),
-            SpanFound::Refused(r) => self.refused(r),
-        }
+// What a scanner of spans found.
+pub(crate) fn span_found(f: SpanFound, reply: Numbers) -> Numbers {
+    match f {
+        SpanFound::At(s) => span(s, reply.and(1)),
+        SpanFound::Nothing => reply.and(2),
+        SpanFound::Refused(r) => reply.refused(r),
     }
 }

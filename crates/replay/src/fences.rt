@@ -1,9 +1,10 @@
 // Section 2: the fence scanner.
-use crate::answers::STEPS;
-use crate::numbers::Numbers;
+use crate::answers;
 use common::span::SpanFound;
 use fence::FenceIter;
 use search::byte_at;
+use stored::answers::STEPS;
+use stored::numbers::Numbers;
 
 // A fresh state, all spans that it yields, or a step of the state at a place.
 pub(crate) fn ask(letter: u8, bytes: &[u8], text: &[u8], place: usize, reply: Numbers) -> Numbers {
@@ -36,7 +37,7 @@ fn step(fresh: FenceIter, place: usize, text: &[u8], reply: Numbers) -> Numbers 
     at.pos = place;
     let step = at.next(text);
     let found = step.found;
-    state(step.next, reply.span_found(found))
+    state(step.next, answers::span_found(found, reply))
 }
 
 fn run(fresh: FenceIter, text: &[u8], begun: Numbers) -> Numbers {
@@ -49,7 +50,7 @@ fn run(fresh: FenceIter, text: &[u8], begun: Numbers) -> Numbers {
         let SpanFound::At(span) = found else {
             return reply.counted(count);
         };
-        reply = reply.span(span);
+        reply = answers::span(span, reply);
         state = step.next;
         count += 1;
     }

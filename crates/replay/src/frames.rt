@@ -1,32 +1,33 @@
 // Section 5: continuation frames.
-use crate::answers::STEPS;
-use crate::cuts::number_at;
-use crate::cuts::part;
-use crate::form::Ends;
-use crate::numbers::Numbers;
+use crate::answers;
 use common::span::Span;
 use common::span::SpanFound;
 use cont::ContIter;
 use search::byte_at;
+use stored::answers::STEPS;
+use stored::form::Question;
+use stored::numbers::Numbers;
+use stored::parts::number_at;
+use stored::parts::part;
 
 const DEPTH: usize = ContIter::MAX_DEPTH;
 
 // A fresh state, all frames that it yields, or a step of a handmade state at a place.
 pub(crate) fn ask(
-    letter: u8,
-    ends: Ends,
+    question: Question,
     asked: &[u32],
     bytes: &[u8],
     text: &[u8],
     place: usize,
     reply: Numbers,
 ) -> Numbers {
+    let letter = question.letter;
     match letter {
         b'f' => state(fresh(asked, bytes), reply.and(1)),
         b'r' => run(fresh(asked, bytes), text, reply.entries()),
         _ => {
-            let open = open_of(ends.list(asked, 0));
-            let pending = pending_of(ends.list(asked, 1));
+            let open = open_of(question.list(asked, 0));
+            let pending = pending_of(question.list(asked, 1));
             step(handmade(asked, bytes, place, open, pending), text, reply)
         }
     }
@@ -133,7 +134,7 @@ fn waiting(pending: [Span; DEPTH], before: Numbers) -> Numbers {
         if i >= end {
             return reply;
         }
-        reply = reply.span(pending[i]);
+        reply = answers::span(pending[i], reply);
         i += 1;
     }
     reply
@@ -154,7 +155,7 @@ fn waiting_end(pending: [Span; DEPTH]) -> usize {
 fn step(from: ContIter, text: &[u8], reply: Numbers) -> Numbers {
     let step = from.next(text);
     let found = step.found;
-    state(step.next, reply.span_found(found))
+    state(step.next, answers::span_found(found, reply))
 }
 
 fn run(fresh: ContIter, text: &[u8], begun: Numbers) -> Numbers {
@@ -167,7 +168,7 @@ fn run(fresh: ContIter, text: &[u8], begun: Numbers) -> Numbers {
         let SpanFound::At(span) = found else {
             return reply.counted(count);
         };
-        reply = reply.span(span);
+        reply = answers::span(span, reply);
         state = step.next;
         count += 1;
     }

@@ -1,6 +1,6 @@
 // What the two item scanners share: a state in a list's terms.
-use crate::numbers::Numbers;
 use search::byte_at;
+use stored::numbers::Numbers;
 
 // The three needles that a handmade state has.
 pub(crate) fn needles_of(bytes: &[u8]) -> [u8; 3] {

@@ -1,7 +1,7 @@
 // Section 9: what `spans` prints.
-use crate::cuts::bytes_part;
-use crate::numbers::Numbers;
 use common::refusal::Answer;
+use stored::numbers::Numbers;
+use stored::parts::bytes_part;
 
 pub(crate) fn ask(text: &[u8], reply: Numbers) -> Numbers {
     let mut room = io::large_buffer();

@@ -1,27 +1,28 @@
 // Section 4: the scanner of numbered items.
-use crate::answers::STEPS;
-use crate::cuts::number_at;
-use crate::form::Ends;
+use crate::answers;
 use crate::items;
-use crate::numbers::Numbers;
 use block_numbered::BlockNumberedIter;
 use block_numbered::NumberedFound;
 use block_numbered::NumberedItem;
 use common::sets;
 use search::byte_at;
+use stored::answers::STEPS;
+use stored::form::Question;
+use stored::numbers::Numbers;
+use stored::parts::number_at;
 
 // A fresh state, all items that it yields, or a step of a handmade state at a place.
 pub(crate) fn ask(
-    letter: u8,
-    ends: Ends,
+    question: Question,
     asked: &[u32],
     bytes: &[u8],
     text: &[u8],
     place: usize,
     reply: Numbers,
 ) -> Numbers {
-    let cells = sets::byte_set(ends.bytes(bytes, 0));
+    let cells = sets::byte_set(question.bytes(bytes, 0));
     let set: &[bool; 256] = &cells;
+    let letter = question.letter;
     match letter {
         b'f' => state(fresh(bytes, set), reply.and(1)),
         b'r' => run(fresh(bytes, set), text, set, reply.entries()),
@@ -65,7 +66,7 @@ fn state(s: BlockNumberedIter, reply: Numbers) -> Numbers {
 }
 
 fn item(item: NumberedItem, reply: Numbers) -> Numbers {
-    reply.and(item.number).byte(item.delimiter).span(item.span)
+    answers::span(item.span, reply.and(item.number).byte(item.delimiter))
 }
 
 fn found(found: NumberedFound, reply: Numbers) -> Numbers {

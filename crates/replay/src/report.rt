@@ -1,45 +1,55 @@
 // What is printed: the lines that differ, and one line for each section.
-use crate::cuts::bytes_part;
-use crate::tally::Tally;
 use libc::STDOUT_FILENO;
+use search::next_line;
+use stored::numbers::Numbers;
+use stored::parts::bytes_part;
+use stored::parts::number_at;
+use stored::parts::part;
+use stored::tally::NO_SECTION;
+use stored::tally::Tally;
 
 // How many differing lines of a section are told; all are counted.
-pub(crate) const MOST_TOLD: u64 = 20;
+const MOST_TOLD: u64 = 20;
 
 fn print(text: &[u8]) {
     io::write_all(STDOUT_FILENO, text);
 }
 
-fn print_number(n: u64) {
+fn print_count(before: &[u8], n: u64) {
+    print(before);
     io::print_decimal(STDOUT_FILENO, n);
 }
 
-pub(crate) fn differs(line: u64, found: &[u32]) {
-    print_count(b"line ", line);
+// A line that differs, and what was found: nothing where it is no question of its section, or broken off.
+pub(crate) fn told(before: Tally, after: Tally, reply: Numbers) {
+    if after.differ == before.differ {
+        return;
+    }
+    if before.differ >= MOST_TOLD {
+        return;
+    }
+    print_count(b"line ", after.line);
     print(b": found");
-    print_run(found);
+    print_numbers(reply);
     print(b"\n");
 }
 
-fn print_run(run: &[u32]) {
+fn print_numbers(reply: Numbers) {
+    let cells = reply.cells;
+    let run = part(&cells, 0, reply.count);
     let mut i = 0;
     while i < run.len() {
-        print_parted(run[i]);
+        print_count(b" ", number_at(run, i) as u64);
         i += 1;
     }
 }
 
-fn print_parted(n: u32) {
-    print_count(b" ", n as u64);
-}
-
-pub(crate) fn unknown(line: u64) {
-    print_count(b"line ", line);
-    print(b": not a question of this section, or broken off\n");
-}
-
-pub(crate) fn summary(tally: Tally) {
-    print_name(tally.section);
+// What was counted in a section.
+pub(crate) fn summary(text: &[u8], tally: Tally) {
+    if tally.section == NO_SECTION {
+        return;
+    }
+    print_name(text, tally.head);
     print_count(b": ", tally.full);
     print_count(b" answers in full, ", tally.blocks);
     print_count(b" blocks of ", tally.inside);
@@ -47,33 +57,9 @@ pub(crate) fn summary(tally: Tally) {
     print(b" differ\n");
 }
 
-fn print_count(before: &[u8], n: u64) {
-    print(before);
-    print_number(n);
-}
-
-// The names of the sections, one behind the other.
-fn print_name(section: u32) {
-    let names = b"refusalscommonfenceblock_markerblock_numberedcontcontextcursorsheetlisting";
-    if section < 10 {
-        print(bytes_part(names, name_start(section), name_start(section + 1)));
-        return;
-    }
-    print(b"no section");
-}
-
-fn name_start(section: u32) -> usize {
-    match section {
-        0 => 0,
-        1 => 8,
-        2 => 14,
-        3 => 19,
-        4 => 31,
-        5 => 45,
-        6 => 49,
-        7 => 56,
-        8 => 62,
-        9 => 67,
-        _ => 74,
-    }
+// The name of the section whose head begins at `head`. It stands behind the sign and the number.
+fn print_name(text: &[u8], head: usize) {
+    let number = next_line(text.len(), find::find_byte(text, head, b' '));
+    let name = next_line(text.len(), find::find_byte(text, number, b' '));
+    print(bytes_part(text, name, find::find_byte(text, name, b'\n')));
 }

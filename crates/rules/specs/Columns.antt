@@ -1,19 +1,20 @@
 -- The grammar of rules given as columns. Assumes nothing.
 -- The page: "Rules come as columns of numbers" and "Bytes searched for: fence bytes, symmetric bytes, asymmetric openers, in that order,
 -- without repeats, the first eleven kept."
-use mathlib.Core.Bool.{Bool, false, cond, _&&_, _||_}
+use mathlib.Core.Bool.{Bool, false, cond, _||_}
 use mathlib.Core.List.{List, [], _∷_, _++_}
 use Prim.Native.Nat.{ℕ, _+_}
 use lib.Dec.{leb}
 use lib.ListN.{length, getD, take, set}
 use Rattle.common.specs.Refusals.{differ}
 use Rattle.common.specs.Sets.{padded}
-use Rattle.search.specs.Search.{oneOf, lineStart, lineEnd}
+use Rattle.search.specs.Search.{oneOf}
 use Rattle.common.specs.Rules.{row, hasRule, leastOf, onByte}
-use Rattle.lines.specs.Fences.{runCount, runEnd, opensLine, closing}
+use Rattle.lines.specs.Reader.{reader}
 use Rattle.common.specs.declared.grammar.Grammar.{Grammar}
-use Rattle.rules.specs.Grammar.{Rule, plain, sym, asym, Fences, Gram}
+use Rattle.rules.specs.Grammar.{Rule, plain, sym, asym, Gram}
 use Rattle.rules.specs.declared.search_bytes.SearchBytes.{SearchBytes}
+use Rattle.rules.specs.declared.search_bytes.Alphabet.{Alphabet}
 
 -- the rules as columns: fence bytes and minimums; symmetric bytes and counts; asymmetric openers, closers and counts
 pub record Columns : Type 0 where
@@ -67,6 +68,10 @@ asBytes l = record { bytes = padded 11 l; count = length l }
 abbrev pub searchBytes : List ℕ → List ℕ → List ℕ → SearchBytes
 searchBytes fences symmetric openers = asBytes (gainedAll (gainedAll (gainedAll [] fences) symmetric) openers)
 
+-- ---- the bytes that a scan for regions goes by
+abbrev pub alphabetOf : Grammar → List ℕ → List ℕ → List ℕ → Alphabet
+alphabetOf g fences symmetric openers = record { grammar = g; searched = searchBytes fences symmetric openers }
+
 -- ---- what a byte opens
 -- the first asymmetric rule with a byte, if any
 unfoldable pub openRule : List ℕ → List ℕ → List ℕ → ℕ → Rule
@@ -84,15 +89,6 @@ ruleOf c b = symRule (c .symBytes) (c .symCounts) (openRule (c .openers) (c .clo
 abbrev pub fenceRow : List ℕ → ℕ → ℕ
 fenceRow bytes b = cond (hasRule bytes b) (row bytes b) 0
 
--- ---- fences of edition 1: by `has` and `least` of a byte
-abbrev pub first : Grammar → (ℕ → Bool) → (ℕ → ℕ) → Fences
-first g has least = record {
-  opens = λ s p. lineStart (g .eol) s p && opensLine (g .eol) has least s p;
-  enters = opensLine (g .eol) has least;
-  size = λ s p. runCount p (runEnd (getD s p 0) s p (lineEnd (g .eol) s p));
-  shuts = closing g;
-}
-
 -- the grammar of the columns
 abbrev pub gramOf : Grammar → Columns → Gram
 gramOf g c = record {
@@ -101,5 +97,5 @@ gramOf g c = record {
   trigger = oneOf (searched c);
   rule = onByte plain (ruleOf c);
   fenceIndex = onByte 0 (fenceRow (c .fenceBytes));
-  fences = first g (onByte false (hasRule (c .fenceBytes))) (onByte 0 (leastOf (c .fenceBytes) (c .fenceMins)));
+  fences = reader g (onByte false (hasRule (c .fenceBytes))) (onByte 0 (leastOf (c .fenceBytes) (c .fenceMins)));
 }

@@ -1,8 +1,8 @@
 -- The abstract grammar that regions are defined over. Assumes nothing.
 -- The page, module 6: what its sentences ask of rules, whatever gives them.
 use mathlib.Core.Bool.{Bool}
-use mathlib.Core.List.{List}
 use Prim.Native.Nat.{ℕ}
+use Rattle.lines.specs.Reader.{Fences}
 
 -- what a byte opens within a paragraph, with the index of the rule that says so: nothing; a pair closed by a run of the same byte, as
 -- long as its count; or a pair closed by one closing byte
@@ -10,17 +10,6 @@ pub data Rule : Type 0 where
   plain : Rule
   sym : ℕ → ℕ → Rule
   asym : ℕ → ℕ → ℕ → Rule
-
--- a fence reader: what an edition says of fences, asked of a place in a text
-pub record Fences : Type 0 where
-  -- whether a fence's run begins here
-  pub opens : List ℕ → ℕ → Bool
-  -- whether the line that begins here opens a fence
-  pub enters : List ℕ → ℕ → Bool
-  -- the counted length of the run that begins here
-  pub size : List ℕ → ℕ → ℕ
-  -- whether a line begins here that closes a fence of a byte and a length
-  pub shuts : ℕ → ℕ → List ℕ → ℕ → Bool
 
 pub record Gram : Type 0 where
   pub eol : ℕ
@@ -32,3 +21,7 @@ pub record Gram : Type 0 where
   -- the index of the fence rule of a byte
   pub fenceIndex : ℕ → ℕ
   pub fences : Fences
+
+-- the same grammar, each fence rule at the index that h gives for its own
+abbrev pub reindexed : (ℕ → ℕ) → Gram → Gram
+reindexed h g = record { eol = g .eol; escape = g .escape; trigger = g .trigger; rule = g .rule; fenceIndex = λ b. h (g .fenceIndex b); fences = g .fences }

@@ -1,8 +1,8 @@
 pub mod Grammar
 pub mod Columns
-pub mod Tables
+pub mod Rows
 pub mod ColumnLaws
-pub mod RuleTables
-pub mod RuleTableLaws
+pub mod DifferLaws
+pub mod RowLaws
 pub mod Records
 pub mod RecordLaws

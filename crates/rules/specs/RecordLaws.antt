@@ -1,42 +1,45 @@
--- Laws of fence rules as records: one rule more, and that gathering makes what the columns make. Assumes nothing.
-use mathlib.Core.Path.{_≡_, refl, sym as inv, ap, _∙_, fun-ext}
-use mathlib.Core.Bool.{Bool, true, false, _||_, or-true}
-use mathlib.Core.List.{List, [], _∷_, _++_, map-append}
+-- Laws of fence rules as records: one rule more, and that the kept rules say what all rules of the run say. Assumes nothing.
+use mathlib.Core.Path.{_≡_, refl, sym as inv, ap, subst, _∙_, fun-ext}
+use mathlib.Core.Bool.{Bool, true, false, cond, _||_, or-true}
+use mathlib.Core.List.{List, [], _∷_, _++_, map-append, append-nil, append-assoc}
 use mathlib.Core.Logic.{_⊎_, inl, inr, ⊎-elim}
-use Prim.Native.Nat.{ℕ, zero, suc, _+_, _≤_, _<_, min}
+use Prim.Native.Nat.{ℕ, zero, suc, _+_, _-_, _≤_, _<_, min}
 use native.Mathlib.Nat.{not-suc-le-zero, add-zero}
 use native.Mathlib.Numerals.{add-one}
 use native.Mathlib.Omega.{arith}
 use lib.Dec.{eqb, ltb, leb}
-use lib.ListN.{length, getD, take, set, replicate, length-append, length-map, List·getD-append}
-use lib.Seq.{take-suc, take-all, length-take-le, getD-append-add, set-out}
-use borrow.Author.Tests.{eq-eqb, eqb-true, eqb-false, lt-ltb, le-ltb, ltb-true, ltb-false}
+use lib.ListN.{length, getD, take, drop, set, replicate, length-append, length-map, drop-of-length-le, List·getD-append}
+use lib.Seq.{take-all, drop-cons, getD-append-add}
+use borrow.Author.Tests.{eq-eqb, eqb-true, eqb-false, lt-ltb, le-ltb, ltb-true, ltb-false, ne-eqb, le-leb, lt-leb, leb-true, leb-false}
 use Rattle.search.specs.Promise.{Gives}
 use Rattle.search.specs.Search.{is, oneOf, find}
-use Rattle.search.specs.SearchLaws.{decide, clash, is-yes, is-no, is-true, find-here, find-next, find-end, find-at, find-prefix, find-past}
-use Rattle.common.specs.Sets.{Index}
-use Rattle.common.specs.Rules.{tabulate, row, hasRule, leastOf, entry, onByte}
-use Rattle.common.specs.TableLaws.{table-entry, table-is, table-same, table-of, table-set, table-start, length-tabulate}
-use Rattle.rules.specs.Columns.{gained, gainedAll, noBytes, withByte, gathered, asBytes, fenceRow}
-use Rattle.rules.specs.ColumnLaws.{gathered-list}
-use Rattle.rules.specs.Records.{noRule, noRules, withRule, ruleBytes, ruleMins, gatheredOf}
-use Rattle.rules.specs.declared.search_bytes.SearchBytes.{SearchBytes}
+use Rattle.search.specs.SearchLaws.{decide, clash, is-yes, is-no, is-true, one-append, find-here, find-next, find-end, find-at, find-prefix, find-past}
+use Rattle.common.specs.Sets.{padded}
+use Rattle.common.specs.Rules.{row, hasRule, leastOf, onByte}
+use Rattle.common.specs.declared.grammar.Grammar.{Grammar}
+use Rattle.lines.specs.Reader.{reader}
+use Rattle.rules.specs.Grammar.{plain, Gram, reindexed}
+use Rattle.rules.specs.Columns.{columns, searched, gained, gainedAll, ruleOf, fenceRow, gramOf}
+use Rattle.rules.specs.ColumnLaws.{pad-take, pad-set}
+use Rattle.rules.specs.Records.{noRule, noRules, ruleBytes, ruleMins, keptBytes, keptMins, ownPlace, unkept, withRule, OneMore, gatheredFrom, gatheredOf, AllGathered}
 use Rattle.rules.specs.declared.records.FenceRule.{FenceRule}
 use Rattle.rules.specs.declared.records.Gathered.{Gathered}
 
--- ---- none, and one rule more
-pub rules-none : (w : SearchBytes) → Gives noBytes w → record { has = replicate 256 false; least = replicate 256 0; rows = replicate 256 0; searched = w } ≡ noRules
-rules-none w g = rw (g .answer)
-
-module _ (f : Gathered) (r : FenceRule) (row : ℕ) (y : Bool) (used : Gives (entry false (f .has) (r .byte)) y) where
-  pub rule-used : y ≡ true → f ≡ withRule f r row
+-- ---- the ways out of one rule more
+module _ (f : Gathered) (r : FenceRule) (i : ℕ) (small : r .byte < 256) where
+  pub rule-full : 256 ≤ f .count → OneMore f r i (record { bytes = f .bytes; mins = f .mins; places = f .places; count = f .count; last = i })
   unfolding withRule
-  rule-used e = simp (← (used .answer), e)
+  rule-full h = record { answer = simp (le-leb 256 (f .count) h); small = small }
 
-  pub rule-more : (w : SearchBytes) (i : ℕ) → y ≡ false → Gives (withByte (f .searched) (r .byte)) w → Index (r .byte) i
-      → record { has = set (f .has) i true; least = set (f .least) i (r .min); rows = set (f .rows) i row; searched = w } ≡ withRule f r row
-  unfolding withRule
-  rule-more w i e g d = simp (← (used .answer), e, g .answer, d .same)
+  module _ (y : Bool) (held : Gives (oneOf (take (f .count) (f .bytes)) (r .byte)) y) (few : f .count < 256) where
+    pub rule-held : y ≡ true → OneMore f r i (record { bytes = f .bytes; mins = f .mins; places = f .places; count = f .count; last = i })
+    unfolding withRule
+    rule-held e = record { answer = simp (lt-leb 256 (f .count) few, ← (held .answer), e); small = small }
+
+    pub rule-more : y ≡ false
+        → OneMore f r i (record { bytes = set (f .bytes) (f .count) (r .byte); mins = set (f .mins) (f .count) (r .min); places = set (f .places) (f .count) i; count = f .count + 1; last = i })
+    unfolding withRule
+    rule-more e = record { answer = simp (lt-leb 256 (f .count) few, ← (held .answer), e); small = small }
 
 -- ---- a column with one byte more behind it
 module _ (bs : List ℕ) (b : ℕ) where
@@ -76,25 +79,25 @@ module _ (bs : List ℕ) (b : ℕ) where
   has-none x e d = le-ltb (row more x) (length more) (omega (arith, row-none x e d, more-length))
 
   -- a byte that had a rule, or is another than the new one
-  abbrev Kept : ℕ → Type 0
-  Kept x = (hasRule bs x ≡ true) ⊎ (x ≡ b → ⊥)
+  abbrev Stays : ℕ → Type 0
+  Stays x = (hasRule bs x ≡ true) ⊎ (x ≡ b → ⊥)
 
-  has-kept : (x : ℕ) → Kept x → hasRule more x ≡ hasRule bs x
+  has-kept : (x : ℕ) → Stays x → hasRule more x ≡ hasRule bs x
   has-kept x k = by k (decide (hasRule bs x))
     where
-      by : Kept x → (hasRule bs x ≡ true) ⊎ (hasRule bs x ≡ false) → hasRule more x ≡ hasRule bs x
+      by : Stays x → (hasRule bs x ≡ true) ⊎ (hasRule bs x ≡ false) → hasRule more x ≡ hasRule bs x
       by k (inl e) = has-old x e ∙ inv e
       by (inl u) (inr e) = absurd (clash u e)
       by (inr d) (inr e) = has-none x e d ∙ inv e
 
-  row-kept : (x : ℕ) → Kept x → fenceRow more x ≡ fenceRow bs x
+  row-kept : (x : ℕ) → Stays x → fenceRow more x ≡ fenceRow bs x
   row-kept x k = by (decide (hasRule bs x))
     where
       by : (hasRule bs x ≡ true) ⊎ (hasRule bs x ≡ false) → fenceRow more x ≡ fenceRow bs x
       by (inl e) = rw (has-kept x k, e, row-old x e)
       by (inr e) = rw (has-kept x k, e)
 
-  least-kept : (ms : List ℕ) (m : ℕ) → length bs ≡ length ms → (x : ℕ) → Kept x → leastOf more (ms ++ (m ∷ [])) x ≡ leastOf bs ms x
+  least-kept : (ms : List ℕ) (m : ℕ) → length bs ≡ length ms → (x : ℕ) → Stays x → leastOf more (ms ++ (m ∷ [])) x ≡ leastOf bs ms x
   least-kept ms m same x k = by (decide (hasRule bs x))
     where
       by : (hasRule bs x ≡ true) ⊎ (hasRule bs x ≡ false) → leastOf more (ms ++ (m ∷ [])) x ≡ leastOf bs ms x
@@ -109,16 +112,6 @@ module _ (bs : List ℕ) (b : ℕ) where
 
   fence-new : hasRule bs b ≡ false → fenceRow more b ≡ length bs
   fence-new e = rw (has-new e, row-new e)
-
--- ---- a table that is stored to at b
-table-more : {B : Type 0} (d : B) (f f′ : ℕ → B) (b : ℕ) (v : B) → ((k : ℕ) → (k ≡ b → ⊥) → f′ k ≡ f k) → (b < 256 → f′ b ≡ v) → set (tabulate f 256 0) b v ≡ tabulate f′ 256 0
-table-more d f f′ b v same e = by (decide (ltb b 256))
-  where
-    by : (ltb b 256 ≡ true) ⊎ (ltb b 256 ≡ false) → set (tabulate f 256 0) b v ≡ tabulate f′ 256 0
-    by (inl u) = let h = ltb-true b 256 u in table-is d (set (tabulate f 256 0) b v) f′ (table-set d (tabulate f 256 0) f f′ b v h (e h) same (table-of d f))
-    by (inr u) =
-        let h = ltb-false b 256 u in
-        set-out (tabulate f 256 0) b v (omega (arith, length-tabulate f 256 0)) ∙ table-is d (tabulate f 256 0) f′ (table-same d (tabulate f 256 0) f f′ (λ k l. same k (λ z. omega arith)) (table-of d f))
 
 -- ---- the bytes searched for
 gained-more : (l bs : List ℕ) (b : ℕ) → gainedAll l (bs ++ (b ∷ [])) ≡ gained (gainedAll l bs) b
@@ -179,72 +172,347 @@ held-rule bs b e =
     let h = ltb-true (row bs b) (length bs) e in
     held-at [] bs b (row bs b) h (is-true b (getD bs (row bs b) 0) (find-at (is b) bs 0 h))
 
--- ---- gathering: what columns make, with one rule more behind them
-module _ (bs ms : List ℕ) (same : length bs ≡ length ms) (r : FenceRule) where
-  abbrev moreBytes : List ℕ
-  moreBytes = bs ++ (r .byte ∷ [])
+-- ---- how many numbers below n pass a test
+unfoldable counted : (ℕ → Bool) → ℕ → ℕ
+counted t zero = 0
+counted t (suc n) = cond (t n) 1 0 + counted t n
 
-  abbrev moreMins : List ℕ
-  moreMins = ms ++ (r .min ∷ [])
-
-  after-used : hasRule bs (r .byte) ≡ true → gatheredOf bs ms ≡ gatheredOf moreBytes moreMins
-  after-used e =
-      let kept : (x : ℕ) → Kept bs (r .byte) x = λ x. ⊎-elim (λ (u : eqb x (r .byte) ≡ true). inl (ap (hasRule bs) (eqb-true x (r .byte) u) ∙ e)) (λ u. inr (eqb-false x (r .byte) u)) (decide (eqb x (r .byte))) in
-      let h : hasRule bs ≡ hasRule moreBytes = fun-ext (λ x. inv (has-kept bs (r .byte) x (kept x))) in
-      let l : leastOf bs ms ≡ leastOf moreBytes moreMins = fun-ext (λ x. inv (least-kept bs (r .byte) ms (r .min) same x (kept x))) in
-      let w : fenceRow bs ≡ fenceRow moreBytes = fun-ext (λ x. inv (row-kept bs (r .byte) x (kept x))) in
-      let s : gainedAll [] bs ≡ gainedAll [] moreBytes = inv (gained-more [] bs (r .byte) ∙ held-same (gainedAll [] bs) (r .byte) (held-rule bs (r .byte) e)) in
-      λ i. record { has = tabulate (h i) 256 0; least = tabulate (l i) 256 0; rows = tabulate (w i) 256 0; searched = asBytes (s i) }
-
-  after-more : entry false (tabulate (hasRule bs) 256 0) (r .byte) ≡ false
-      → record { has = set (tabulate (hasRule bs) 256 0) (r .byte) true; least = set (tabulate (leastOf bs ms) 256 0) (r .byte) (r .min); rows = set (tabulate (fenceRow bs) 256 0) (r .byte) (length bs); searched = withByte (asBytes (gainedAll [] bs)) (r .byte) }
-      ≡ gatheredOf moreBytes moreMins
-  unfolding gathered
-  after-more e =
-      let none : r .byte < 256 → hasRule bs (r .byte) ≡ false = λ h. inv (ap (λ (f : ℕ → Bool). f (r .byte)) (table-entry false (hasRule bs)) ∙ rw (lt-ltb (r .byte) 256 h)) ∙ e in
-      let h = table-more false (hasRule bs) (hasRule moreBytes) (r .byte) true (λ x d. has-kept bs (r .byte) x (inr d)) (λ l. has-new bs (r .byte) (none l)) in
-      let l = table-more 0 (leastOf bs ms) (leastOf moreBytes moreMins) (r .byte) (r .min) (λ x d. least-kept bs (r .byte) ms (r .min) same x (inr d)) (λ l. least-new bs (r .byte) ms (r .min) same (none l)) in
-      let w = table-more 0 (fenceRow bs) (fenceRow moreBytes) (r .byte) (length bs) (λ x d. row-kept bs (r .byte) x (inr d)) (λ l. fence-new bs (r .byte) (none l)) in
-      let s : withByte (asBytes (gainedAll [] bs)) (r .byte) ≡ asBytes (gainedAll [] moreBytes) =
-      gathered-list (gainedAll [] bs) (r .byte ∷ []) (gathered-list [] bs (omega arith) .1) .0 ∙ ap asBytes (inv (gained-more [] bs (r .byte))) in
-      λ i. record { has = h i; least = l i; rows = w i; searched = s i }
-
-  after-rule : withRule (gatheredOf bs ms) r (length bs) ≡ gatheredOf moreBytes moreMins
-  unfolding withRule
-  after-rule = by (decide (entry false (tabulate (hasRule bs) 256 0) (r .byte)))
-    where
-      by : (entry false (tabulate (hasRule bs) 256 0) (r .byte) ≡ true) ⊎ (entry false (tabulate (hasRule bs) 256 0) (r .byte) ≡ false) → withRule (gatheredOf bs ms) r (length bs) ≡ gatheredOf moreBytes moreMins
-      by (inl e) = rw e (after-used (used (decide (ltb (r .byte) 256)) (inv (ap (λ (f : ℕ → Bool). f (r .byte)) (table-entry false (hasRule bs))) ∙ e)))
-        where
-          used : (ltb (r .byte) 256 ≡ true) ⊎ (ltb (r .byte) 256 ≡ false) → onByte false (hasRule bs) (r .byte) ≡ true → hasRule bs (r .byte) ≡ true
-          used (inl u) z = rw u at z
-          used (inr u) z = absurd (clash (rw u at z) refl)
-      by (inr e) = rw e (after-more e)
-
--- ---- the loop that gathers, at rule i
-pub gather-first : (f : Gathered) (rules : List FenceRule) → Gives noRules f → f ≡ gatheredOf (ruleBytes (take 0 rules)) (ruleMins (take 0 rules))
-gather-first f rules g = g .answer ∙ none
+counted-le : (t : ℕ → Bool) (n : ℕ) → counted t n ≤ n
+unfolding counted
+counted-le t zero = omega arith
+counted-le t (suc n) = by (t n) (counted-le t n)
   where
-    none : noRules ≡ gatheredOf [] []
-    none = λ i. record {
-      has = table-is false (replicate 256 false) (hasRule []) (table-start false (hasRule []) (λ k. le-ltb (row [] k) 0 (omega arith))) i;
-      least = table-is 0 (replicate 256 0) (leastOf [] []) (table-start 0 (leastOf [] []) (λ k. rw (le-ltb (row [] k) 0 (omega arith)))) i;
-      rows = table-is 0 (replicate 256 0) (fenceRow []) (table-start 0 (fenceRow []) (λ k. rw (le-ltb (row [] k) 0 (omega arith)))) i;
-      searched = noBytes;
+    by : (y : Bool) → counted t n ≤ n → cond y 1 0 + counted t n ≤ suc n
+    by true h = omega arith
+    by false h = omega arith
+
+-- as many as there are: each passes
+counted-all : (t : ℕ → Bool) (n b : ℕ) → counted t n ≡ n → b < n → t b ≡ true
+unfolding counted
+counted-all t zero b e h = absurd (not-suc-le-zero h)
+counted-all t (suc n) b e h = by (decide (t n)) (decide (ltb b n)) (counted-le t n) (counted-all t n b)
+  where
+    by : (t n ≡ true) ⊎ (t n ≡ false) → (ltb b n ≡ true) ⊎ (ltb b n ≡ false) → counted t n ≤ n → (counted t n ≡ n → b < n → t b ≡ true) → t b ≡ true
+    by (inl u) (inl v) k ih = let z : 1 + counted t n ≡ suc n = rw u at e in ih (omega arith) (ltb-true b n v)
+    by (inl u) (inr v) k ih = let z : b ≡ n = omega (arith, ltb-false b n v) in rw z u
+    by (inr u) v k ih = let z : 0 + counted t n ≡ suc n = rw u at e in absurd (omega arith)
+
+-- one more: b
+module _ (t t′ : ℕ → Bool) (b : ℕ) (before : t b ≡ false) (now : t′ b ≡ true) (others : (x : ℕ) → (x ≡ b → ⊥) → t′ x ≡ t x) where
+  counted-more : (n : ℕ) → counted t′ n ≡ counted t n + cond (ltb b n) 1 0
+  unfolding counted
+  counted-more zero = rw (le-ltb b 0 (omega arith))
+  counted-more (suc n) = by (decide (eqb n b)) (decide (ltb b n)) (counted-more n)
+    where
+      by : (eqb n b ≡ true) ⊎ (eqb n b ≡ false) → (ltb b n ≡ true) ⊎ (ltb b n ≡ false) → counted t′ n ≡ counted t n + cond (ltb b n) 1 0
+          → cond (t′ n) 1 0 + counted t′ n ≡ cond (t n) 1 0 + counted t n + cond (ltb b (suc n)) 1 0
+      by (inl u) v ih =
+          let z : n ≡ b = eqb-true n b u in
+          let w : counted t′ n ≡ counted t n + 0 = rw (le-ltb b n (omega arith)) at ih in
+          rw (ap t′ z ∙ now, ap t z ∙ before, lt-ltb b (suc n) (omega arith)) (omega arith)
+      by (inr u) (inl v) ih =
+          let w : counted t′ n ≡ counted t n + 1 = rw v at ih in
+          rw (others n (eqb-false n b u), lt-ltb b (suc n) (omega (arith, ltb-true b n v))) (omega arith)
+      by (inr u) (inr v) ih =
+          let w : counted t′ n ≡ counted t n + 0 = rw v at ih in
+          let z : suc n ≤ b = by-order (eqb-false n b u) (ltb-false b n v) in
+          rw (others n (eqb-false n b u), le-ltb b (suc n) z) (omega arith)
+        where
+          by-order : (n ≡ b → ⊥) → n ≤ b → suc n ≤ b
+          by-order d l = omega (arith, d)
+
+-- ---- the kept rules of columns: what is asked of rules they say as all do, and each knows its own index
+record Kept (bs ms kb km kp : List ℕ) : Type 0 where
+  mins : length kb ≡ length km
+  places : length kb ≡ length kp
+  one : (x : ℕ) → oneOf kb x ≡ hasRule bs x
+  has : (x : ℕ) → hasRule kb x ≡ hasRule bs x
+  least : (x : ℕ) → leastOf kb km x ≡ leastOf bs ms x
+  own : (x : ℕ) → getD kp (fenceRow kb x) 0 ≡ fenceRow bs x
+  none : getD kp 0 0 ≡ 0
+  search : gainedAll [] kb ≡ gainedAll [] bs
+  few : length kb ≡ counted (oneOf kb) 256
+
+kept-first : Kept [] [] [] [] []
+unfolding oneOf counted
+kept-first = record {
+  mins = refl;
+  places = refl;
+  one = λ x. rw (le-ltb (row [] x) 0 (omega arith));
+  has = λ x. refl;
+  least = λ x. refl;
+  own = λ x. rw (le-ltb (row [] x) 0 (omega arith));
+  none = refl;
+  search = refl;
+  few = refl;
+}
+
+module _ (bs ms kb km kp : List ℕ) (same : length bs ≡ length ms) (w : Kept bs ms kb km kp) (b m : ℕ) where
+  -- a rule whose byte came before
+  kept-again : hasRule bs b ≡ true → Kept (bs ++ (b ∷ [])) (ms ++ (m ∷ [])) kb km kp
+  kept-again e = record {
+    mins = w .mins;
+    places = w .places;
+    one = λ x. w .one x ∙ inv (has-kept bs b x (all x));
+    has = λ x. w .has x ∙ inv (has-kept bs b x (all x));
+    least = λ x. w .least x ∙ inv (least-kept bs b ms m same x (all x));
+    own = λ x. w .own x ∙ inv (row-kept bs b x (all x));
+    none = w .none;
+    search = w .search ∙ inv (gained-more [] bs b ∙ held-same (gainedAll [] bs) b (held-rule bs b e));
+    few = w .few;
+  }
+    where
+      all : (x : ℕ) → Stays bs b x
+      all x = ⊎-elim (λ (u : eqb x b ≡ true). inl (ap (hasRule bs) (eqb-true x b u) ∙ e)) (λ u. inr (eqb-false x b u)) (decide (eqb x b))
+
+  -- a rule with a new byte
+  module _ (e : hasRule bs b ≡ false) where
+    fresh : hasRule kb b ≡ false
+    fresh = w .has b ∙ e
+
+    -- the first rule of the run is kept, at place 0
+    first-own : getD (kp ++ (length bs ∷ [])) 0 0 ≡ 0
+    first-own = by (decide (ltb 0 (length kp))) (decide (ltb 0 (length bs)))
+      where
+        by : (ltb 0 (length kp) ≡ true) ⊎ (ltb 0 (length kp) ≡ false) → (ltb 0 (length bs) ≡ true) ⊎ (ltb 0 (length bs) ≡ false) → getD (kp ++ (length bs ∷ [])) 0 0 ≡ 0
+        by (inl u) v = List·getD-append kp (length bs ∷ []) 0 0 (ltb-true 0 (length kp) u) ∙ w .none
+        by (inr u) (inl v) =
+            let h = ltb-true 0 (length bs) v in
+            let x = getD bs 0 0 in
+            let z : hasRule bs x ≡ true = lt-ltb (row bs x) (length bs) (omega (arith, find-here (is x) bs 0 h (is-yes x x refl))) in
+            absurd (omega (arith, ltb-true (row kb x) (length kb) (w .has x ∙ z), w .places, ltb-false 0 (length kp) u))
+        by (inr u) (inr v) =
+            let l : length kp + 0 ≡ 0 = omega (arith, ltb-false 0 (length kp) u) in
+            let z : length bs ≡ 0 = omega (arith, ltb-false 0 (length bs) v) in
+            ap (λ (k : ℕ). getD (kp ++ (length bs ∷ [])) k 0) (inv l) ∙ getD-append-add kp (length bs ∷ []) 0 0 ∙ z
+
+    -- by cases: the new byte, or another
+    split : (P : ℕ → Type 0) → P b → ((x : ℕ) → (x ≡ b → ⊥) → P x) → (x : ℕ) → P x
+    split P here there x = by (decide (eqb x b))
+      where
+        by : (eqb x b ≡ true) ⊎ (eqb x b ≡ false) → P x
+        by (inl u) = let z : x ≡ b = eqb-true x b u in rw z here
+        by (inr u) = there x (eqb-false x b u)
+
+    one-new : oneOf (kb ++ (b ∷ [])) b ≡ true
+    one-new = one-last kb b
+
+    no-more : (y : Bool) → (y || false) ≡ y
+    no-more true = refl
+    no-more false = refl
+
+    one-other : (x : ℕ) → (x ≡ b → ⊥) → oneOf (kb ++ (b ∷ [])) x ≡ oneOf kb x
+    unfolding oneOf
+    one-other x d = one-append kb (b ∷ []) x ∙ rw (ne-eqb x b d) (no-more (oneOf kb x))
+
+    own-other : (x : ℕ) → (x ≡ b → ⊥) → getD (kp ++ (length bs ∷ [])) (fenceRow (kb ++ (b ∷ [])) x) 0 ≡ fenceRow (bs ++ (b ∷ [])) x
+    own-other x d =
+        ap (λ (k : ℕ). getD (kp ++ (length bs ∷ [])) k 0) (row-kept kb b x (inr d)) ∙ by (decide (hasRule kb x)) ∙ inv (row-kept bs b x (inr d))
+      where
+        by : (hasRule kb x ≡ true) ⊎ (hasRule kb x ≡ false) → getD (kp ++ (length bs ∷ [])) (fenceRow kb x) 0 ≡ fenceRow bs x
+        by (inl u) =
+            let z : fenceRow kb x ≡ row kb x = rw u in
+            List·getD-append kp (length bs ∷ []) 0 (fenceRow kb x) (omega (arith, w .places, z, ltb-true (row kb x) (length kb) u)) ∙ w .own x
+        by (inr u) =
+            let z : fenceRow kb x ≡ 0 = rw u in
+            ap (λ (k : ℕ). getD (kp ++ (length bs ∷ [])) k 0) z ∙ first-own ∙ inv (inv (w .own x) ∙ ap (λ (k : ℕ). getD kp k 0) z ∙ w .none)
+
+    own-new : getD (kp ++ (length bs ∷ [])) (fenceRow (kb ++ (b ∷ [])) b) 0 ≡ fenceRow (bs ++ (b ∷ [])) b
+    own-new =
+        let l : fenceRow (kb ++ (b ∷ [])) b ≡ length kp + 0 = fence-new kb b fresh ∙ w .places ∙ inv (add-zero (length kp)) in
+        ap (λ (k : ℕ). getD (kp ++ (length bs ∷ [])) k 0) l ∙ getD-append-add kp (length bs ∷ []) 0 0 ∙ inv (fence-new bs b e)
+
+    kept-more : b < 256 → Kept (bs ++ (b ∷ [])) (ms ++ (m ∷ [])) (kb ++ (b ∷ [])) (km ++ (m ∷ [])) (kp ++ (length bs ∷ []))
+    kept-more h = record {
+      mins = omega (arith, length-append kb (b ∷ []), length-append km (m ∷ []), w .mins);
+      places = omega (arith, length-append kb (b ∷ []), length-append kp (length bs ∷ []), w .places);
+      one = split (λ x. oneOf (kb ++ (b ∷ [])) x ≡ hasRule (bs ++ (b ∷ [])) x) (one-new ∙ inv (has-new bs b e)) (λ x d. one-other x d ∙ w .one x ∙ inv (has-kept bs b x (inr d)));
+      has = split (λ x. hasRule (kb ++ (b ∷ [])) x ≡ hasRule (bs ++ (b ∷ [])) x) (has-new kb b fresh ∙ inv (has-new bs b e)) (λ x d. has-kept kb b x (inr d) ∙ w .has x ∙ inv (has-kept bs b x (inr d)));
+      least = split (λ x. leastOf (kb ++ (b ∷ [])) (km ++ (m ∷ [])) x ≡ leastOf (bs ++ (b ∷ [])) (ms ++ (m ∷ [])) x) (least-new kb b km m (w .mins) fresh ∙ inv (least-new bs b ms m same e))
+          (λ x d. least-kept kb b km m (w .mins) x (inr d) ∙ w .least x ∙ inv (least-kept bs b ms m same x (inr d)));
+      own = split (λ x. getD (kp ++ (length bs ∷ [])) (fenceRow (kb ++ (b ∷ [])) x) 0 ≡ fenceRow (bs ++ (b ∷ [])) x) own-new own-other;
+      none = first-own;
+      search = gained-more [] kb b ∙ ap (λ (l : List ℕ). gained l b) (w .search) ∙ inv (gained-more [] bs b);
+      few = let z : counted (oneOf (kb ++ (b ∷ []))) 256 ≡ counted (oneOf kb) 256 + 1 = rw (lt-ltb b 256 h) at (counted-more (oneOf kb) (oneOf (kb ++ (b ∷ []))) b (w .one b ∙ e) one-new one-other 256) in
+          omega (arith, length-append kb (b ∷ []), w .few);
     }
 
-module _ (f : Gathered) (rules : List FenceRule) (i : ℕ) (so-far : f ≡ gatheredOf (ruleBytes (take i rules)) (ruleMins (take i rules))) where
-  pub gather-again : (r : FenceRule) (f′ : Gathered) → i < length rules → Gives (getD rules i noRule) r → Gives (withRule f r i) f′ → f′ ≡ gatheredOf (ruleBytes (take (i + 1) rules)) (ruleMins (take (i + 1) rules))
-  gather-again r f′ h g g′ =
-      let bs = ruleBytes (take i rules) in
-      let ms = ruleMins (take i rules) in
-      let n : length (take i rules) ≡ i = length-take-le i rules (omega arith) in
-      let lb : length bs ≡ i = length-map (take i rules) (λ x. x .byte) ∙ n in
-      let lm : length ms ≡ i = length-map (take i rules) (λ x. x .min) ∙ n in
-      let e : take (i + 1) rules ≡ take i rules ++ (r ∷ []) = rw (add-one, g .answer) (take-suc rules i noRule h) in
-      let step : withRule (gatheredOf bs ms) r i ≡ gatheredOf (bs ++ (r .byte ∷ [])) (ms ++ (r .min ∷ [])) = ap (withRule (gatheredOf bs ms) r) (inv lb) ∙ after-rule bs ms (lb ∙ inv lm) r in
-      g′ .answer ∙ ap (λ (z : Gathered). withRule z r i) so-far ∙ step
-      ∙ rw e (λ j. gatheredOf (inv (map-append (λ x. x .byte) (take i rules) (r ∷ [])) j) (inv (map-append (λ x. x .min) (take i rules) (r ∷ [])) j))
+-- 256 places are always enough
+module _ (bs ms kb km kp : List ℕ) (w : Kept bs ms kb km kp) where
+  kept-few : length kb ≤ 256
+  kept-few = omega (arith, w .few, counted-le (oneOf kb) 256)
 
-  pub gather-all : length rules ≤ i → f ≡ gatheredOf (ruleBytes rules) (ruleMins rules)
-  gather-all h = rw (take-all i rules h) at so-far
+  kept-full : (b : ℕ) → 256 ≤ length kb → b < 256 → hasRule bs b ≡ true
+  kept-full b l h = inv (w .one b) ∙ counted-all (oneOf kb) 256 b (omega (arith, w .few, counted-le (oneOf kb) 256)) h
+
+  -- the grammar of all rules is that of the kept ones, each at its own index
+  kept-gram : (g : Grammar) (y t o k n : List ℕ) → gramOf g (columns bs ms y t o k n) ≡ reindexed (λ i. getD kp i 0) (gramOf g (columns kb km y t o k n))
+  unfolding searched
+  kept-gram g y t o k n =
+      ap (λ (z : List ℕ). with z (onByte 0 (fenceRow bs)) (onByte false (hasRule bs)) (onByte 0 (leastOf bs ms))) (ap (λ (z : List ℕ). gainedAll (gainedAll z y) o) (inv (w .search)))
+      ∙ ap (λ (z : ℕ → ℕ). with bytes z (onByte false (hasRule bs)) (onByte 0 (leastOf bs ms))) (fun-ext (λ x. index x (decide (ltb x 256))))
+      ∙ ap (λ (z : ℕ → Bool). with bytes (λ x. getD kp (onByte 0 (fenceRow kb) x) 0) (onByte false z) (onByte 0 (leastOf bs ms))) (fun-ext (λ x. inv (w .has x)))
+      ∙ ap (λ (z : ℕ → ℕ). with bytes (λ x. getD kp (onByte 0 (fenceRow kb) x) 0) (onByte false (hasRule kb)) (onByte 0 z)) (fun-ext (λ x. inv (w .least x)))
+    where
+      bytes : List ℕ
+      bytes = gainedAll (gainedAll (gainedAll [] kb) y) o
+
+      with : List ℕ → (ℕ → ℕ) → (ℕ → Bool) → (ℕ → ℕ) → Gram
+      with l index has least = record { eol = g .eol; escape = g .escape; trigger = oneOf l; rule = onByte plain (ruleOf (columns kb km y t o k n)); fenceIndex = index; fences = reader g has least }
+
+      index : (x : ℕ) → (ltb x 256 ≡ true) ⊎ (ltb x 256 ≡ false) → onByte 0 (fenceRow bs) x ≡ getD kp (onByte 0 (fenceRow kb) x) 0
+      index x (inl u) = rw u (inv (w .own x))
+      index x (inr u) = rw u (inv (w .none))
+
+-- ---- gathering: the arrays and the count are the kept rules' columns
+abbrev packed : List ℕ → List ℕ → List ℕ → ℕ → Gathered
+packed kb km kp l = record { bytes = padded 256 kb; mins = padded 256 km; places = padded 256 kp; count = length kb; last = l }
+
+record Keeps (rules : List FenceRule) (f : Gathered) : Type 0 where
+  kb : List ℕ
+  km : List ℕ
+  kp : List ℕ
+  last : ℕ
+  kept : Kept (ruleBytes rules) (ruleMins rules) kb km kp
+  same : f ≡ packed kb km kp last
+
+pub rules-even : (rules : List FenceRule) → length (ruleBytes rules) ≡ length (ruleMins rules)
+rules-even rules = length-map rules (λ r. r .byte) ∙ inv (length-map rules (λ r. r .min))
+
+keeps-more : (rules : List FenceRule) (f : Gathered) (r : FenceRule) → r .byte < 256 → Keeps rules f → Keeps (rules ++ (r ∷ [])) (withRule f r (length rules))
+unfolding withRule
+keeps-more rules f r h v = by (decide (leb 256 (length (v .kb)))) (decide (oneOf (v .kb) (r .byte)))
+  where
+    few : length (v .kb) ≤ 256
+    few = kept-few (ruleBytes rules) (ruleMins rules) (v .kb) (v .km) (v .kp) (v .kept)
+
+    -- the columns of one rule more
+    longer : {xs ys zs : List ℕ} → Kept (ruleBytes rules ++ (r .byte ∷ [])) (ruleMins rules ++ (r .min ∷ [])) xs ys zs → Kept (ruleBytes (rules ++ (r ∷ []))) (ruleMins (rules ++ (r ∷ []))) xs ys zs
+    longer k = rw (map-append (λ x. x .byte) rules (r ∷ []), map-append (λ x. x .min) rules (r ∷ [])) k
+
+    dropped : unkept (packed (v .kb) (v .km) (v .kp) (v .last)) (r .byte) ≡ true → hasRule (ruleBytes rules) (r .byte) ≡ true → Keeps (rules ++ (r ∷ [])) (withRule f r (length rules))
+    dropped u e = record {
+      kb = v .kb;
+      km = v .km;
+      kp = v .kp;
+      last = length rules;
+      kept = longer (kept-again (ruleBytes rules) (ruleMins rules) (v .kb) (v .km) (v .kp) (rules-even rules) (v .kept) (r .byte) (r .min) e);
+      same = ap (λ (z : Gathered). withRule z r (length rules)) (v .same) ∙ rw u;
+    }
+
+    added : length (v .kb) < 256 → unkept (packed (v .kb) (v .km) (v .kp) (v .last)) (r .byte) ≡ false → hasRule (ruleBytes rules) (r .byte) ≡ false → Keeps (rules ++ (r ∷ [])) (withRule f r (length rules))
+    added l u e =
+        let p = ap (λ (k : ℕ). set (padded 256 (v .km)) k (r .min)) (v .kept .mins) ∙ pad-set 256 (v .km) (r .min) (omega (arith, v .kept .mins)) in
+        let q = ap (λ (k : ℕ). set (padded 256 (v .kp)) k (length rules)) (v .kept .places) ∙ pad-set 256 (v .kp) (length rules) (omega (arith, v .kept .places)) ∙ ap (λ (i : ℕ). padded 256 (v .kp ++ (i ∷ []))) (inv (length-map rules (λ x. x .byte))) in
+        record {
+          kb = v .kb ++ (r .byte ∷ []);
+          km = v .km ++ (r .min ∷ []);
+          kp = v .kp ++ (length (ruleBytes rules) ∷ []);
+          last = length rules;
+          kept = longer (kept-more (ruleBytes rules) (ruleMins rules) (v .kb) (v .km) (v .kp) (rules-even rules) (v .kept) (r .byte) (r .min) e h);
+          same = ap (λ (z : Gathered). withRule z r (length rules)) (v .same) ∙ rw u (λ j. record { bytes = pad-set 256 (v .kb) (r .byte) l j; mins = p j; places = q j; count = inv (length-append (v .kb) (r .byte ∷ [])) j; last = length rules });
+        }
+
+    by : (leb 256 (length (v .kb)) ≡ true) ⊎ (leb 256 (length (v .kb)) ≡ false) → (oneOf (v .kb) (r .byte) ≡ true) ⊎ (oneOf (v .kb) (r .byte) ≡ false) → Keeps (rules ++ (r ∷ [])) (withRule f r (length rules))
+    by (inl u) e = dropped (rw u) (kept-full (ruleBytes rules) (ruleMins rules) (v .kb) (v .km) (v .kp) (v .kept) (r .byte) (leb-true 256 (length (v .kb)) u) h)
+    by (inr u) (inl e) = dropped (rw (u, pad-take 256 (v .kb) few) e) (inv (v .kept .one (r .byte)) ∙ e)
+    by (inr u) (inr e) = added (leb-false 256 (length (v .kb)) u) (rw (u, pad-take 256 (v .kb) few) e) (inv (v .kept .one (r .byte)) ∙ e)
+
+-- one rule more, and the others behind it
+keeps-step : (rules rest : List FenceRule) (r : FenceRule) (f : Gathered) → Keeps ((rules ++ (r ∷ [])) ++ rest) f → Keeps (rules ++ (r ∷ rest)) f
+keeps-step rules rest r f v = subst (λ (l : List FenceRule). Keeps l f) (append-assoc rules (r ∷ []) rest) v
+
+keeps-at : (rules : List FenceRule) (f : Gathered) (r : FenceRule) (i : ℕ) → i ≡ length rules → r .byte < 256 → Keeps rules f → Keeps (rules ++ (r ∷ [])) (withRule f r i)
+keeps-at rules f r i e h v = subst (λ (k : ℕ). Keeps (rules ++ (r ∷ [])) (withRule f r k)) (inv e) (keeps-more rules f r h v)
+
+keeps-all : (rest rules : List FenceRule) (f : Gathered) (i : ℕ) → i ≡ length rules → Keeps rules f → ((j : ℕ) → j < length rest → getD rest j noRule .byte < 256) → Keeps (rules ++ rest) (gatheredFrom f i rest)
+unfolding gatheredFrom
+keeps-all [] rules f i e v h = subst (λ (l : List FenceRule). Keeps l f) (inv (append-nil rules)) v
+keeps-all (r ∷ rest) rules f i e v h =
+    keeps-step rules rest r (gatheredFrom (withRule f r i) (suc i) rest)
+    (keeps-all rest (rules ++ (r ∷ [])) (withRule f r i) (suc i) (omega (arith, length-append rules (r ∷ []))) (keeps-at rules f r i e (h 0 (omega arith)) v) (λ j l. h (suc j) (omega arith)))
+
+-- no rules
+pad-none : (n : ℕ) → replicate n 0 ≡ padded n []
+pad-none zero = refl
+pad-none (suc n) = ap (λ (l : List ℕ). 0 ∷ l) (pad-none n)
+
+pad-at : (n : ℕ) (l : List ℕ) (i : ℕ) → length l ≤ n → getD (padded n l) i 0 ≡ getD l i 0
+pad-at zero [] i h = refl
+pad-at zero (x ∷ l) i h = absurd (not-suc-le-zero h)
+pad-at (suc n) [] zero h = refl
+pad-at (suc n) [] (suc i) h = pad-at n [] i (omega arith)
+pad-at (suc n) (x ∷ l) zero h = refl
+pad-at (suc n) (x ∷ l) (suc i) h = pad-at n l i (omega arith)
+
+keeps-none : Keeps [] noRules
+keeps-none = record { kb = []; km = []; kp = []; last = 0; kept = kept-first; same = λ j. record { bytes = pad-none 256 j; mins = pad-none 256 j; places = pad-none 256 j; count = 0; last = 0 } }
+
+-- ---- the kept rules of a run that was gathered
+module _ (rules : List FenceRule) (f : Gathered) (w : AllGathered rules f) where
+  keeps : Keeps rules f
+  keeps = subst (Keeps rules) (inv (w .answer)) (keeps-all rules [] noRules 0 refl keeps-none (w .small))
+
+  fit : length (keeps .kb) ≤ 256
+  fit = kept-few (ruleBytes rules) (ruleMins rules) (keeps .kb) (keeps .km) (keeps .kp) (keeps .kept)
+
+  bytes-are : keptBytes f ≡ keeps .kb
+  bytes-are = ap keptBytes (keeps .same) ∙ pad-take 256 (keeps .kb) fit
+
+  mins-are : keptMins f ≡ keeps .km
+  mins-are = ap keptMins (keeps .same) ∙ ap (λ (n : ℕ). take n (padded 256 (keeps .km))) (keeps .kept .mins) ∙ pad-take 256 (keeps .km) (omega (arith, fit, keeps .kept .mins))
+
+  places-are : ownPlace f ≡ (λ i. getD (keeps .kp) i 0)
+  places-are = fun-ext (λ i. ap (λ (z : Gathered). ownPlace z i) (keeps .same) ∙ pad-at 256 (keeps .kp) i (omega (arith, fit, keeps .kept .places)))
+
+  pub kept-even : length (keptBytes f) ≡ length (keptMins f)
+  kept-even = ap length bytes-are ∙ keeps .kept .mins ∙ inv (ap length mins-are)
+
+  -- the grammar of the run's columns is that of the kept rules' columns, each kept rule at its own index
+  pub gathered-gram : (g : Grammar) (y t o k n : List ℕ) → gramOf g (columns (ruleBytes rules) (ruleMins rules) y t o k n) ≡ reindexed (ownPlace f) (gramOf g (columns (keptBytes f) (keptMins f) y t o k n))
+  gathered-gram g y t o k n =
+      kept-gram (ruleBytes rules) (ruleMins rules) (keeps .kb) (keeps .km) (keeps .kp) (keeps .kept) g y t o k n
+      ∙ (λ j. reindexed (inv places-are j) (gramOf g (columns (inv bytes-are j) (inv mins-are j) y t o k n)))
+
+pub gathered-unique : {rules : List FenceRule} {f f′ : Gathered} → AllGathered rules f → AllGathered rules f′ → f ≡ f′
+gathered-unique v w = v .answer ∙ inv (w .answer)
+
+pub more-unique : {f : Gathered} {r : FenceRule} {i : ℕ} {a b : Gathered} → OneMore f r i a → OneMore f r i b → a ≡ b
+more-unique v w = v .answer ∙ inv (w .answer)
+
+-- ---- the loop that gathers, at rule i
+pub record Gathering (rules : List FenceRule) (f : Gathered) (i : ℕ) : Type 0 where
+  pub same : gatheredOf rules ≡ gatheredFrom f i (drop i rules)
+  pub small : (j : ℕ) → j < i → getD rules j noRule .byte < 256
+
+pub gather-first : (f : Gathered) (rules : List FenceRule) → Gives noRules f → Gathering rules f 0
+gather-first f rules g = record { same = ap (λ (z : Gathered). gatheredFrom z 0 rules) (inv (g .answer)); small = λ j l. absurd (not-suc-le-zero l) }
+
+module _ (f : Gathered) (rules : List FenceRule) (i : ℕ) (so-far : Gathering rules f i) where
+  pub gather-again : (r : FenceRule) (f′ : Gathered) → i < length rules → Gives (getD rules i noRule) r → OneMore f r i f′ → Gathering rules f′ (i + 1)
+  unfolding gatheredFrom
+  gather-again r f′ h g m = record {
+    same = so-far .same ∙ ap (gatheredFrom f i) (drop-cons rules i noRule h) ∙ ap (λ (z : Gathered). gatheredFrom z (suc i) (drop (suc i) rules)) (ap (λ (x : FenceRule). withRule f x i) (inv (g .answer)) ∙ inv (m .answer)) ∙ rw add-one;
+    small = λ j l. by j l (decide (ltb j i));
+  }
+    where
+      by : (j : ℕ) → j < i + 1 → (ltb j i ≡ true) ⊎ (ltb j i ≡ false) → getD rules j noRule .byte < 256
+      by j l (inl u) = so-far .small j (ltb-true j i u)
+      by j l (inr u) = let z : j ≡ i = omega (arith, ltb-false j i u) in rw (z, ← (g .answer)) (m .small)
+
+  pub gather-all : length rules ≤ i → AllGathered rules f
+  unfolding gatheredFrom
+  gather-all h = record { answer = inv (so-far .same ∙ ap (gatheredFrom f i) (drop-of-length-le rules h)); small = λ j l. so-far .small j (omega arith) }
+
+-- ---- the first rules of a column
+-- the first n of k, where n may be more
+pub take-few : {A : Type 0} (l : List A) (n k m : ℕ) → length l ≡ k → Gives (min n k) m → take m l ≡ take n l
+take-few l n k m e g = by (decide (ltb n k))
+  where
+    by : (ltb n k ≡ true) ⊎ (ltb n k ≡ false) → take m l ≡ take n l
+    by (inl u) = let h = ltb-true n k u in let z : m ≡ n = omega (arith, g .answer) in rw z
+    by (inr u) = let h = ltb-false n k u in take-all m l (omega (arith, g .answer)) ∙ inv (take-all n l (omega arith))
+
+-- a part from place 0 on
+pub take-front : {A : Type 0} (l : List A) (n m : ℕ) → Gives (min n (length l)) m → take (m - 0) (drop 0 l) ≡ take n l
+take-front l n m g = let z : m - 0 ≡ m = omega arith in rw z (take-few l n (length l) m refl g)

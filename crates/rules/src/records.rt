@@ -1,11 +1,9 @@
-// Fence rules as records: gathered by byte.
-use crate::search_bytes::SearchBytes;
-use common::sets::accepts;
-use common::sets::index;
+// Fence rules as records: gathered into columns.
+use find::is_one_of;
 ghost use Prim.Native.Nat.{_<_};
 ghost use lib.ListN.{length, getD};
 ghost use Rattle.search.specs.Promise.{Gives};
-ghost use Rattle.rules.specs.Records.{noRule, noRules, withRule, ruleBytes, ruleMins, gatheredOf};
+ghost use Rattle.rules.specs.Records.{noRule, noRules, OneMore, AllGathered};
 
 // A fence's byte, and the least length of its run.
 #[repr(C)]
@@ -14,13 +12,14 @@ pub struct FenceRule {
     pub min: u8,
 }
 
-// What a builder asks of fence rules, by byte: whether there is one, the minimum and the index of the first; and the bytes that they
-// search for.
+// Fence rules as columns: the bytes and the minimums of the `count` first, each of which has another byte, and the index that each had in
+// its run; and the index of the run's last rule, kept or not, 0 for none.
 pub struct Gathered {
-    pub has: [bool; 256],
-    pub least: [u8; 256],
-    pub rows: [usize; 256],
-    pub searched: SearchBytes,
+    pub bytes: [u8; 256],
+    pub mins: [u8; 256],
+    pub places: [usize; 256],
+    pub count: usize,
+    pub last: usize,
 }
 
 impl Gathered {
@@ -28,30 +27,34 @@ impl Gathered {
         ensures { λ r. ⌜ Gives noRules r ⌝ }
     {
         Gathered {
-            has: [false; 256],
-            least: [0u8; 256],
-            rows: [0usize; 256],
-            searched: SearchBytes::new(),
+            bytes: [0u8; 256],
+            mins: [0u8; 256],
+            places: [0usize; 256],
+            count: 0,
+            last: 0,
         }
     }
 
-    // One rule more, whose index is `row`. A rule whose byte came before is never used.
+    // One rule more, whose index is `row`. A rule whose byte came before is never used and isn't kept, so that 256 places are enough for
+    // every run.
     pub fn with(self, rule: FenceRule, row: usize) -> Self
-        ensures { λ r. ⌜ Gives (withRule self rule row) r ⌝ }
+        ensures { λ r. ⌜ OneMore self rule row r ⌝ }
     {
         let b = rule.byte;
-        let has = self.has;
-        if accepts(&has, b) {
-            return self;
-        }
-        let before = self.searched;
-        let searched = before.with(b);
-        let i = index(b);
+        let n = self.count;
         let mut more = self;
-        more.has[i] = true;
-        more.least[i] = rule.min;
-        more.rows[i] = row;
-        more.searched = searched;
+        more.last = row;
+        if 256 <= n {
+            return more;
+        }
+        let bytes = self.bytes;
+        if is_one_of(&bytes, n, b) {
+            return more;
+        }
+        more.bytes[n] = b;
+        more.mins[n] = rule.min;
+        more.places[n] = row;
+        more.count = n + 1;
         more
     }
 }
@@ -66,7 +69,7 @@ fn rule_at(rules: &[FenceRule], i: usize) -> FenceRule
 
 // The whole run, gathered, each rule at its own index.
 pub fn gather(rules: &[FenceRule]) -> Gathered
-    ensures { λ r. ⌜ Gives (gatheredOf (ruleBytes (now (rules .entry))) (ruleMins (now (rules .entry)))) r ⌝ }
+    ensures { λ r. ⌜ AllGathered (now (rules .entry)) r ⌝ }
 {
     let mut all = Gathered::new();
     let mut i: usize = 0;

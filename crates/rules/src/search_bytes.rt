@@ -2,7 +2,7 @@
 use common::grammar::Grammar;
 use find::is_one_of;
 ghost use Rattle.search.specs.Promise.{Gives};
-ghost use Rattle.rules.specs.Columns.{noBytes, withByte, gathered, searchBytes};
+ghost use Rattle.rules.specs.Columns.{noBytes, withByte, gathered, searchBytes, alphabetOf};
 
 pub struct SearchBytes {
     pub bytes: [u8; Grammar::MAX_NEEDLES],
@@ -59,4 +59,22 @@ pub fn search_bytes(fences: &[u8], symmetric: &[u8], openers: &[u8]) -> SearchBy
         .gather(fences)
         .gather(symmetric)
         .gather(openers)
+}
+
+// The bytes that a scan for regions goes by: the grammar's, and those searched for.
+pub struct Alphabet {
+    pub grammar: Grammar,
+    pub searched: SearchBytes,
+}
+
+impl Alphabet {
+    // By rules given as columns.
+    pub fn of(grammar: Grammar, fences: &[u8], symmetric: &[u8], openers: &[u8]) -> Self
+        ensures { λ r. ⌜ Gives (alphabetOf grammar (now (fences .entry)) (now (symmetric .entry)) (now (openers .entry))) r ⌝ }
+    {
+        Alphabet {
+            grammar,
+            searched: search_bytes(fences, symmetric, openers),
+        }
+    }
 }

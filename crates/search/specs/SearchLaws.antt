@@ -7,10 +7,10 @@ use Prim.Native.Nat.{ℕ, zero, suc, _+_, _-_, _≤_, _<_, min, max}
 use native.Mathlib.Nat.{not-suc-le-zero, add-zero, add-suc}
 use native.Mathlib.Numerals.{add-one, sub-one}
 use native.Mathlib.Omega.{arith}
-use lib.Dec.{eqb, ltb}
+use lib.Dec.{eqb, ltb, leb}
 use lib.ListN.{length, getD, take, drop, length-append, length-take, drop-of-length-le, List·getD-append, List·getD-eq-default}
 use lib.Seq.{getD-append-add, drop-cons, getD-take}
-use borrow.Author.Tests.{eq-eqb, ne-eqb, eqb-true, eqb-false, lt-ltb, le-ltb, ltb-true, ltb-false}
+use borrow.Author.Tests.{eq-eqb, ne-eqb, eqb-true, eqb-false, lt-ltb, le-ltb, ltb-true, ltb-false, le-leb, lt-leb}
 use Rattle.search.specs.Promise.{Gives}
 use Rattle.search.specs.Search.{is, either, oneOf, other, holds, firstOf, firstPlace, find, Sought, back, lineStart, lineEnd, nextLine}
 
@@ -457,12 +457,35 @@ pub ruleset told-rules = (seeks-first, seeks-told-again, seeks-told-found, seeks
 
 pub ruleset seek-rules = (seeks-first, seeks-again, seeks-found, seeks-end, byte-rules)
 
+-- ---- a search that stops at `end`: before it the text ends, or a byte passes the test; or none does
+module _ (t : ℕ → Bool) (s : List ℕ) (from i end : ℕ) (w : Seeks t s from i) where
+  stops : i < end → find t s i ≡ i → (i ≡ min (find t s from) end) × (false ≡ leb end (find t s from))
+  stops l e = (omega (arith, w .same), sym (lt-leb end (find t s from) (omega (arith, w .same))))
+
+  pub within-out : i < end → length s ≤ i → i ≡ min (find t s from) end
+  within-out l h = stops l (find-end t s i h) .0
+
+  pub within-found : i < end → i < length s → t (getD s i 0) ≡ true → i ≡ min (find t s from) end
+  within-found l h e = stops l (find-here t s i h e) .0
+
+  pub within-end : end ≤ i → end ≡ min (find t s from) end
+  within-end l = omega (arith, w .same, find-ge t s i)
+
+  pub all-out : i < end → length s ≤ i → false ≡ leb end (find t s from)
+  all-out l h = stops l (find-end t s i h) .1
+
+  pub all-end : end ≤ i → true ≡ leb end (find t s from)
+  all-end l = sym (le-leb end (find t s from) (omega (arith, w .same, find-ge t s i)))
+
+pub all-found : (t : ℕ → Bool) (s : List ℕ) (from i end : ℕ) → Seeks (other t) s from i → i < end → i < length s → (y : Bool) → y ≡ false → Gives (t (getD s i 0)) y → false ≡ leb end (find (other t) s from)
+all-found t s from i end w l h y e says = stops (other t) s from i end w l (find-here (other t) s i h (other-yes t (getD s i 0) (sym (says .answer) ∙ e))) .1
+
 -- ---- runs back
-back-suc-true : (t : ℕ → Bool) (s : List ℕ) (k : ℕ) → holds t s k ≡ true → back t s (suc k) ≡ suc (back t s k)
+pub back-suc-true : (t : ℕ → Bool) (s : List ℕ) (k : ℕ) → holds t s k ≡ true → back t s (suc k) ≡ suc (back t s k)
 unfolding back
 back-suc-true t s k e = rw (e, back)
 
-back-suc-false : (t : ℕ → Bool) (s : List ℕ) (k : ℕ) → holds t s k ≡ false → back t s (suc k) ≡ 0
+pub back-suc-false : (t : ℕ → Bool) (s : List ℕ) (k : ℕ) → holds t s k ≡ false → back t s (suc k) ≡ 0
 unfolding back
 back-suc-false t s k e = rw (e, back)
 

@@ -1,9 +1,10 @@
 // Runs of a byte and of blanks, forward and back, and lines. They take any text and any place, and refuse nothing: from a place past the
 // text each answers that place.
 ghost use Prim.Native.Nat.{_+_, _<_, min};
+ghost use lib.Dec.{leb};
 ghost use lib.ListN.{getD};
 ghost use Rattle.search.specs.Promise.{Gives};
-ghost use Rattle.search.specs.Search.{Sought, is, either, other, holds, back, lineStart, nextLine};
+ghost use Rattle.search.specs.Search.{Sought, find, is, either, other, holds, back, lineStart, nextLine};
 
 // The end of the run of `b` that begins at `from`: the first byte that is another, else the length.
 pub fn run_end(src: &[u8], from: usize, b: u8) -> usize
@@ -17,6 +18,23 @@ pub fn run_end(src: &[u8], from: usize, b: u8) -> usize
         i += 1;
     }
     i
+}
+
+// The same within a stretch that ends at `end`: the walk goes no further, so that what stands behind is not walked for every stretch.
+pub fn run_within(src: &[u8], from: usize, end: usize, b: u8) -> usize
+    ensures { λ r. ⌜ Gives (min (find (other (is b)) (now (src .entry)) from) end) r ⌝ }
+{
+    let mut i = from;
+    while i < end {
+        if i >= src.len() {
+            return i;
+        }
+        if src[i] != b {
+            return i;
+        }
+        i += 1;
+    }
+    end
 }
 
 // Whether a byte is a separator or a tab.
@@ -42,6 +60,24 @@ pub fn blank_end(src: &[u8], from: usize, sep: u8, tab: u8) -> usize
         }
     }
     i
+}
+
+// Whether only separators and tabs stand from `from` up to `end`, which is within the text. The walk goes no further.
+pub fn blank_within(src: &[u8], from: usize, end: usize, sep: u8, tab: u8) -> bool
+    ensures { λ r. ⌜ Gives (leb end (find (other (either sep tab)) (now (src .entry)) from)) r ⌝ }
+{
+    let mut i = from;
+    while i < end {
+        if i >= src.len() {
+            return false;
+        }
+        if is_blank(src[i], sep, tab) {
+            i += 1;
+        } else {
+            return false;
+        }
+    }
+    true
 }
 
 // The length of the run of `b` that ends just before `pos`; before a place past the text there is none.

@@ -3,3 +3,4 @@ pub mod Parts
 pub mod ShowLaws
 pub mod RunLaws
 pub mod SheetLaws
+pub mod PageSheet

@@ -5,7 +5,7 @@ use mathlib.Core.Bool.{Bool, true, false, cond}
 use mathlib.Core.List.{List, [], _∷_, map}
 use Prim.Native.Nat.{ℕ, _+_, _*_, _≤_, _<_}
 use lib.ListN.{length}
-use Rattle.common.specs.Entry.{flatten, rows, room, Shaped, over, putAt}
+use Rattle.common.specs.Entry.{flatten, rows, room, Shaped, over, putAt, wide}
 use Rattle.common.specs.Refusals.{Outcome, given, refuse}
 use Rattle.common.specs.declared.refusal.Found.{Found}
 use Rattle.common.specs.declared.refusal.Found.the-variants as found
@@ -28,9 +28,9 @@ pub record Put (n : ℕ) (i : SheetItem) (out out′ : List ℕ) (r : ℕ) : Typ
 -- ---- with the list
 -- a list with its first n regions in order
 pub record Orderly (l : List ℕ) (n : ℕ) : Type 0 where
-  pub fits : n ≤ room 2 l
+  pub fits : n ≤ room wide l
   pub len : ℕ
-  pub order : Shaped 0 len (rows 2 n l)
+  pub order : Shaped 0 len (rows wide n l)
 
 -- whether a query found a region
 abbrev pub isAt : Found → Bool
@@ -40,8 +40,8 @@ isAt (found.Refused r) = false
 
 -- whether a place is inside a region, and an index for the places from there on
 pub record Hid (l : List ℕ) (n place : ℕ) (q : Query) : Type 0 where
-  pub hidden : q .hidden ≡ inside (rows 2 n l) place
-  pub ended : Ended 2 l n (q .index) place
+  pub hidden : q .hidden ≡ inside (rows wide n l) place
+  pub ended : Ended wide l n (q .index) place
 
 -- what a turn tells, and the items behind it
 abbrev pub seenThen : Seen → List SheetItem → List SheetItem
@@ -58,14 +58,14 @@ Beyond seen.End P = Unit {0}
 module _ (markers delims : List Bool) (l : List ℕ) (n : ℕ) (s : List ℕ) where
   -- the items ahead that no region hides
   unfoldable pub left : Walk → List SheetItem
-  left w = outside (rows 2 n l) (ahead markers delims s (w .feed))
+  left w = outside (rows wide n l) (ahead markers delims s (w .feed))
 
   -- scanners and a cursor that may go on: no place ahead is before the last one that was asked for
   pub record Ready (w : Walk) : Type 0 where
     pub within : Within (w .feed) (length s)
     pub orderly : Orderly l n
     pub low : ℕ
-    pub ended : Ended 2 l n (w .index) low
+    pub ended : Ended wide l n (w .index) low
     pub rising : Rising low (map placeOf (ahead markers delims s (w .feed)))
     pub few : length (ahead markers delims s (w .feed)) ≤ 4294967295
 

@@ -7,7 +7,7 @@ use mathlib.Core.List.{List, [], _∷_}
 use Prim.Native.Nat.{ℕ}
 use lib.Dec.{ltb}
 use lib.ListN.{length}
-use Rattle.common.specs.Entry.{flatten, rows, room, over}
+use Rattle.common.specs.Entry.{flatten, rows, room, over, wide}
 use Rattle.common.specs.Refusals.{Outcome, given, refuse, tooLong}
 use Rattle.common.specs.declared.grammar.Grammar.{Grammar}
 use Rattle.feed.specs.Items.{markItems, numberedItems, merge, placeOf}
@@ -34,7 +34,7 @@ outside regions (i ∷ l) = elim (inside regions (placeOf i)) [ true ↦ outside
 -- ---- the sheet
 -- "The work sheet takes a text, the grammar bytes, the marker and delimiter sets and a list": s, g, the sets, and the n regions of l
 unfoldable pub sheetOf : Grammar → List Bool → List Bool → List ℕ → ℕ → List ℕ → List SheetItem
-sheetOf g markers delims l n s = outside (rows 2 n l) (merge (markItems g markers s) (numberedItems g delims s))
+sheetOf g markers delims l n s = outside (rows wide n l) (merge (markItems g markers s) (numberedItems g delims s))
 
 -- 3: "the answer has more regions, or items, than there is room for"; "Its room is a fifth of the run, rounded down."
 abbrev pub full : List SheetItem → List ℕ → Bool

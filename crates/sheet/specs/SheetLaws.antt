@@ -10,7 +10,7 @@ use borrow.Author.Tests.{lt-ltb, le-ltb}
 use Rattle.search.specs.Promise.{Gives}
 use Rattle.common.specs.Refusals.{Outcome, given, refused, told}
 use Rattle.common.specs.RefusalLaws.{answer-unique}
-use Rattle.common.specs.Entry.{flatten, rows, room, Written}
+use Rattle.common.specs.Entry.{flatten, rows, room, Written, wide}
 use Rattle.common.specs.EntryLaws.{length-flatten, room-fits, written-none, written-size, written-room, written-put, written-all}
 use Rattle.common.specs.declared.refusal.Answer.{Answer}
 use Rattle.common.specs.declared.grammar.Grammar.{Grammar}
@@ -49,7 +49,7 @@ module _ (markers delims : List Bool) (l : List ℕ) (n : ℕ) (s : List ℕ) wh
   module _ (f : Walk) (r : Ready markers delims l n s f) where
     pub tally-first : Tallied (left markers delims l n s f) f 0
     unfolding left
-    tally-first = record { ready = r; count = omega arith; few = omega (arith, r .few, outside-few (rows 2 n l) (ahead markers delims s (f .feed))) }
+    tally-first = record { ready = r; count = omega arith; few = omega (arith, r .few, outside-few (rows wide n l) (ahead markers delims s (f .feed))) }
 
     pub write-first : (out : List ℕ) → length (left markers delims l n s f) ≤ room 5 out → Writing (left markers delims l n s f) out f out 0
     write-first out h = record { ready = r; wrote = written-none (omega (arith, room-fits 5 (length (left markers delims l n s f)) out h, length-flatten five 5 five-numbers (left markers delims l n s f))) }
@@ -115,7 +115,7 @@ module _ (g : Grammar) (markers delims : List Bool) (l : List ℕ) (n : ℕ) (s 
 
   started-left : left markers delims l n s (record { feed = a; index = 0 }) ≡ sheetOf g markers delims l n s
   unfolding left sheetOf
-  started-left = ap (outside (rows 2 n l)) (w .same)
+  started-left = ap (outside (rows wide n l)) (w .same)
 
   pub started-ready : misshapen l n (length s) ≡ false → Ready markers delims l n s (record { feed = a; index = 0 })
   started-ready m = record {
@@ -129,7 +129,7 @@ module _ (g : Grammar) (markers delims : List Bool) (l : List ℕ) (n : ℕ) (s 
 
   sheet-few : length (left markers delims l n s (record { feed = a; index = 0 })) ≤ length s
   unfolding left
-  sheet-few = omega (arith, outside-few (rows 2 n l) (ahead markers delims s a), ap length (w .same), items-few g markers delims s)
+  sheet-few = omega (arith, outside-few (rows wide n l) (ahead markers delims s a), ap length (w .same), items-few g markers delims s)
 
   module _ (out : List ℕ) (most : ℕ) (hm : most ≡ length out / 5) where
     -- there is room

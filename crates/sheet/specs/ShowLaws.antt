@@ -9,7 +9,7 @@ use lib.ListN.{length}
 use Rattle.search.specs.Promise.{Gives, Steps}
 use Rattle.search.specs.SearchLaws.{decide}
 use Rattle.common.specs.Refusals.{Outcome, toldFound}
-use Rattle.common.specs.Entry.{rows}
+use Rattle.common.specs.Entry.{rows, wide}
 use Rattle.common.specs.declared.refusal.Found.{Found}
 use Rattle.common.specs.declared.refusal.Found.the-variants as found
 use Rattle.cover.specs.Cursor.{coverAnswer, coverNext, covers, coverage, Rising, Ended}
@@ -50,12 +50,12 @@ at-some found.Nothing = refl
 at-some (found.Refused r) = refl
 
 -- the cursor's answer is plain coverage
-pub hid : (l : List ℕ) (n index place p : ℕ) (c : Cover) (b : Bool) → Orderly l n → Ended 2 l n index place → Gives place p → Steps (coverAnswer 2 l n index p) (coverNext 2 l n index p) (toldFound (c .found)) (c .index) → Gives (isAt (c .found)) b
+pub hid : (l : List ℕ) (n index place p : ℕ) (c : Cover) (b : Bool) → Orderly l n → Ended wide l n index place → Gives place p → Steps (coverAnswer wide l n index p) (coverNext wide l n index p) (toldFound (c .found)) (c .index) → Gives (isAt (c .found)) b
     → Hid l n place (record { hidden = b; index = c .index })
 hid l n index place p c b o e gp q g =
-    let w = query-ended 2 (omega arith) l n 0 (o .len) (o .order) (o .fits) e (subst (λ (k : ℕ). Steps (coverAnswer 2 l n index k) (coverNext 2 l n index k) (toldFound (c .found)) (c .index)) (gp .answer) q) in
+    let w = query-ended wide (omega arith) l n 0 (o .len) (o .order) (o .fits) e (subst (λ (k : ℕ). Steps (coverAnswer wide l n index k) (coverNext wide l n index k) (toldFound (c .found)) (c .index)) (gp .answer) q) in
     record {
-      hidden = g .answer ∙ at-some (c .found) ∙ ap (λ (r : Outcome). some (r .values)) (w .0) ∙ covered place (rows 2 n l);
+      hidden = g .answer ∙ at-some (c .found) ∙ ap (λ (r : Outcome). some (r .values)) (w .0) ∙ covered place (rows wide n l);
       ended = w .1;
     }
 
@@ -73,7 +73,7 @@ module _ (markers delims : List Bool) (l : List ℕ) (n : ℕ) (s : List ℕ) (f
   unfolding left outside
   turned-end k e g r =
       let z : ahead markers delims s (f .feed) ≡ [] = took markers delims s (f .feed) t g (r .within) .same ∙ rw e in
-      record { same = ap (outside (rows 2 n l)) z; goes = tt }
+      record { same = ap (outside (rows wide n l)) z; goes = tt }
 
   module _ (i : SheetItem) (e : t .head ≡ head.Item i) (g : Gives (taken markers delims s (f .feed)) t) (r : Ready markers delims l n s f) where
     w : Took markers delims s (f .feed) t
@@ -86,7 +86,7 @@ module _ (markers delims : List Bool) (l : List ℕ) (n : ℕ) (s : List ℕ) (f
     rises = subst (λ (k : List SheetItem). Rising (r .low) (map placeOf k)) next (r .rising)
 
     -- the item's place is not before the last one
-    pub item-ended : Ended 2 l n (f .index) (placeOf i)
+    pub item-ended : Ended wide l n (f .index) (placeOf i)
     item-ended = record { within = r .ended .within; before = λ j h. omega (arith, r .ended .before j h, rises .0) }
 
     module _ (q : Query) (h : Hid l n (placeOf i) q) where
@@ -106,8 +106,8 @@ module _ (markers delims : List Bool) (l : List ℕ) (n : ℕ) (s : List ℕ) (f
 
       pub turned-hidden : q .hidden ≡ true → Turned markers delims l n s f (record { seen = seen.Hidden; rest = record { feed = t .rest; index = q .index } })
       unfolding left
-      turned-hidden u = record { same = ap (outside (rows 2 n l)) next ∙ outside-hidden (rows 2 n l) i (ahead markers delims s (t .rest)) (sym (h .hidden) ∙ u); goes = goes-on }
+      turned-hidden u = record { same = ap (outside (rows wide n l)) next ∙ outside-hidden (rows wide n l) i (ahead markers delims s (t .rest)) (sym (h .hidden) ∙ u); goes = goes-on }
 
       pub turned-shown : q .hidden ≡ false → Turned markers delims l n s f (record { seen = seen.Shown i; rest = record { feed = t .rest; index = q .index } })
       unfolding left
-      turned-shown u = record { same = ap (outside (rows 2 n l)) next ∙ outside-shown (rows 2 n l) i (ahead markers delims s (t .rest)) (sym (h .hidden) ∙ u); goes = goes-on }
+      turned-shown u = record { same = ap (outside (rows wide n l)) next ∙ outside-shown (rows wide n l) i (ahead markers delims s (t .rest)) (sym (h .hidden) ∙ u); goes = goes-on }

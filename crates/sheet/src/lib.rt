@@ -22,7 +22,7 @@ ghost use mathlib.Core.Bool.{false};
 ghost use Prim.Native.Nat.{_≤_};
 ghost use lib.ListN.{length};
 ghost use Rattle.search.specs.Promise.{Gives};
-ghost use Rattle.common.specs.Entry.{room};
+ghost use Rattle.common.specs.Entry.{room, wide};
 ghost use Rattle.common.specs.Refusals.{told};
 ghost use Rattle.cover.specs.Cursor.{Ended};
 ghost use Rattle.cover.specs.Shape.{misshapen};
@@ -62,7 +62,7 @@ fn is_at(found: Found) -> bool
 // Whether a region hides the item. The items come by rising places, so that the cursor's answer is plain coverage.
 fn hides(list: &[u32], count: usize, index: usize, item: SheetItem) -> Query
     requires { ⌜ Orderly (now list) count ⌝ }
-    requires { ⌜ Ended 2 (now list) count index (placeOf item) ⌝ }
+    requires { ⌜ Ended wide (now list) count index (placeOf item) ⌝ }
     ensures { λ r. ⌜ Hid (now (list .entry)) count (placeOf item) r ⌝ }
 {
     let cover = covering_end(list, count, index, place_of(item));
@@ -126,7 +126,9 @@ fn count_items(
     count: usize,
 ) -> usize
     requires { ⌜ Ready (now markers) (now delims) (now list) count (now src) walk ⌝ }
-    ensures { λ r. ⌜ Gives (length (left (now (markers .entry)) (now (delims .entry)) (now (list .entry)) count (now (src .entry)) walk)) r ⌝ }
+    ensures { λ r. ⌜
+        Gives (length (left (now (markers .entry)) (now (delims .entry)) (now (list .entry)) count (now (src .entry)) walk)) r
+        ⌝ }
 {
     let mut w = walk;
     let mut n: usize = 0;
@@ -161,7 +163,10 @@ fn write_items(
 ) -> usize
     requires { ⌜ Ready (now markers) (now delims) (now list) count (now src) walk ⌝ }
     requires { ⌜ length (left (now markers) (now delims) (now list) count (now src) walk) ≤ room 5 (now out) ⌝ }
-    ensures { λ r. ⌜ Wrote (left (now (markers .entry)) (now (delims .entry)) (now (list .entry)) count (now (src .entry)) walk) (now (out .entry)) (now (out .exit)) r ⌝ }
+    ensures { λ r. ⌜
+        Wrote (left (now (markers .entry)) (now (delims .entry)) (now (list .entry)) count (now (src .entry)) walk)
+        (now (out .entry)) (now (out .exit)) r
+        ⌝ }
 {
     let mut w = walk;
     let mut n: usize = 0;
@@ -198,7 +203,10 @@ fn fill(
 ) -> Answer
     requires { ⌜ length (now src) ≤ 4294967295 ⌝ }
     requires { ⌜ misshapen (now list) count (length (now src)) ≡ false ⌝ }
-    ensures { λ r. ⌜ Filled (sheetOf g (now (markers .entry)) (now (delims .entry)) (now (list .entry)) count (now (src .entry))) (now (out .entry)) (now (out .exit)) (told r) ⌝ }
+    ensures { λ r. ⌜
+        Filled (sheetOf g (now (markers .entry)) (now (delims .entry)) (now (list .entry)) count (now (src .entry)))
+        (now (out .entry)) (now (out .exit)) (told r)
+        ⌝ }
 {
     let most = out.len() / 5;
     let walk = Walk {
@@ -228,7 +236,10 @@ pub fn sheet(
     count: usize,
     out: &mut [u32],
 ) -> Answer
-    ensures { λ r. ⌜ Sheeted g (now (markers .entry)) (now (delims .entry)) (now (list .entry)) count (now (src .entry)) (now (out .entry)) (now (out .exit)) (told r) ⌝ }
+    ensures { λ r. ⌜
+        Sheeted g (now (markers .entry)) (now (delims .entry)) (now (list .entry)) count (now (src .entry)) (now (out .entry))
+        (now (out .exit)) (told r)
+        ⌝ }
 {
     if src.len() > MAX_INPUT_LEN {
         return Answer::Refused(Refusal::TextTooLong);

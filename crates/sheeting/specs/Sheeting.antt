@@ -10,7 +10,7 @@ use Rattle.common.specs.Entry.{flatten}
 use Rattle.common.specs.Refusals.{differ}
 use Rattle.common.specs.Sets.{setOf}
 use Rattle.common.specs.declared.grammar.Grammar.{Grammar}
-use Rattle.region.specs.Region.{Caused, pair}
+use Rattle.region.specs.Region.{Caused, rowOf}
 use Rattle.rules.specs.Grammar.{Gram}
 use Rattle.region.specs.Regions.{regions}
 use Rattle.cover.specs.Cursor.{Rising}
@@ -23,6 +23,7 @@ use Rattle.cells.specs.Bytes.{four}
 use Rattle.cells.specs.Reply.{Laid}
 use Rattle.cells.specs.Poured.{PouredAs, BuiltAs, builtBy}
 use Rattle.cells.specs.ByteRules.{uneven}
+use Rattle.region.specs.MemoryLaws.{Sound}
 use Rattle.sheeting.specs.Hiding.{Stands}
 use Rattle.sheeting.specs.declared.Walk.{Walk}
 use Rattle.sheeting.specs.declared.Step.{Step}
@@ -33,7 +34,7 @@ itemBytes i = flatten four (five i)
 
 -- "The work sheet takes a text, the grammar bytes, the marker and delimiter sets and a list": the list as building writes it, region by region
 abbrev pub sheetWith : Grammar → List Bool → List Bool → List Caused → List ℕ → List SheetItem
-sheetWith g markers delims l s = sheetOf g markers delims (flatten pair l) (length l) s
+sheetWith g markers delims l s = sheetOf g markers delims (flatten rowOf l) (length l) s
 
 -- a sheet that is past the refusals of text and rules
 abbrev pub SheetPoured : List SheetItem → List ℕ → List ℕ → List ℕ → List ℕ → ℕ → Type 0
@@ -54,7 +55,7 @@ pub record Put (n : ℕ) (i : SheetItem) (out out′ : List ℕ) (r : ℕ) : Typ
 module _ (g : Gram) (markers delims : List Bool) (s : List ℕ) where
   -- the items ahead that no region of the text hides
   unfoldable pub left : Walk → List SheetItem
-  left w = outside (map pair (regions g s)) (ahead markers delims s (w .feed))
+  left w = outside (map rowOf (regions g s)) (ahead markers delims s (w .feed))
 
   -- scanners and a region that may go on: no place ahead is before the last one that was asked for
   pub record Ready (w : Walk) : Type 0 where
@@ -68,3 +69,8 @@ module _ (g : Gram) (markers delims : List Bool) (s : List ℕ) where
   pub record Turned (w : Walk) (t : Step) : Type 0 where
     pub same : left w ≡ seenThen (t .seen) (left (t .rest))
     pub goes : Beyond (t .seen) (Ready (t .rest) × (length (ahead markers delims s (t .rest .feed)) < length (ahead markers delims s (w .feed))))
+
+  -- the same with a memory that tells the truth from where the scan of regions goes on
+  pub record TurnedBy (m : List ℕ) (w : Walk) (t : Step) : Type 0 where
+    pub turned : Turned w t
+    pub sound : Sound g s m (t .rest .hider .next)

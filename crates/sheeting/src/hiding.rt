@@ -1,13 +1,15 @@
 // The regions of a text as they come, to tell what they hide. The scan goes forward together with the places that are asked for, so that
 // the text is passed once and no list of regions is kept.
-use common::grammar::Grammar;
 use region::Next;
 use region::next_region;
+use rules::rows::Rows;
+use rules::search_bytes::Alphabet;
 ghost use mathlib.Core.List.{[], _∷_};
 ghost use Rattle.search.specs.Promise.{Gives};
 ghost use Rattle.cover.specs.Cursor.{covers};
-ghost use Rattle.rules.specs.Tables.{gramBy};
-ghost use Rattle.sheeting.specs.Hiding.{Stands, Passed};
+ghost use Rattle.rules.specs.Rows.{gramBy};
+ghost use Rattle.region.specs.MemoryLaws.{Sound};
+ghost use Rattle.sheeting.specs.Hiding.{Stands, Moved};
 
 // The region that may hide the next place, and where the scan goes on after it. One that ends where it starts hides nothing.
 pub(crate) struct Hider {
@@ -22,39 +24,23 @@ pub(crate) fn pass(
     hider: Hider,
     place: usize,
     text: &[u8],
-    g: Grammar,
-    needles: &[u8; Grammar::MAX_NEEDLES],
-    n: usize,
-    has: &[bool; 256],
-    least: &[u8; 256],
-    rows: &[usize; 256],
-    kind: &[u8; 256],
-    closer: &[u8; 256],
-    count: &[u32; 256],
-    index: &[usize; 256],
+    alphabet: Alphabet,
+    fences: &[u16; 256],
+    rows: &Rows,
+    dead: &mut [usize; 256],
 ) -> Hider
-    requires { ⌜ Stands (gramBy g (now needles) n (now has) (now least) (now rows) (now kind) (now closer) (now count) (now index)) (now text) place hider ⌝ }
-    ensures { λ r. ⌜ Passed (gramBy g (now (needles .entry)) n (now (has .entry)) (now (least .entry)) (now (rows .entry)) (now (kind .entry)) (now (closer .entry)) (now (count .entry)) (now (index .entry))) (now (text .entry)) place r ⌝ }
+    requires { ⌜ Sound (gramBy alphabet (now fences) (now rows)) (now text) (now dead) (hider .next) ⌝ }
+    requires { ⌜ Stands (gramBy alphabet (now fences) (now rows)) (now text) place hider ⌝ }
+    ensures { λ r. ⌜
+        Moved (gramBy alphabet (now (fences .entry)) (now (rows .entry))) (now (text .entry)) (now (dead .exit)) place r
+        ⌝ }
 {
     let mut h = hider;
     loop {
         if place < h.stop {
             return h;
         }
-        match next_region(
-            text,
-            h.next,
-            g,
-            needles,
-            n,
-            has,
-            least,
-            rows,
-            kind,
-            closer,
-            count,
-            index,
-        ) {
+        match next_region(text, h.next, alphabet, fences, rows, dead) {
             Next::Region(r, next) => {
                 h = Hider {
                     start: r.start,

@@ -3,7 +3,7 @@
 mod hiding; // what regions hide, as they come
 
 use cells::columns::is_uneven;
-use cells::columns::rule_tables;
+use cells::columns::rule_rows;
 use cells::reply;
 use cells::reply::put_numbers;
 use common::grammar::Grammar;
@@ -18,7 +18,9 @@ use feed::take;
 use hiding::Hider;
 use hiding::hides;
 use hiding::pass;
-use rules::rule_tables::RuleTables;
+use lines::fence_tests::fence_table;
+use rules::rows::Rows;
+use rules::search_bytes::Alphabet;
 use sheet::item::Seen;
 ghost use Prim.Native.Nat.{_+_, _*_, _/_, _≤_};
 ghost use lib.Dec.{leb};
@@ -26,10 +28,10 @@ ghost use lib.ListN.{length};
 ghost use Rattle.search.specs.Promise.{Gives};
 ghost use Rattle.common.specs.Sets.{setOf};
 ghost use Rattle.region.specs.Regions.{regions};
-ghost use Rattle.rules.specs.Tables.{gramBy};
-ghost use Rattle.rules.specs.RuleTables.{gramOn};
+ghost use Rattle.region.specs.MemoryLaws.{Sound};
+ghost use Rattle.rules.specs.Rows.{gramBy};
 ghost use Rattle.cells.specs.Poured.{grammar, Wrote, builtBy};
-ghost use Rattle.sheeting.specs.Sheeting.{itemBytes, Put, Ready, left, Turned, sheetWith, SheetPoured, SheetBytes};
+ghost use Rattle.sheeting.specs.Sheeting.{itemBytes, Put, Ready, left, TurnedBy, sheetWith, SheetPoured, SheetBytes};
 
 // Both scanners, and the region that may hide their next item.
 struct Walk {
@@ -72,19 +74,17 @@ fn turn(
     text: &[u8],
     markers: &[bool; 256],
     delims: &[bool; 256],
-    g: Grammar,
-    needles: &[u8; Grammar::MAX_NEEDLES],
-    n: usize,
-    has: &[bool; 256],
-    least: &[u8; 256],
-    rows: &[usize; 256],
-    kind: &[u8; 256],
-    closer: &[u8; 256],
-    count: &[u32; 256],
-    index: &[usize; 256],
+    alphabet: Alphabet,
+    fences: &[u16; 256],
+    rows: &Rows,
+    dead: &mut [usize; 256],
 ) -> Step
-    requires { ⌜ Ready (gramBy g (now needles) n (now has) (now least) (now rows) (now kind) (now closer) (now count) (now index)) (now markers) (now delims) (now text) w ⌝ }
-    ensures { λ r. ⌜ Turned (gramBy g (now (needles .entry)) n (now (has .entry)) (now (least .entry)) (now (rows .entry)) (now (kind .entry)) (now (closer .entry)) (now (count .entry)) (now (index .entry))) (now (markers .entry)) (now (delims .entry)) (now (text .entry)) w r ⌝ }
+    requires { ⌜ Sound (gramBy alphabet (now fences) (now rows)) (now text) (now dead) (w .hider .next) ⌝ }
+    requires { ⌜ Ready (gramBy alphabet (now fences) (now rows)) (now markers) (now delims) (now text) w ⌝ }
+    ensures { λ r. ⌜
+        TurnedBy (gramBy alphabet (now (fences .entry)) (now (rows .entry))) (now (markers .entry)) (now (delims .entry))
+        (now (text .entry)) (now (dead .exit)) w r
+        ⌝ }
 {
     let before = w.hider;
     let taken = take(w.feed, text, markers, delims);
@@ -100,21 +100,7 @@ fn turn(
         },
         Head::Item(i) => {
             let place = place_of(i);
-            let hider = pass(
-                before,
-                place,
-                text,
-                g,
-                needles,
-                n,
-                has,
-                least,
-                rows,
-                kind,
-                closer,
-                count,
-                index,
-            );
+            let hider = pass(before, place, text, alphabet, fences, rows, dead);
             let rest = Walk { feed, hider };
             if hides(hider, place) {
                 return Step {
@@ -136,39 +122,21 @@ fn count_items(
     text: &[u8],
     markers: &[bool; 256],
     delims: &[bool; 256],
-    g: Grammar,
-    needles: &[u8; Grammar::MAX_NEEDLES],
-    n: usize,
-    has: &[bool; 256],
-    least: &[u8; 256],
-    rows: &[usize; 256],
-    kind: &[u8; 256],
-    closer: &[u8; 256],
-    count: &[u32; 256],
-    index: &[usize; 256],
+    alphabet: Alphabet,
+    fences: &[u16; 256],
+    rows: &Rows,
 ) -> usize
-    requires { ⌜ Ready (gramBy g (now needles) n (now has) (now least) (now rows) (now kind) (now closer) (now count) (now index)) (now markers) (now delims) (now text) walk ⌝ }
-    ensures { λ r. ⌜ Gives (length (left (gramBy g (now (needles .entry)) n (now (has .entry)) (now (least .entry)) (now (rows .entry)) (now (kind .entry)) (now (closer .entry)) (now (count .entry)) (now (index .entry))) (now (markers .entry)) (now (delims .entry)) (now (text .entry)) walk)) r ⌝ }
+    requires { ⌜ Ready (gramBy alphabet (now fences) (now rows)) (now markers) (now delims) (now text) walk ⌝ }
+    ensures { λ r. ⌜
+        Gives (length (left (gramBy alphabet (now (fences .entry)) (now (rows .entry))) (now (markers .entry))
+        (now (delims .entry)) (now (text .entry)) walk)) r
+        ⌝ }
 {
+    let mut dead = [0usize; 256];
     let mut w = walk;
     let mut found: usize = 0;
     loop {
-        let t = turn(
-            w,
-            text,
-            markers,
-            delims,
-            g,
-            needles,
-            n,
-            has,
-            least,
-            rows,
-            kind,
-            closer,
-            count,
-            index,
-        );
+        let t = turn(w, text, markers, delims, alphabet, fences, rows, &mut dead);
         let seen = t.seen;
         let rest = t.rest;
         match seen {
@@ -192,41 +160,25 @@ fn write_items(
     text: &[u8],
     markers: &[bool; 256],
     delims: &[bool; 256],
-    g: Grammar,
-    needles: &[u8; Grammar::MAX_NEEDLES],
-    n: usize,
-    has: &[bool; 256],
-    least: &[u8; 256],
-    rows: &[usize; 256],
-    kind: &[u8; 256],
-    closer: &[u8; 256],
-    count: &[u32; 256],
-    index: &[usize; 256],
+    alphabet: Alphabet,
+    fences: &[u16; 256],
+    rows: &Rows,
     out: &mut [u8],
 ) -> usize
-    requires { ⌜ Ready (gramBy g (now needles) n (now has) (now least) (now rows) (now kind) (now closer) (now count) (now index)) (now markers) (now delims) (now text) walk ⌝ }
-    requires { ⌜ length (left (gramBy g (now needles) n (now has) (now least) (now rows) (now kind) (now closer) (now count) (now index)) (now markers) (now delims) (now text) walk) ≤ length (now out) / 20 ⌝ }
-    ensures { λ r. ⌜ Wrote itemBytes (left (gramBy g (now (needles .entry)) n (now (has .entry)) (now (least .entry)) (now (rows .entry)) (now (kind .entry)) (now (closer .entry)) (now (count .entry)) (now (index .entry))) (now (markers .entry)) (now (delims .entry)) (now (text .entry)) walk) (now (out .entry)) (now (out .exit)) r ⌝ }
+    requires { ⌜ Ready (gramBy alphabet (now fences) (now rows)) (now markers) (now delims) (now text) walk ⌝ }
+    requires { ⌜
+        length (left (gramBy alphabet (now fences) (now rows)) (now markers) (now delims) (now text) walk) ≤ length (now out) / 20
+        ⌝ }
+    ensures { λ r. ⌜
+        Wrote itemBytes (left (gramBy alphabet (now (fences .entry)) (now (rows .entry))) (now (markers .entry))
+        (now (delims .entry)) (now (text .entry)) walk) (now (out .entry)) (now (out .exit)) r
+        ⌝ }
 {
+    let mut dead = [0usize; 256];
     let mut w = walk;
     let mut found: usize = 0;
     loop {
-        let t = turn(
-            w,
-            text,
-            markers,
-            delims,
-            g,
-            needles,
-            n,
-            has,
-            least,
-            rows,
-            kind,
-            closer,
-            count,
-            index,
-        );
+        let t = turn(w, text, markers, delims, alphabet, fences, rows, &mut dead);
         let seen = t.seen;
         let rest = t.rest;
         match seen {
@@ -252,41 +204,21 @@ fn fits(
     text: &[u8],
     markers: &[bool; 256],
     delims: &[bool; 256],
-    g: Grammar,
-    needles: &[u8; Grammar::MAX_NEEDLES],
-    n: usize,
-    has: &[bool; 256],
-    least: &[u8; 256],
-    rows: &[usize; 256],
-    kind: &[u8; 256],
-    closer: &[u8; 256],
-    count: &[u32; 256],
-    index: &[usize; 256],
+    alphabet: Alphabet,
+    fences: &[u16; 256],
+    rows: &Rows,
 ) -> bool
-    requires { ⌜ Ready (gramBy g (now needles) n (now has) (now least) (now rows) (now kind) (now closer) (now count) (now index)) (now markers) (now delims) (now text) walk ⌝ }
-    ensures { λ r. ⌜ Gives (leb (length (left (gramBy g (now (needles .entry)) n (now (has .entry)) (now (least .entry)) (now (rows .entry)) (now (kind .entry)) (now (closer .entry)) (now (count .entry)) (now (index .entry))) (now (markers .entry)) (now (delims .entry)) (now (text .entry)) walk)) (len / 20)) r ⌝ }
+    requires { ⌜ Ready (gramBy alphabet (now fences) (now rows)) (now markers) (now delims) (now text) walk ⌝ }
+    ensures { λ r. ⌜
+        Gives (leb (length (left (gramBy alphabet (now (fences .entry)) (now (rows .entry))) (now (markers .entry))
+        (now (delims .entry)) (now (text .entry)) walk)) (len / 20)) r
+        ⌝ }
 {
     let most = item_room(len);
     if text.len() <= most {
         return true;
     }
-    count_items(
-        walk,
-        text,
-        markers,
-        delims,
-        g,
-        needles,
-        n,
-        has,
-        least,
-        rows,
-        kind,
-        closer,
-        count,
-        index,
-    )
-        <= most
+    count_items(walk, text, markers, delims, alphabet, fences, rows) <= most
 }
 
 // Writes the sheet of a text within the limit, and replies how many items there are; or refuses where the list or the answer run is too
@@ -295,24 +227,21 @@ fn pour_sheet(
     text: &[u8],
     markers: &[bool; 256],
     delims: &[bool; 256],
-    g: Grammar,
-    needles: &[u8; Grammar::MAX_NEEDLES],
-    n: usize,
-    has: &[bool; 256],
-    least: &[u8; 256],
-    rows: &[usize; 256],
-    kind: &[u8; 256],
-    closer: &[u8; 256],
-    count: &[u32; 256],
-    index: &[usize; 256],
+    alphabet: Alphabet,
+    fences: &[u16; 256],
+    rows: &Rows,
     out: &mut [u8],
     answer: &mut [u8],
 ) -> u32
     requires { ⌜ length (now text) ≤ 4294967295 ⌝ }
-    ensures { λ r. ⌜ SheetPoured (sheetWith g (now (markers .entry)) (now (delims .entry)) (regions (gramBy g (now (needles .entry)) n (now (has .entry)) (now (least .entry)) (now (rows .entry)) (now (kind .entry)) (now (closer .entry)) (now (count .entry)) (now (index .entry))) (now (text .entry))) (now (text .entry))) (now (out .entry)) (now (out .exit)) (now (answer .entry)) (now (answer .exit)) r ⌝ }
+    ensures { λ r. ⌜
+        SheetPoured (sheetWith (alphabet .grammar) (now (markers .entry)) (now (delims .entry)) (regions
+        (gramBy alphabet (now (fences .entry)) (now (rows .entry))) (now (text .entry))) (now (text .entry))) (now (out .entry))
+        (now (out .exit)) (now (answer .entry)) (now (answer .exit)) r
+        ⌝ }
 {
     let walk = Walk {
-        feed: start(g, text, markers, delims),
+        feed: start(alphabet.grammar, text, markers, delims),
         hider: Hider {
             start: 0,
             stop: 0,
@@ -326,80 +255,17 @@ fn pour_sheet(
             text,
             markers,
             delims,
-            g,
-            needles,
-            n,
-            has,
-            least,
+            alphabet,
+            fences,
             rows,
-            kind,
-            closer,
-            count,
-            index,
         ) {
-            let found = write_items(
-                walk,
-                text,
-                markers,
-                delims,
-                g,
-                needles,
-                n,
-                has,
-                least,
-                rows,
-                kind,
-                closer,
-                count,
-                index,
-                out,
-            );
+            let found = write_items(walk, text, markers, delims, alphabet, fences, rows, out);
             let all = [found];
             return reply::values(&all, answer);
         }
         return 3;
     }
     3
-}
-
-// The same, by tables handed over whole.
-fn by_tables(
-    text: &[u8],
-    markers: &[bool; 256],
-    delims: &[bool; 256],
-    g: Grammar,
-    t: RuleTables,
-    out: &mut [u8],
-    answer: &mut [u8],
-) -> u32
-    requires { ⌜ length (now text) ≤ 4294967295 ⌝ }
-    ensures { λ r. ⌜ SheetPoured (sheetWith g (now (markers .entry)) (now (delims .entry)) (regions (gramOn g t) (now (text .entry))) (now (text .entry))) (now (out .entry)) (now (out .exit)) (now (answer .entry)) (now (answer .exit)) r ⌝ }
-{
-    let needles = t.needles;
-    let has = t.has;
-    let least = t.least;
-    let rows = t.rows;
-    let kind = t.kind;
-    let closer = t.closer;
-    let count = t.count;
-    let index = t.index;
-    pour_sheet(
-        text,
-        markers,
-        delims,
-        g,
-        &needles,
-        t.searched,
-        &has,
-        &least,
-        &rows,
-        &kind,
-        &closer,
-        &count,
-        &index,
-        out,
-        answer,
-    )
 }
 
 // All rules and both sets into tables, once, and on.
@@ -419,12 +285,28 @@ fn by_columns(
     answer: &mut [u8],
 ) -> u32
     requires { ⌜ length (now text) ≤ 4294967295 ⌝ }
-    ensures { λ r. ⌜ SheetPoured (sheetWith g (setOf (now (markers .entry))) (setOf (now (delims .entry))) (builtBy g (now (fences .entry)) (now (mins .entry)) (now (symmetric .entry)) (now (times .entry)) (now (openers .entry)) (now (closers .entry)) (now (counts .entry)) (now (text .entry))) (now (text .entry))) (now (out .entry)) (now (out .exit)) (now (answer .entry)) (now (answer .exit)) r ⌝ }
+    ensures { λ r. ⌜
+        SheetPoured (sheetWith g (setOf (now (markers .entry))) (setOf (now (delims .entry))) (builtBy g (now (fences .entry))
+        (now (mins .entry)) (now (symmetric .entry)) (now (times .entry)) (now (openers .entry)) (now (closers .entry))
+        (now (counts .entry)) (now (text .entry))) (now (text .entry))) (now (out .entry)) (now (out .exit)) (now (answer .entry))
+        (now (answer .exit)) r
+        ⌝ }
 {
-    let t = rule_tables(fences, mins, symmetric, times, openers, closers, counts);
+    let alphabet = Alphabet::of(g, fences, symmetric, openers);
+    let table = fence_table(fences, mins);
+    let rows = rule_rows(fences, symmetric, times, openers, closers, counts);
     let marker_set = byte_set(markers);
     let delim_set = byte_set(delims);
-    by_tables(text, &marker_set, &delim_set, g, t, out, answer)
+    pour_sheet(
+        text,
+        &marker_set,
+        &delim_set,
+        alphabet,
+        &table,
+        &rows,
+        out,
+        answer,
+    )
 }
 
 // The work sheet of a text by rules given as columns, as building takes them, and by the accepted marker and delimiter bytes: the items
@@ -448,7 +330,12 @@ pub fn sheet_columns(
     out: &mut [u8],
     answer: &mut [u8],
 ) -> u32
-    ensures { λ r. ⌜ SheetBytes (grammar eol escape sep tab) (now (fences .entry)) (now (mins .entry)) (now (symmetric .entry)) (now (times .entry)) (now (openers .entry)) (now (closers .entry)) (now (counts .entry)) (now (markers .entry)) (now (delims .entry)) (now (text .entry)) (now (out .entry)) (now (out .exit)) (now (answer .entry)) (now (answer .exit)) r ⌝ }
+    ensures { λ r. ⌜
+        SheetBytes (grammar eol escape sep tab) (now (fences .entry)) (now (mins .entry)) (now (symmetric .entry))
+        (now (times .entry)) (now (openers .entry)) (now (closers .entry)) (now (counts .entry)) (now (markers .entry))
+        (now (delims .entry)) (now (text .entry)) (now (out .entry)) (now (out .exit)) (now (answer .entry)) (now (answer .exit))
+        r
+        ⌝ }
 {
     if text.len() > MAX_INPUT_LEN {
         return 1;

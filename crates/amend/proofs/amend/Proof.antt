@@ -19,11 +19,17 @@ enum-known-r c = search needs
 enum-told : tie.Need-enum-told
 enum-told c = search needs
 
-rule-tables-requires : tie.Need-rule-tables-requires
-rule-tables-requires c κs = search needs
+of-requires : tie.Need-of-requires
+of-requires c κs = search needs
+
+fence-table-requires : tie.Need-fence-table-requires
+fence-table-requires c κs = search needs
+
+rule-rows-requires : tie.Need-rule-rows-requires
+rule-rows-requires c κs = search needs
 
 settle-requires : tie.Need-settle-requires
-settle-requires c κs = search (ready-told, c .before .before .enum-told .given, c .before .before .before .before .judge .ensures)
+settle-requires c κs = search (ready-told, c .before .before .before .before .before .before .enum-told .given, c .before .before .before .before .before .before .before .before .judge .ensures)
 
 returns : tie.Need-returns
 returns c = search amended-refused
@@ -43,7 +49,9 @@ amend-spec =
     judge-requires
     enum-known-r
     enum-told
-    rule-tables-requires
+    of-requires
+    fence-table-requires
+    rule-rows-requires
     settle-requires
     returns
     same-length

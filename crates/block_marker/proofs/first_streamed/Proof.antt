@@ -3,7 +3,8 @@ use borrow.Author.Needs.{needs}
 use Prim.Native.Nat.{_-_}
 use lib.ListN.{length, take}
 use Rattle.search.specs.Search.{oneOf}
-use Rattle.common.specs.Items.{grammar}
+use Rattle.common.specs.Items.{grammar, Unled}
+use Rattle.common.specs.ItemLaws.{unled-first}
 use Rattle.common.specs.Turn.{Stands}
 use Rattle.common.specs.TurnLaws.{stands-first, stands-less, stands-again, stands-stop, stands-found}
 use Rattle.block_marker.specs.Marker.{streamTurn, view}
@@ -12,13 +13,13 @@ use Rattle.block_marker.proofs.first_streamed.Statement.{statement}
 use Rattle.block_marker.proofs.first_streamed.Tie as tie
 
 abbrev Inv-loop : tie.InvT-loop
-Inv-loop src from eol sep tab needles nn q₀ q = Stands Lies (streamTurn (grammar eol sep tab (oneOf (take nn needles))) src) (length src) from q
+Inv-loop src from eol sep tab needles nn lost₀ q₀ lost q = Stands Lies (streamTurn (grammar eol sep tab (oneOf (take nn needles))) src) (length src) from q × Unled eol sep tab src lost
 
 abbrev μ-loop : tie.MeasureT-loop
-μ-loop src from eol sep tab needles nn q₀ q = length src - q
+μ-loop src from eol sep tab needles nn lost₀ q₀ lost q = length src - q
 
 loop-holds : tie.Need-loop-holds Inv-loop μ-loop
-loop-holds c = search (stands-first, stream-adv)
+loop-holds c = search (stands-first, stream-adv, unled-first)
 
 stream-turn-requires : tie.Need-stream-turn-requires Inv-loop μ-loop
 stream-turn-requires c κs = search needs

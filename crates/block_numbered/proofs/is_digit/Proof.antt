@@ -1,5 +1,5 @@
 -- `is_digit` meets its contract. Assumes nothing.
-use Rattle.block_numbered.specs.DigitLaws.{digit-low, digit-rest}
+use Rattle.decimal.specs.DecimalLaws.{digit-low, digit-rest}
 use Rattle.block_numbered.proofs.is_digit.Statement.{statement}
 use Rattle.block_numbered.proofs.is_digit.Tie as tie
 

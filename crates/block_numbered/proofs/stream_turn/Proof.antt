@@ -1,6 +1,7 @@
 -- `stream_turn` meets its contract. Assumes nothing.
 use Rattle.block_numbered.specs.DigitLaws.{few-within}
 use Rattle.block_numbered.specs.NumberedLaws.{front-size, stream-rules}
+use Rattle.common.specs.ItemLaws.{led-rules}
 use borrow.Author.Needs.{needs}
 use Rattle.block_numbered.proofs.stream_turn.Statement.{statement}
 use Rattle.block_numbered.proofs.stream_turn.Tie as tie
@@ -9,7 +10,7 @@ find-any-of-requires : tie.Need-find-any-of-requires
 find-any-of-requires c κs = search needs
 
 returns : tie.Need-returns
-returns c = search stream-rules
+returns c = search (stream-rules, led-rules)
 
 add-nxt : tie.Need-add-nxt
 add-nxt c = search needs
@@ -18,13 +19,13 @@ digits-before-requires : tie.Need-digits-before-requires
 digits-before-requires c κs = search needs
 
 returns-2 : tie.Need-returns-2
-returns-2 c = search stream-rules
+returns-2 c = search (stream-rules, led-rules)
 
 sub-k : tie.Need-sub-k
 sub-k c = search few-within
 
-leads-line-requires : tie.Need-leads-line-requires
-leads-line-requires c κs = search needs
+leads-later-requires : tie.Need-leads-later-requires
+leads-later-requires c κs = search needs
 
 blank-at-requires : tie.Need-blank-at-requires
 blank-at-requires c κs = search needs
@@ -48,13 +49,13 @@ next-line-requires : tie.Need-next-line-requires
 next-line-requires c κs = search needs
 
 returns-3 : tie.Need-returns-3
-returns-3 c = search stream-rules
+returns-3 c = record { turn = search (stream-rules, led-rules); left = search led-rules }
 
 returns-4 : tie.Need-returns-4
-returns-4 c = search stream-rules
+returns-4 c = search (stream-rules, led-rules)
 
 returns-5 : tie.Need-returns-5
-returns-5 c = search stream-rules
+returns-5 c = search (stream-rules, led-rules)
 
 pub stream-turn-spec : {M : Type 1} → statement M
 stream-turn-spec =
@@ -66,7 +67,7 @@ stream-turn-spec =
     digits-before-requires
     returns-2
     sub-k
-    leads-line-requires
+    leads-later-requires
     blank-at-requires
     slice-aggregate-read-digits
     read-digits-requires

@@ -2,21 +2,22 @@
 use borrow.Author.Needs.{needs}
 use Prim.Native.Nat.{_-_}
 use lib.ListN.{length}
-use Rattle.rules.specs.Tables.{gramBy}
-use Rattle.region.specs.Region.{pair}
-use Rattle.region.specs.LoopLaws.{pair-two, Pouring, pouring-first, pouring-less, pouring-same}
+use Rattle.rules.specs.Rows.{gramBy}
+use Rattle.region.specs.Region.{rowOf}
+use Rattle.region.specs.LoopLaws.{row-wide, Pouring, pouring-first, pouring-less, pouring-same}
 use Rattle.context.specs.BuildLaws.{writes-puts, writes-next, writes-end}
 use Rattle.context.proofs.write_regions.Statement.{statement}
 use Rattle.context.proofs.write_regions.Tie as tie
+use Rattle.common.specs.Entry.{wide}
 
 abbrev Inv-loop : tie.InvT-loop
-Inv-loop src g needles n has least rows kind closer count index out₀ found₀ q₀ out found q = Pouring pair 2 (gramBy g needles n has least rows kind closer count index) src out₀ out found q
+Inv-loop src alphabet fences rows out₀ dead₀ found₀ q₀ out dead found q = Pouring rowOf wide (gramBy alphabet fences rows) src dead out₀ out found q
 
 abbrev μ-loop : tie.MeasureT-loop
-μ-loop src g needles n has least rows kind closer count index out₀ found₀ q₀ out found q = length src - q
+μ-loop src alphabet fences rows out₀ dead₀ found₀ q₀ out dead found q = length src - q
 
 loop-holds : tie.Need-loop-holds Inv-loop μ-loop
-loop-holds c = search (pouring-first, pair-two)
+loop-holds c = search (pouring-first, row-wide)
 
 next-region-requires : tie.Need-next-region-requires Inv-loop μ-loop
 next-region-requires c κs = search needs

@@ -18,8 +18,8 @@ returns-3 : tie.Need-returns-3
 unfolding nextInParagraph
 returns-3 c = search refuse-rules
 
-fence-tables-requires : tie.Need-fence-tables-requires
-fence-tables-requires c κs = search needs
+fence-table-requires : tie.Need-fence-table-requires
+fence-table-requires c κs = search needs
 
 next-in-requires : tie.Need-next-in-requires
 next-in-requires c κs = search needs
@@ -45,7 +45,7 @@ next-in-paragraph-spec =
     returns
     returns-2
     returns-3
-    fence-tables-requires
+    fence-table-requires
     next-in-requires
     enum-known-q
     enum-told

@@ -2,16 +2,16 @@
 use borrow.Author.Needs.{needs}
 use Prim.Native.Nat.{_-_}
 use lib.ListN.{length}
-use Rattle.rules.specs.Tables.{gramBy}
+use Rattle.rules.specs.Rows.{gramBy}
 use Rattle.region.specs.LoopLaws.{Counting, counting-first, counting-next, counting-less, counting-end}
 use Rattle.region.proofs.count_regions.Statement.{statement}
 use Rattle.region.proofs.count_regions.Tie as tie
 
 abbrev Inv-loop : tie.InvT-loop
-Inv-loop src g needles n has least rows kind closer count index found₀ q₀ found q = Counting (gramBy g needles n has least rows kind closer count index) src found q
+Inv-loop src alphabet fences rows dead₀ found₀ q₀ dead found q = Counting (gramBy alphabet fences rows) src dead found q
 
 abbrev μ-loop : tie.MeasureT-loop
-μ-loop src g needles n has least rows kind closer count index found₀ q₀ found q = length src - q
+μ-loop src alphabet fences rows dead₀ found₀ q₀ dead found q = length src - q
 
 loop-holds : tie.Need-loop-holds Inv-loop μ-loop
 loop-holds c = search counting-first

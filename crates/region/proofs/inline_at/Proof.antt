@@ -7,11 +7,11 @@ use Rattle.region.proofs.inline_at.Tie as tie
 byte-at-requires : tie.Need-byte-at-requires
 byte-at-requires c κs = search needs
 
-number-of-requires : tie.Need-number-of-requires
-number-of-requires c κs = search needs
+kind-of-requires : tie.Need-kind-of-requires
+kind-of-requires c κs = search needs
 
-add-t13 : tie.Need-add-t13
-add-t13 c = search needs
+add-t10 : tie.Need-add-t10
+add-t10 c = search needs
 
 returns : tie.Need-returns
 returns c = search inline-none
@@ -19,32 +19,17 @@ returns c = search inline-none
 is-escaped-requires : tie.Need-is-escaped-requires
 is-escaped-requires c κs = search needs
 
-add-t15 : tie.Need-add-t15
-add-t15 c = search needs
+add-t12 : tie.Need-add-t12
+add-t12 c = search needs
 
 returns-2 : tie.Need-returns-2
 returns-2 c = search inline-passed
-
-count-of-requires : tie.Need-count-of-requires
-count-of-requires c κs = search needs
-
-row-of-requires : tie.Need-row-of-requires
-row-of-requires c κs = search needs
 
 sym-pair-requires : tie.Need-sym-pair-requires
 sym-pair-requires c κs = search needs
 
 returns-3 : tie.Need-returns-3
 returns-3 c = search inline-sym
-
-number-of-requires-2 : tie.Need-number-of-requires-2
-number-of-requires-2 c κs = search needs
-
-count-of-requires-2 : tie.Need-count-of-requires-2
-count-of-requires-2 c κs = search needs
-
-row-of-requires-2 : tie.Need-row-of-requires-2
-row-of-requires-2 c κs = search needs
 
 asym-pair-requires : tie.Need-asym-pair-requires
 asym-pair-requires c κs = search needs
@@ -57,18 +42,13 @@ inline-at-spec =
     tie.close
     (tie.spec
     byte-at-requires
-    number-of-requires
-    add-t13
+    kind-of-requires
+    add-t10
     returns
     is-escaped-requires
-    add-t15
+    add-t12
     returns-2
-    count-of-requires
-    row-of-requires
     sym-pair-requires
     returns-3
-    number-of-requires-2
-    count-of-requires-2
-    row-of-requires-2
     asym-pair-requires
     returns-4)

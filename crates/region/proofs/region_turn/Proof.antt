@@ -19,8 +19,8 @@ enum-known-run c = search needs
 byte-at-requires : tie.Need-byte-at-requires
 byte-at-requires c κs = search needs
 
-row-of-requires : tie.Need-row-of-requires
-row-of-requires c κs = search needs
+fence-index-requires : tie.Need-fence-index-requires
+fence-index-requires c κs = search needs
 
 fence-region-requires : tie.Need-fence-region-requires
 fence-region-requires c κs = search needs
@@ -46,7 +46,7 @@ region-turn-spec =
     opens-at-requires
     enum-known-run
     byte-at-requires
-    row-of-requires
+    fence-index-requires
     fence-region-requires
     enum-told
     inline-at-requires

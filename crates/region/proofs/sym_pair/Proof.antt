@@ -1,5 +1,5 @@
 -- `sym_pair` meets its contract. Assumes nothing.
-use Rattle.region.specs.StepLaws.{pair-other, pair-made, pair-open}
+use Rattle.region.specs.StepLaws.{pair-other, pair-known, pair-sought}
 use borrow.Author.Needs.{needs}
 use Rattle.region.proofs.sym_pair.Statement.{statement}
 use Rattle.region.proofs.sym_pair.Tie as tie
@@ -10,23 +10,32 @@ run-end-requires c κs = search needs
 sub-if1 : tie.Need-sub-if1
 sub-if1 c = search needs
 
+count-of-requires : tie.Need-count-of-requires
+count-of-requires c κs = search needs
+
 returns : tie.Need-returns
 returns c = search pair-other
+
+sought-to-requires : tie.Need-sought-to-requires
+sought-to-requires c κs = search needs
+
+returns-2 : tie.Need-returns-2
+returns-2 c = search pair-known
+
+count-of-requires-2 : tie.Need-count-of-requires-2
+count-of-requires-2 c κs = search needs
 
 sym-close-requires : tie.Need-sym-close-requires
 sym-close-requires c κs = search needs
 
-enum-known-end : tie.Need-enum-known-end
-enum-known-end c = search needs
+index-of-requires : tie.Need-index-of-requires
+index-of-requires c κs = search needs
 
-enum-told : tie.Need-enum-told
-enum-told c = search needs
-
-returns-2 : tie.Need-returns-2
-returns-2 c = search pair-made
+pair-by-requires : tie.Need-pair-by-requires
+pair-by-requires c κs = search needs
 
 returns-3 : tie.Need-returns-3
-returns-3 c = search pair-open
+returns-3 c = search pair-sought
 
 pub sym-pair-spec : {M : Type 1} → statement M
 sym-pair-spec =
@@ -34,9 +43,12 @@ sym-pair-spec =
     (tie.spec
     run-end-requires
     sub-if1
+    count-of-requires
     returns
-    sym-close-requires
-    enum-known-end
-    enum-told
+    sought-to-requires
     returns-2
+    count-of-requires-2
+    sym-close-requires
+    index-of-requires
+    pair-by-requires
     returns-3)

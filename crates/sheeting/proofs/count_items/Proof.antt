@@ -1,7 +1,7 @@
 -- `count_items` meets its contract: a loop of turns that counts. Assumes nothing.
 use borrow.Author.Needs.{needs}
 use lib.ListN.{length}
-use Rattle.rules.specs.Tables.{gramBy}
+use Rattle.rules.specs.Rows.{gramBy}
 use Rattle.feed.specs.Ahead.{ahead}
 use Rattle.sheeting.specs.Sheeting.{left}
 use Rattle.sheeting.specs.SheetingLaws.{Tallied, tally-first, tally-end, tally-hidden, tally-shown, less-hidden, less-shown}
@@ -9,11 +9,11 @@ use Rattle.sheeting.proofs.count_items.Statement.{statement}
 use Rattle.sheeting.proofs.count_items.Tie as tie
 
 abbrev Inv-loop : tie.InvT-loop
-Inv-loop text markers delims g needles n has least rows kind closer count index w₀ found₀ w found =
-    Tallied (gramBy g needles n has least rows kind closer count index) markers delims text (left (gramBy g needles n has least rows kind closer count index) markers delims text w₀) w found
+Inv-loop text markers delims alphabet fences rows dead₀ w₀ found₀ dead w found =
+    Tallied (gramBy alphabet fences rows) markers delims text (left (gramBy alphabet fences rows) markers delims text w₀) dead w found
 
 abbrev μ-loop : tie.MeasureT-loop
-μ-loop text markers delims g needles n has least rows kind closer count index w₀ found₀ w found = length (ahead markers delims text (w .feed))
+μ-loop text markers delims alphabet fences rows dead₀ w₀ found₀ dead w found = length (ahead markers delims text (w .feed))
 
 loop-holds : tie.Need-loop-holds Inv-loop μ-loop
 loop-holds c = search tally-first

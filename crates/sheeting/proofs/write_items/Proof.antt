@@ -1,7 +1,7 @@
 -- `write_items` meets its contract: a loop of turns that writes. Assumes nothing.
 use borrow.Author.Needs.{needs}
 use lib.ListN.{length}
-use Rattle.rules.specs.Tables.{gramBy}
+use Rattle.rules.specs.Rows.{gramBy}
 use Rattle.feed.specs.Ahead.{ahead}
 use Rattle.sheeting.specs.Sheeting.{left}
 use Rattle.sheeting.specs.SheetingLaws.{Writing, write-first, write-end, write-hidden, write-room, write-shown, write-long, less-hidden, less-shown}
@@ -9,11 +9,11 @@ use Rattle.sheeting.proofs.write_items.Statement.{statement}
 use Rattle.sheeting.proofs.write_items.Tie as tie
 
 abbrev Inv-loop : tie.InvT-loop
-Inv-loop text markers delims g needles n has least rows kind closer count index out₀ w₀ found₀ out w found =
-    Writing (gramBy g needles n has least rows kind closer count index) markers delims text (left (gramBy g needles n has least rows kind closer count index) markers delims text w₀) out₀ w out found
+Inv-loop text markers delims alphabet fences rows out₀ dead₀ w₀ found₀ out dead w found =
+    Writing (gramBy alphabet fences rows) markers delims text (left (gramBy alphabet fences rows) markers delims text w₀) out₀ dead w out found
 
 abbrev μ-loop : tie.MeasureT-loop
-μ-loop text markers delims g needles n has least rows kind closer count index out₀ w₀ found₀ out w found = length (ahead markers delims text (w .feed))
+μ-loop text markers delims alphabet fences rows out₀ dead₀ w₀ found₀ out dead w found = length (ahead markers delims text (w .feed))
 
 loop-holds : tie.Need-loop-holds Inv-loop μ-loop
 loop-holds c = search write-first

@@ -2,16 +2,16 @@
 use borrow.Author.Needs.{needs}
 use Prim.Native.Nat.{_-_}
 use lib.ListN.{length}
-use Rattle.rules.specs.Tables.{gramBy}
+use Rattle.rules.specs.Rows.{gramBy}
 use Rattle.amend.specs.OwnLaws.{Surveying, surveying-first, surveying-end, surveying-less, surveying-again}
 use Rattle.amend.proofs.own.survey.Statement.{statement}
 use Rattle.amend.proofs.own.survey.Tie as tie
 
 abbrev Inv-loop : tie.InvT-loop
-Inv-loop text g needles n has least rows kind closer count index found₀ reaching₀ q₀ found reaching q = Surveying (gramBy g needles n has least rows kind closer count index) text found reaching q
+Inv-loop text alphabet fences rules dead₀ found₀ reaching₀ q₀ dead found reaching q = Surveying (gramBy alphabet fences rules) text dead found reaching q
 
 abbrev μ-loop : tie.MeasureT-loop
-μ-loop text g needles n has least rows kind closer count index found₀ reaching₀ q₀ found reaching q = length text - q
+μ-loop text alphabet fences rules dead₀ found₀ reaching₀ q₀ dead found reaching q = length text - q
 
 loop-holds : tie.Need-loop-holds Inv-loop μ-loop
 loop-holds c = search surveying-first

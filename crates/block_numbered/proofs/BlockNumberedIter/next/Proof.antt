@@ -1,7 +1,7 @@
 -- `next` meets its contract. Assumes nothing.
 use native.Mathlib.Omega.{arith}
 use Rattle.common.specs.ScanningLaws.{next-long, next-past, next-told, found-fits}
-use Rattle.block_numbered.specs.Numbered.{scanner, view}
+use Rattle.block_numbered.specs.Numbered.{scanner, rests}
 use Rattle.block_numbered.specs.NumberedRun.{lawful}
 use borrow.Author.Needs.{needs}
 use Rattle.block_numbered.proofs.BlockNumberedIter.next.Statement.{statement}
@@ -19,11 +19,11 @@ first-requires c κs = search needs
 enum-known-number : tie.Need-enum-known-number
 enum-known-number c = search needs
 
-cast-t20 : tie.Need-cast-t20
-cast-t20 c = search (found-fits lawful view (λ i. i .span .start) (λ q n i v. omega arith))
+cast-t19 : tie.Need-cast-t19
+cast-t19 c = search (found-fits lawful rests (λ i. i .span .start) (λ q n i v. omega arith))
 
-cast-t21 : tie.Need-cast-t21
-cast-t21 c = search (found-fits lawful view (λ i. i .span .end) (λ q n i v. omega arith))
+cast-t20 : tie.Need-cast-t20
+cast-t20 c = search (found-fits lawful rests (λ i. i .span .end) (λ q n i v. omega arith))
 
 at-requires : tie.Need-at-requires
 at-requires c κs = search needs
@@ -34,20 +34,11 @@ enum-known-v c = search needs
 at-requires-2 : tie.Need-at-requires-2
 at-requires-2 c κs = search needs
 
-enum-known-n : tie.Need-enum-known-n
-enum-known-n c = search needs
-
-at-requires-3 : tie.Need-at-requires-3
-at-requires-3 c κs = search needs
-
 returns-3 : tie.Need-returns-3
-returns-3 c = search (next-told scanner view)
+returns-3 c = search (next-told scanner rests)
 
 returns-4 : tie.Need-returns-4
-returns-4 c = search (next-told scanner view)
-
-returns-5 : tie.Need-returns-5
-returns-5 c = search (next-told scanner view)
+returns-4 c = search (next-told scanner rests)
 
 pub next-spec : {M : Type 1} → statement M
 next-spec =
@@ -57,13 +48,10 @@ next-spec =
     returns-2
     first-requires
     enum-known-number
+    cast-t19
     cast-t20
-    cast-t21
     at-requires
     enum-known-v
     at-requires-2
-    enum-known-n
-    at-requires-3
     returns-3
-    returns-4
-    returns-5)
+    returns-4)

@@ -1,17 +1,15 @@
 -- `gather_rules` meets its contract: a loop that gathers. Assumes nothing.
 use borrow.Author.Needs.{needs}
-use mathlib.Core.Path.{_≡_}
 use Prim.Native.Nat.{_-_, _/_}
-use lib.ListN.{length, take}
-use Rattle.rules.specs.Records.{ruleBytes, ruleMins, gatheredOf}
-use Rattle.rules.specs.RecordLaws.{gather-first}
+use lib.ListN.{length}
+use Rattle.rules.specs.RecordLaws.{Gathering, gather-first}
 use Rattle.cells.specs.ByteRules.{rulesOf}
 use Rattle.cells.specs.RuleLaws.{rules-again, rules-all}
 use Rattle.cells.proofs.columns.gather_rules.Statement.{statement}
 use Rattle.cells.proofs.columns.gather_rules.Tie as tie
 
 abbrev Inv-loop : tie.InvT-loop
-Inv-loop rules all₀ i₀ all i = all ≡ gatheredOf (ruleBytes (take i (rulesOf rules))) (ruleMins (take i (rulesOf rules)))
+Inv-loop rules all₀ i₀ all i = Gathering (rulesOf rules) all i
 
 abbrev μ-loop : tie.MeasureT-loop
 μ-loop rules all₀ i₀ all i = length rules / 2 - i

@@ -62,7 +62,7 @@ use Rattle.common.proofs.refusal.Answer.Laws as S′
 use Rattle.rules.specs.Columns.{columns}
 use Rattle.context.specs.Build.{Built}
 use Rattle.rules.specs.Records.{ruleBytes, ruleMins}
-use Rattle.context.specs.RecordLaws.{take-few}
+use Rattle.rules.specs.RecordLaws.{take-few}
 use Rattle.rules.specs.declared.records.FenceRule.{FenceRule}
 use Rattle.rules.proofs.records.FenceRule as R
 use Rattle.rules.proofs.records.FenceRule.Laws as R′

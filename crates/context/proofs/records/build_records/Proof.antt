@@ -38,7 +38,6 @@ use denote.Triple.Spec.{Meets, tripleOf}
 use denote.Triple.Table.{entered, cited}
 use denote.Triple.Walked.{says, Stays, stay-none, stay-none-slice, gave-slice, walkOf, goes-none, goes-none-slice, goes-gave-slice, Walks, ends-at, walked, walk-meets}
 use denote.Exit.{yes}
-use Rattle.search.specs.Promise.{Gives}
 use Rattle.common.specs.Refusals.{told}
 use Rattle.common.specs.declared.grammar.Grammar.{Grammar}
 use Rattle.common.specs.declared.refusal.Answer.{Answer}
@@ -47,8 +46,8 @@ use Rattle.common.proofs.grammar.Grammar.Laws as G′
 use Rattle.common.proofs.refusal.Answer as S
 use Rattle.common.proofs.refusal.Answer.Laws as S′
 use Rattle.rules.specs.Columns.{columns}
-use Rattle.context.specs.Build.{Built, BuiltFor}
-use Rattle.rules.specs.Records.{ruleBytes, ruleMins, gatheredOf}
+use Rattle.context.specs.Build.{Built}
+use Rattle.rules.specs.Records.{ruleBytes, ruleMins, keptBytes, keptMins, AllGathered}
 use Rattle.context.specs.RecordLaws.{records-built}
 use Rattle.rules.specs.declared.records.FenceRule.{FenceRule}
 use Rattle.rules.specs.declared.records.Gathered.{Gathered}
@@ -177,7 +176,7 @@ module _ {M : Type 1} (𝓤 : URA M) (H : Heap 𝓤) (A : Atoms 𝓤) (W : Given
   goes-to-all = qed W (‵ (flft κ₁ q₁) ∷ ‵ OwnR ∷ []) ∵ nothing ! $ move ! (1 ∷ 0 ∷ []) $ join ! $ nothing ! $ move ! (2 ∷ 0 ∷ []) $ fjoin ! $ move ! (1 ∷ 0 ∷ []) $ join ! $ frame ! $ done !
 
   abbrev Made : Gathered → Type 0
-  Made f = Gives (gatheredOf (ruleBytes ys) (ruleMins ys)) f
+  Made f = AllGathered ys f
 
   all-said : (f : Gathered) → ent 𝓤 (ensured 𝓤 H A all.ended (all.clauses 𝓤 H A mem run) (κ₁, tt) (rules, tt) tt f) (fact 𝓤 (Made f))
   all-said f = exE 𝓤 _ (λ ws. snd∗ 𝓤 (sem 𝓤 H A (lasts all.ended (κ₁, tt) (rules, tt) ws)) (fact 𝓤 (Made f)))
@@ -203,7 +202,7 @@ module _ {M : Type 1} (𝓤 : URA M) (H : Heap 𝓤) (A : Atoms 𝓤) (W : Given
 
   -- what is promised of an answer and of the list that is left
   abbrev Left : Gathered → Answer → List ℕ → Type 0
-  Left f r zs = BuiltFor g f (y .now) (t .now) (o .now) (k .now) (n .now) (s .now) (x .now) zs (told r)
+  Left f r zs = Built g (columns (keptBytes f) (keptMins f) (y .now) (t .now) (o .now) (k .now) (n .now)) (s .now) (x .now) zs (told r)
 
   abbrev Right : Answer → List ℕ → Type 0
   Right r zs = Built g (columns (ruleBytes ys) (ruleMins ys) (y .now) (t .now) (o .now) (k .now) (n .now)) (s .now) (x .now) zs (told r)

@@ -63,6 +63,7 @@ use Rattle.cover.proofs.cursor.covering.Key.{name as #covering}
 use Rattle.cover.proofs.cursor.covering as cov
 use Rattle.cover.proofs.cursor.covering.Statement as stated
 use Rattle.cover.proofs.cursor.covering.Code as code
+use Rattle.common.specs.Entry.{wide}
 
 abbrev stayed : Stays (cov.ended .signature .params) (cov.ended .kept)
 stayed = (stay-ref (0 ∷ []) tt (plain (λ _. T.the-row)), (stay-none-slice (1 ∷ []) tt (plain (λ _. u32)) yes, (stay-none (λ _. usize) yes, (stay-none (λ _. usize) yes, tt))))
@@ -101,7 +102,7 @@ module _ {M : Type 1} (𝓤 : URA M) (H : Heap 𝓤) (A : Atoms 𝓤) (W : Given
 
   -- what is promised of an answer and of the index that goes with it
   abbrev Right : Found → ℕ → Type 0
-  Right t m = Steps (coverAnswer 2 (s .now) n (h .index) v) (coverNext 2 (s .now) n (h .index) v) (toldFound t) m
+  Right t m = Steps (coverAnswer wide (s .now) n (h .index) v) (coverNext wide (s .now) n (h .index) v) (toldFound t) m
 
   -- the call of `covering_end`
   abbrev args : RefT (List ℕ) × (ℕ × (ℕ × (ℕ × Unit {0})))

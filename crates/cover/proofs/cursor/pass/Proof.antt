@@ -4,9 +4,10 @@ use Prim.Native.Nat.{_-_}
 use Rattle.cover.specs.CursorLaws.{Passes, pass-rules}
 use Rattle.cover.proofs.cursor.pass.Statement.{statement}
 use Rattle.cover.proofs.cursor.pass.Tie as tie
+use Rattle.common.specs.Entry.{wide}
 
 abbrev Inv-loop : tie.InvT-loop
-Inv-loop list count index place i₀ i = Passes 2 list count index place i
+Inv-loop list count index place i₀ i = Passes wide list count index place i
 
 abbrev μ-loop : tie.MeasureT-loop
 μ-loop list count index place i₀ i = count - i

@@ -1,14 +1,14 @@
 -- `in_order` meets its contract: a loop over rows that tests their places. Assumes nothing.
 use borrow.Author.Needs.{needs}
 use Prim.Native.Nat.{_-_}
-use Rattle.common.specs.Entry.{Shaping}
+use Rattle.common.specs.Entry.{Shaping, wide}
 use Rattle.common.specs.EntryLaws.{shaping-first, shaping-end}
 use Rattle.cover.specs.ShapeLaws.{tested-again, tested-early, tested-empty, tested-long}
 use Rattle.cover.proofs.shape.in_order.Statement.{statement}
 use Rattle.cover.proofs.shape.in_order.Tie as tie
 
 abbrev Inv-loop : tie.InvT-loop
-Inv-loop list count len low₀ k₀ low k = Shaping 2 list count len 0 k low
+Inv-loop list count len low₀ k₀ low k = Shaping wide list count len 0 k low
 
 abbrev μ-loop : tie.MeasureT-loop
 μ-loop list count len low₀ k₀ low k = count - k

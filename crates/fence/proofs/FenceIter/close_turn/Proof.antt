@@ -28,8 +28,8 @@ run-count-requires c κs = search needs
 returns-2 : tie.Need-returns-2
 returns-2 c = search close-turn-rules
 
-blank-end-requires : tie.Need-blank-end-requires
-blank-end-requires c κs = search needs
+blank-within-requires : tie.Need-blank-within-requires
+blank-within-requires c κs = search needs
 
 returns-3 : tie.Need-returns-3
 returns-3 c = search close-turn-rules
@@ -55,7 +55,7 @@ close-turn-spec =
     next-line-requires
     run-count-requires
     returns-2
-    blank-end-requires
+    blank-within-requires
     returns-3
     returns-4
     add-t9

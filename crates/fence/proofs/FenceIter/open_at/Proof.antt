@@ -16,6 +16,9 @@ next-line-requires c κs = search needs
 run-count-requires : tie.Need-run-count-requires
 run-count-requires c κs = search needs
 
+cast-if1 : tie.Need-cast-if1
+cast-if1 c = search needs
+
 returns : tie.Need-returns
 returns c = search open-line-rules
 
@@ -39,6 +42,7 @@ open-at-spec =
     find-byte-requires
     next-line-requires
     run-count-requires
+    cast-if1
     returns
     find-either-requires
     returns-2

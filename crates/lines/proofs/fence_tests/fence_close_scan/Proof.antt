@@ -2,13 +2,13 @@
 use borrow.Author.Needs.{needs}
 use Prim.Native.Nat.{_-_}
 use lib.ListN.{length}
-use Rattle.lines.specs.Fences.{closing}
+use Rattle.lines.specs.Reader.{shuts}
 use Rattle.lines.specs.FenceLaws.{Closes, close-rules}
 use Rattle.lines.proofs.fence_tests.fence_close_scan.Statement.{statement}
 use Rattle.lines.proofs.fence_tests.fence_close_scan.Tie as tie
 
 abbrev Inv-loop : tie.InvT-loop
-Inv-loop src from byte count g at₀ at = Closes (closing g byte count src) (length src) from at
+Inv-loop src from byte count g at₀ at = Closes (shuts g byte count src) (length src) from at
 
 abbrev μ-loop : tie.MeasureT-loop
 μ-loop src from byte count g at₀ at = length src - at

@@ -4,11 +4,8 @@ use borrow.Author.Needs.{needs}
 use Rattle.lines.proofs.fence_tests.fence_closes.Statement.{statement}
 use Rattle.lines.proofs.fence_tests.fence_closes.Tie as tie
 
-run-end-requires : tie.Need-run-end-requires
-run-end-requires c κs = search needs
-
-lesser-requires : tie.Need-lesser-requires
-lesser-requires c κs = search needs
+run-within-requires : tie.Need-run-within-requires
+run-within-requires c κs = search needs
 
 run-count-requires : tie.Need-run-count-requires
 run-count-requires c κs = search needs
@@ -16,8 +13,8 @@ run-count-requires c κs = search needs
 returns : tie.Need-returns
 returns c = search closes-short
 
-blank-end-requires : tie.Need-blank-end-requires
-blank-end-requires c κs = search needs
+blank-within-requires : tie.Need-blank-within-requires
+blank-within-requires c κs = search needs
 
 returns-2 : tie.Need-returns-2
 returns-2 c = search closes-rest
@@ -26,9 +23,8 @@ pub fence-closes-spec : {M : Type 1} → statement M
 fence-closes-spec =
     tie.close
     (tie.spec
-    run-end-requires
-    lesser-requires
+    run-within-requires
     run-count-requires
     returns
-    blank-end-requires
+    blank-within-requires
     returns-2)

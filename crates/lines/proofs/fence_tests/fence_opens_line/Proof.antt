@@ -1,5 +1,5 @@
 -- `fence_opens_line` meets its contract. Assumes nothing.
-use Rattle.lines.specs.FenceLaws.{told-opens, told-not}
+use Rattle.lines.specs.FenceLaws.{enters-yes, enters-no}
 use borrow.Author.Needs.{needs}
 use Rattle.lines.proofs.fence_tests.fence_opens_line.Statement.{statement}
 use Rattle.lines.proofs.fence_tests.fence_opens_line.Tie as tie
@@ -14,10 +14,10 @@ enum-told-2 : tie.Need-enum-told-2
 enum-told-2 c = search needs
 
 returns : tie.Need-returns
-returns c = search told-opens
+returns c = search enters-yes
 
 returns-2 : tie.Need-returns-2
-returns-2 c = search told-not
+returns-2 c = search enters-no
 
 pub fence-opens-line-spec : {M : Type 1} → statement M
 fence-opens-line-spec =

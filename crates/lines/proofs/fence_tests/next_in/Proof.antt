@@ -2,18 +2,16 @@
 use borrow.Author.Needs.{needs}
 use Prim.Native.Nat.{_-_}
 use lib.ListN.{length}
-use mathlib.Core.Bool.{false}
-use Rattle.common.specs.Rules.{entry}
-use Rattle.lines.specs.Fences.{opensLine}
+use Rattle.lines.specs.Reader.{readerIn}
 use Rattle.lines.specs.ParagraphLaws.{Nexts, next-rules}
 use Rattle.lines.proofs.fence_tests.next_in.Statement.{statement}
 use Rattle.lines.proofs.fence_tests.next_in.Tie as tie
 
 abbrev Inv-loop : tie.InvT-loop
-Inv-loop src from needle eol has least j₀ j = Nexts eol (opensLine eol (entry false has) (entry 0 least) src) src needle from j
+Inv-loop src from needle g fences j₀ j = Nexts (g .eol) (readerIn g fences .enters src) src needle from j
 
 abbrev μ-loop : tie.MeasureT-loop
-μ-loop src from needle eol has least j₀ j = length src - j
+μ-loop src from needle g fences j₀ j = length src - j
 
 loop-holds : tie.Need-loop-holds Inv-loop μ-loop
 loop-holds c = search next-rules

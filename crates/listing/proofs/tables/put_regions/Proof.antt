@@ -5,9 +5,10 @@ use Rattle.listing.specs.HeldLaws.{rowing-here, rowing-same, regions-fir
 use borrow.Author.Needs.{needs}
 use Rattle.listing.proofs.tables.put_regions.Statement.{statement}
 use Rattle.listing.proofs.tables.put_regions.Tie as tie
+use Rattle.common.specs.Entry.{wide}
 
 abbrev Inv-loop : tie.InvT-loop
-Inv-loop list count out₀ n i₀ k₀ out i k = Rowing 82 2 (λ r. r) list count n out₀ i out k
+Inv-loop list count out₀ n i₀ k₀ out i k = Rowing 82 wide (λ r. r) list count n out₀ i out k
 
 abbrev μ-loop : tie.MeasureT-loop
 μ-loop list count out₀ n i₀ k₀ out i k = count - i

@@ -6,9 +6,10 @@ use Rattle.cells.specs.Bytes.{cells}
 use Rattle.panel.specs.CoveredLaws.{query-full, query-again, query-here, query-end}
 use Rattle.panel.proofs.covered.query.Statement.{statement}
 use Rattle.panel.proofs.covered.query.Tie as tie
+use Rattle.common.specs.Entry.{wide}
 
 abbrev Inv-loop : tie.InvT-loop
-Inv-loop list count index place i₀ i = Passes 2 (cells list) count index place i
+Inv-loop list count index place i₀ i = Passes wide (cells list) count index place i
 
 abbrev μ-loop : tie.MeasureT-loop
 μ-loop list count index place i₀ i = count - i

@@ -4,17 +4,17 @@ use Rattle.pour.specs.PourLaws.{poured-columns}
 use Rattle.pour.proofs.building.with_columns.Statement.{statement}
 use Rattle.pour.proofs.building.with_columns.Tie as tie
 
-fence-tables-requires : tie.Need-fence-tables-requires
-fence-tables-requires c κs = search needs
+of-requires : tie.Need-of-requires
+of-requires c κs = search needs
 
-fence-rows-requires : tie.Need-fence-rows-requires
-fence-rows-requires c κs = search needs
+fence-table-requires : tie.Need-fence-table-requires
+fence-table-requires c κs = search needs
 
-search-bytes-requires : tie.Need-search-bytes-requires
-search-bytes-requires c κs = search needs
+rule-rows-requires : tie.Need-rule-rows-requires
+rule-rows-requires c κs = search needs
 
-with-inline-requires : tie.Need-with-inline-requires
-with-inline-requires c κs = search needs
+pour-requires : tie.Need-pour-requires
+pour-requires c κs = search needs
 
 same-length : tie.Need-same-length
 same-length c = search needs
@@ -29,10 +29,10 @@ pub with-columns-spec : {M : Type 1} → statement M
 with-columns-spec =
     tie.close
     (tie.spec
-    fence-tables-requires
-    fence-rows-requires
-    search-bytes-requires
-    with-inline-requires
+    of-requires
+    fence-table-requires
+    rule-rows-requires
+    pour-requires
     same-length
     same-length-2
     returns)

@@ -7,14 +7,14 @@ use Rattle.pour.proofs.building.with_rules.Tie as tie
 gather-rules-requires : tie.Need-gather-rules-requires
 gather-rules-requires c κs = search needs
 
-gather-requires : tie.Need-gather-requires
-gather-requires c κs = search needs
+slice-aggregate-with-front : tie.Need-slice-aggregate-with-front
+slice-aggregate-with-front c = search needs
 
-gather-requires-2 : tie.Need-gather-requires-2
-gather-requires-2 c κs = search needs
+slice-aggregate-with-front-2 : tie.Need-slice-aggregate-with-front-2
+slice-aggregate-with-front-2 c = search needs
 
-with-inline-requires : tie.Need-with-inline-requires
-with-inline-requires c κs = search needs
+with-front-requires : tie.Need-with-front-requires
+with-front-requires c κs = search needs
 
 same-length : tie.Need-same-length
 same-length c = search needs
@@ -30,9 +30,9 @@ with-rules-spec =
     tie.close
     (tie.spec
     gather-rules-requires
-    gather-requires
-    gather-requires-2
-    with-inline-requires
+    slice-aggregate-with-front
+    slice-aggregate-with-front-2
+    with-front-requires
     same-length
     same-length-2
     returns)

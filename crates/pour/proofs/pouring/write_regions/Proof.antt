@@ -2,21 +2,22 @@
 use borrow.Author.Needs.{needs}
 use Prim.Native.Nat.{_-_}
 use lib.ListN.{length}
-use Rattle.rules.specs.Tables.{gramBy}
+use Rattle.rules.specs.Rows.{gramBy}
 use Rattle.region.specs.LoopLaws.{Pouring, pouring-first, pouring-room, pouring-less, pouring-same}
 use Rattle.pour.specs.Building.{regionBytes}
-use Rattle.pour.specs.PourLaws.{bytes-eight, pours-next, pours-end}
+use Rattle.pour.specs.PourLaws.{row-bytes, pours-next, pours-end}
 use Rattle.pour.proofs.pouring.write_regions.Statement.{statement}
 use Rattle.pour.proofs.pouring.write_regions.Tie as tie
+use Rattle.cells.specs.Bytes.{rowBytes}
 
 abbrev Inv-loop : tie.InvT-loop
-Inv-loop text g needles n has least rows kind closer count index out₀ found₀ q₀ out found q = Pouring regionBytes 8 (gramBy g needles n has least rows kind closer count index) text out₀ out found q
+Inv-loop text alphabet fences rows out₀ dead₀ found₀ q₀ out dead found q = Pouring regionBytes rowBytes (gramBy alphabet fences rows) text dead out₀ out found q
 
 abbrev μ-loop : tie.MeasureT-loop
-μ-loop text g needles n has least rows kind closer count index out₀ found₀ q₀ out found q = length text - q
+μ-loop text alphabet fences rows out₀ dead₀ found₀ q₀ out dead found q = length text - q
 
 loop-holds : tie.Need-loop-holds Inv-loop μ-loop
-loop-holds c = search (pouring-first, bytes-eight)
+loop-holds c = search (pouring-first, row-bytes)
 
 next-region-requires : tie.Need-next-region-requires Inv-loop μ-loop
 next-region-requires c κs = search needs

@@ -12,10 +12,10 @@ use Rattle.region.proofs.pairs.asym_close.Statement.{statement}
 use Rattle.region.proofs.pairs.asym_close.Tie as tie
 
 abbrev Inv-loop : tie.InvT-loop
-Inv-loop src from close g has least j₀ j = Stands Meets (asymTurn (fenceGram g has least) src close) (length src) from j
+Inv-loop src from close g fences j₀ j = Stands Meets (asymTurn (fenceGram g fences) src close) (length src) from j
 
 abbrev μ-loop : tie.MeasureT-loop
-μ-loop src from close g has least j₀ j = length src - j
+μ-loop src from close g fences j₀ j = length src - j
 
 loop-holds : tie.Need-loop-holds Inv-loop μ-loop
 loop-holds c = search (stands-first, asymTurn-ahead)

@@ -16,14 +16,14 @@ enum-known-q c = search needs
 is-escaped-requires : tie.Need-is-escaped-requires
 is-escaped-requires c κs = search needs
 
-add-t12 : tie.Need-add-t12
-add-t12 c = search hit-next
+add-t11 : tie.Need-add-t11
+add-t11 c = search hit-next
 
 returns : tie.Need-returns
 returns c = search asym-passed
 
-add-t13 : tie.Need-add-t13
-add-t13 c = search hit-next
+add-t12 : tie.Need-add-t12
+add-t12 c = search hit-next
 
 returns-2 : tie.Need-returns-2
 returns-2 c = search asym-end
@@ -39,8 +39,8 @@ asym-turn-spec =
     enum-known-u
     enum-known-q
     is-escaped-requires
-    add-t12
+    add-t11
     returns
-    add-t13
+    add-t12
     returns-2
     returns-3)

@@ -12,10 +12,10 @@ use Rattle.region.proofs.pairs.sym_close.Statement.{statement}
 use Rattle.region.proofs.pairs.sym_close.Tie as tie
 
 abbrev Inv-loop : tie.InvT-loop
-Inv-loop src from byte count g has least j₀ j = Stands Meets (symTurn (fenceGram g has least) src byte count) (length src) from j
+Inv-loop src from byte count g fences j₀ j = Stands Meets (symTurn (fenceGram g fences) src byte count) (length src) from j
 
 abbrev μ-loop : tie.MeasureT-loop
-μ-loop src from byte count g has least j₀ j = length src - j
+μ-loop src from byte count g fences j₀ j = length src - j
 
 loop-holds : tie.Need-loop-holds Inv-loop μ-loop
 loop-holds c = search (stands-first, symTurn-ahead)

@@ -16,8 +16,8 @@ enum-known-q c = search needs
 is-escaped-requires : tie.Need-is-escaped-requires
 is-escaped-requires c κs = search needs
 
-add-t14 : tie.Need-add-t14
-add-t14 c = search hit-next
+add-t13 : tie.Need-add-t13
+add-t13 c = search hit-next
 
 returns : tie.Need-returns
 returns c = search sym-passed
@@ -45,7 +45,7 @@ sym-turn-spec =
     enum-known-u
     enum-known-q
     is-escaped-requires
-    add-t14
+    add-t13
     returns
     run-end-requires
     sub-if2

@@ -2,20 +2,20 @@
 use borrow.Author.Needs.{needs}
 use Prim.Native.Nat.{_-_}
 use lib.ListN.{length}
-use Rattle.rules.specs.Tables.{gramBy}
-use Rattle.sheeting.specs.Hiding.{Stands}
-use Rattle.sheeting.specs.HidingLaws.{pass-found, pass-next, pass-less, pass-none}
+use Rattle.rules.specs.Rows.{gramBy}
+use Rattle.sheeting.specs.Hiding.{Passing}
+use Rattle.sheeting.specs.HidingLaws.{passing-first, pass-found, pass-next, pass-less, pass-none}
 use Rattle.sheeting.proofs.hiding.pass.Statement.{statement}
 use Rattle.sheeting.proofs.hiding.pass.Tie as tie
 
 abbrev Inv-loop : tie.InvT-loop
-Inv-loop place text g needles n has least rows kind closer count index h₀ h = Stands (gramBy g needles n has least rows kind closer count index) text place h
+Inv-loop place text alphabet fences rows dead₀ h₀ dead h = Passing (gramBy alphabet fences rows) text dead place h
 
 abbrev μ-loop : tie.MeasureT-loop
-μ-loop place text g needles n has least rows kind closer count index h₀ h = length text - h .next
+μ-loop place text alphabet fences rows dead₀ h₀ dead h = length text - h .next
 
 loop-holds : tie.Need-loop-holds Inv-loop μ-loop
-loop-holds c = search needs
+loop-holds c = search passing-first
 
 returns : tie.Need-returns Inv-loop μ-loop
 returns c = search pass-found

@@ -1,0 +1,45 @@
+-- Laws of what all of a list have. Assumes nothing.
+use mathlib.Core.List.{List, [], _∷_, _++_}
+use Prim.Native.Nat.{ℕ, zero, suc, _+_}
+use lib.ListN.{getD, set, take, drop, replicate}
+use Rattle.common.specs.Entry.{putAt}
+use Rattle.common.specs.Rules.{tabulate}
+use Rattle.common.specs.Turn.{Each}
+
+module _ {A : Type 0} (P : A → Type 0) where
+  pub each-append : (a b : List A) → Each P a → Each P b → Each P (a ++ b)
+  each-append [] b v w = w
+  each-append (x ∷ a) b v w = (v .0, each-append a b (v .1) w)
+
+  pub each-getD : (l : List A) (d : A) → Each P l → P d → (i : ℕ) → P (getD l i d)
+  each-getD [] d v h i = h
+  each-getD (x ∷ l) d v h zero = v .0
+  each-getD (x ∷ l) d v h (suc i) = each-getD l d (v .1) h i
+
+  pub each-set : (l : List A) (i : ℕ) (x : A) → Each P l → P x → Each P (set l i x)
+  each-set [] i x v h = tt
+  each-set (y ∷ l) zero x v h = (h, v .1)
+  each-set (y ∷ l) (suc i) x v h = (v .0, each-set l i x (v .1) h)
+
+  pub each-put : (k : ℕ) (l out : List A) → Each P l → Each P out → Each P (putAt k l out)
+  each-put k [] out v w = w
+  each-put k (x ∷ l) out v w = each-put (k + 1) l (set out k x) (v .1) (each-set out k x w (v .0))
+
+  pub each-drop : (n : ℕ) (l : List A) → Each P l → Each P (drop n l)
+  each-drop zero l v = v
+  each-drop (suc n) [] v = tt
+  each-drop (suc n) (x ∷ l) v = each-drop n l (v .1)
+
+  pub each-same : (n : ℕ) (x : A) → P x → Each P (replicate n x)
+  each-same zero x h = tt
+  each-same (suc n) x h = (h, each-same n x h)
+
+  pub each-table : (f : ℕ → A) → ((i : ℕ) → P (f i)) → (n a : ℕ) → Each P (tabulate f n a)
+  unfolding tabulate
+  each-table f h zero a = tt
+  each-table f h (suc n) a = (h a, each-table f h n (suc a))
+
+  pub each-take : (n : ℕ) (l : List A) → Each P l → Each P (take n l)
+  each-take zero l v = tt
+  each-take (suc n) [] v = tt
+  each-take (suc n) (x ∷ l) v = (v .0, each-take n l (v .1))

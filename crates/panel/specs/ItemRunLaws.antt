@@ -1,0 +1,166 @@
+-- Runs of the entries of both scanners of items: a host that makes a state by `new` and steps it until no value comes reads exactly the page's items. Assumes nothing.
+-- The page: "each step takes a state and gives the answer with the next state", and "From place 0 the streaming and line scans are proved to yield the same items".
+use mathlib.Core.Path.{_≡_, refl, ap, _∙_}
+use mathlib.Core.Bool.{Bool, true, false, _&&_}
+use mathlib.Core.List.{List, [], _∷_}
+use Prim.Native.Nat.{ℕ, _+_, _-_, _≤_}
+use native.Mathlib.Omega.{arith}
+use lib.Dec.{ltb}
+use lib.ListN.{length, take, drop}
+use Rattle.search.specs.Search.{find, holds, oneOf, back, lineEnd, nextLine}
+use Rattle.decimal.specs.Decimal.{digit}
+use Rattle.common.specs.Items.{ItemGrammar, grammar, blank, has, Apart, leads, lineBytes, leading, beyond, itemFrom, lineFound, readTurn, stepFor}
+use Rattle.common.specs.ItemLaws.{both}
+use Rattle.common.specs.Scanning as scanning
+use Rattle.common.specs.Scanning.{Scanner, Lawful}
+use Rattle.common.specs.ScanningLaws.{turn-adv, step-inside, run}
+use Rattle.common.specs.Sets.{setOf, accepted}
+use Rattle.common.specs.TableLaws.{length-tabulate}
+use Rattle.common.specs.Turn.{Turn, go, stop, found, Ahead, Adv, OnFound, Each, drain}
+use Rattle.block_marker.specs.declared.BlockMarkerIter.{BlockMarkerIter}
+use Rattle.block_marker.specs.declared.MarkerItem.{MarkerItem}
+use Rattle.block_marker.specs.Marker as marker
+use Rattle.block_marker.specs.MarkerRun.{lawful as marker-lawful, fresh-items as marker-items}
+use Rattle.block_numbered.specs.declared.BlockNumberedIter.{BlockNumberedIter}
+use Rattle.block_numbered.specs.declared.NumberedItem.{NumberedItem}
+use Rattle.block_numbered.specs.Numbered as numbered
+use Rattle.block_numbered.specs.NumberedRun.{lawful as numbered-lawful, fresh-items as numbered-items}
+use Rattle.panel.specs.State.{Made, Stepped, markerLimits, itemCells, itemFields, markerCells, markerFrom, markerAnswer, markerState, numberedCells, numberedFrom, numberedAnswer, numberedState}
+use Rattle.panel.specs.Back.{Holds, Byte, Text, valuesIn}
+use Rattle.panel.specs.EachLaws.{each-getD, each-take, each-drop}
+use Rattle.panel.specs.BackLaws.{ItemHeld, made-back, item-small, item-fresh, item-next}
+use Rattle.panel.specs.RunLaws.{Ready, Fit, fit-each, said-has, hosted-run}
+
+-- ---- any scanner of items; P is what the turns find besides, and `fit` says that an item's values fit the answer run
+module _ {S A : Type 0} {c : Scanner S A} {Lies : ℕ → ℕ → A → Type 0} (w : Lawful c Lies) (wider : (q n m : ℕ) (a : A) → q ≤ n → Lies n m a → Lies q m a) (P : A → Type 0) (set : List Bool) (s run₀ : List ℕ) (short : length s ≤ 4294967295) (room : 4 ≤ length run₀)
+    (turns : (g : S) (q : ℕ) → OnFound P (scanning.turn c g set s q)) (fit : (q n : ℕ) (a : A) → n ≤ length s → Lies q n a → P a → Fit run₀ (c .values a)) where
+  abbrev Lain : ℕ → ℕ → A → Type 0
+  Lain q n a = Lies q n a × P a
+
+  lain-adv : (g : S) → Adv Lain (scanning.turn c g set s) (length s)
+  lain-adv g = record { ahead = λ q h. by q (scanning.turn c g set s q) (turn-adv w g set s .ahead q h) (turns g q) }
+    where
+      by : (q : ℕ) (t : Turn A) → Ahead Lies q (length s) t → OnFound P t → Ahead Lain q (length s) t
+      by q (go n) a o = a
+      by q (stop v) a o = a
+      by q (found x n) a o = (a .0, a .1, (a .2, o))
+
+  In : S → Type 0
+  In g = ItemHeld w g × (c .fields g .pos ≤ length s)
+
+  item-ready : (g : S) → In g → Ready (λ l. c .made (itemFields l)) (λ k. itemCells (c .fields k)) markerLimits item-small (λ k t. scanning.answer c k set t) (λ k t. scanning.state c k set t) (c .back) s run₀ short g
+  unfolding In scanning.answer scanning.first
+  item-ready g p =
+      let v = said-has (c .values) s (lain-adv g) (λ q n m a h l. (wider q n m a h (l .0), l .1)) short (Fit run₀) (fit-each run₀ [] room (omega arith) tt) (λ q n a h l. fit q n a h (l .0) (l .1)) (c .fields g .pos) (p .1) in
+      record { held = p .0; serves = v .0; narrow = v .1 .0; room = v .1 .1 }
+
+  item-on : (g : S) → In g → In (scanning.state c g set s)
+  unfolding In
+  item-on g p = (item-next w g set s (p .0), step-inside w set s short g (scanning.answer c g set s) (scanning.state c g set s) (p .1) (record { answer = refl; next = refl }))
+
+  -- what a host reads in n steps from a run that holds a state within the text: the first n of the items that its scan has before it
+  pub items-run : (g : S) → ItemHeld w g → c .fields g .pos ≤ length s → (state : List ℕ) → Holds (λ l. c .made (itemFields l)) (λ k. itemCells (c .fields k)) markerLimits state g
+      → (after reply : List ℕ → List ℕ) (number : List ℕ → ℕ)
+      → ((state : List ℕ) → Stepped (λ l. c .made (itemFields l)) (λ k. itemCells (c .fields k)) markerLimits (λ k t. scanning.answer c k set t) (λ k t. scanning.state c k set t) s state (after state) run₀ (reply state) (number state))
+      → (n : ℕ) → drain (λ r. stepFor (c .back) (valuesIn (reply r)) (after r)) n state ≡ take n (scanning.items c g set s)
+  unfolding In
+  items-run g h i state held after reply number keeps n =
+      hosted-run (λ l. c .made (itemFields l)) (λ k. itemCells (c .fields k)) markerLimits item-small (λ k t. scanning.answer c k set t) (λ k t. scanning.state c k set t) (c .back) s run₀ short In item-ready item-on after reply number keeps n g (h, i) state held
+      ∙ run w set s short g (λ k. scanning.answer c k set s) (λ k. scanning.state c k set s) (λ q j. record { answer = refl; next = refl }) n i
+
+-- ---- the bytes that items have are the text's
+beyond-bytes : (t : ℕ → Bool) (l : List ℕ) → Each Byte l → Each Byte (beyond t l)
+unfolding beyond
+beyond-bytes t [] v = tt
+beyond-bytes t (x ∷ l) v = by (t x) (beyond-bytes t l (v .1))
+  where
+    by : (y : Bool) → Each Byte (beyond t l) → Each Byte (elim y [ true ↦ beyond t l | false ↦ x ∷ l ])
+    by true u = u
+    by false u = v
+
+from-byte : {A : Type 0} (P : A → Type 0) (g : ItemGrammar) (make : ℕ → ℕ → ℕ → A) (k n : ℕ) (l : List ℕ) → ((x a e : ℕ) → Byte x → P (make x a e)) → Each Byte l → OnFound P (lineFound (itemFrom g make k l) n)
+from-byte P g make k n [] h v = tt
+from-byte P g make k n (x ∷ []) h v = tt
+from-byte P g make k n (x ∷ y ∷ l) h v = both (λ r. OnFound P (lineFound r n)) (g .accepts x && blank g y) (make x (k + 2) (k + 2 + length l) ∷ []) [] (λ u. h x (k + 2) (k + 2 + length l) (v .0)) (λ u. tt)
+
+line-bytes : (g : ItemGrammar) (s : List ℕ) (q : ℕ) → Text s → Each Byte (lineBytes g s q)
+line-bytes g s q v = each-drop Byte q (take (lineEnd (g .eol) s q) s) (each-take Byte (lineEnd (g .eol) s q) s v)
+
+-- ---- the marker scanner
+module _ (s : List ℕ) (bytes : Text s) where
+  abbrev Marked : MarkerItem → Type 0
+  Marked i = Byte (i .marker)
+
+  marker-streams : (g : ItemGrammar) (q : ℕ) → OnFound Marked (marker.streamTurn g s q)
+  unfolding marker.streamTurn
+  marker-streams g q =
+      let p = find (g .accepts) s q in
+      both (OnFound Marked) (ltb p (length s)) _ _
+      (λ u. both (OnFound Marked) (leads (g .eol) (g .sep) (g .tab) s p && holds (blank g) s (p + 1)) _ _ (λ v. each-getD Byte s 0 bytes (omega arith) p) (λ v. tt))
+      (λ u. tt)
+
+  marker-reads : (g : ItemGrammar) (q : ℕ) → OnFound Marked (marker.lineTurn g s q)
+  unfolding readTurn marker.markLine
+  marker-reads g q =
+      both (OnFound Marked) (ltb q (length s)) _ _ (λ u. from-byte Marked g marker.mark _ _ (beyond (blank g) (lineBytes g s q)) (λ x a e h. h) (beyond-bytes (blank g) (lineBytes g s q) (line-bytes g s q bytes))) (λ u. tt)
+
+  marker-turns : (set : List Bool) (g : BlockMarkerIter) (q : ℕ) → OnFound Marked (scanning.turn marker.scanner g set s q)
+  unfolding scanning.turn
+  marker-turns set g q = both (λ (t : ℕ → Turn MarkerItem). OnFound Marked (t q)) (g .streaming) _ _ (λ u. marker-streams _ q) (λ u. marker-reads _ q)
+
+  -- a state run that `new` wrote, stepped by an entry that keeps its promise, gives the marker items of the text's lines
+  pub marker-run : (eol sep tab : ℕ) (bytes run₀ : List ℕ) → eol ≤ 255 → sep ≤ 255 → tab ≤ 255 → length s ≤ 4294967295 → 16 ≤ length run₀ → (length (accepted (setOf bytes)) ≤ 3 → Apart (grammar eol sep tab (has (setOf bytes))))
+      → (first state : List ℕ) → Made (markerCells (marker.fresh eol sep tab (setOf bytes))) first state 0
+      → (after reply : List ℕ → List ℕ) (number : List ℕ → ℕ) → ((state : List ℕ) → Stepped markerFrom markerCells markerLimits (markerAnswer bytes) (markerState bytes) s state (after state) run₀ (reply state) (number state))
+      → (n : ℕ) → drain (λ r. stepFor (marker.scanner .back) (valuesIn (reply r)) (after r)) n state ≡ take n (marker.markers (grammar eol sep tab (has (setOf bytes))) s)
+  unfolding markerFrom
+  marker-run eol sep tab bytes run₀ a b c short room apart first state made after reply number keeps n =
+      let g = marker.fresh eol sep tab (setOf bytes) in
+      let h = item-fresh marker-lawful eol sep tab (setOf bytes) a b c in
+      items-run marker-lawful (λ q n m i h l. (l .0, l .1, omega arith)) Marked (setOf bytes) s run₀ short (omega arith) (marker-turns (setOf bytes))
+      (λ q n i h l v. fit-each run₀ (marker.values i) room (omega arith) (omega arith, (omega arith, (omega arith, tt)))) g h (omega arith) state
+      (made-back (λ l. marker.scanner .made (itemFields l)) markerCells markerLimits item-small g h first state made) after reply number keeps n
+      ∙ ap (take n) (marker-items (setOf bytes) s eol sep tab (length-tabulate (oneOf bytes) 256 0) apart)
+
+-- ---- the numbered scanner
+module _ (s : List ℕ) (bytes : Text s) where
+  abbrev Counted : NumberedItem → Type 0
+  Counted i = Byte (i .delimiter)
+
+  numbered-hits : (g : ItemGrammar) (p k : ℕ) → OnFound Counted (numbered.streamHit g s p k)
+  numbered-hits g p k = both (OnFound Counted) (numbered.oneToNine k && (leads (g .eol) (g .sep) (g .tab) s (p - k) && holds (blank g) s (p + 1))) _ _ (λ v. each-getD Byte s 0 bytes (omega arith) p) (λ v. tt)
+
+  numbered-streams : (g : ItemGrammar) (q : ℕ) → OnFound Counted (numbered.streamTurn g s q)
+  unfolding numbered.streamTurn
+  numbered-streams g q = both (OnFound Counted) (ltb (find (g .accepts) s q) (length s)) _ _ (λ u. numbered-hits g (find (g .accepts) s q) (back digit s (find (g .accepts) s q))) (λ u. tt)
+
+  numbered-then : (g : ItemGrammar) (ds : List ℕ) (k n : ℕ) (l : List ℕ) → Each Byte l → OnFound Counted (lineFound (numbered.numberThen g ds k l) n)
+  numbered-then g ds k n l v =
+      both (λ (r : List NumberedItem). OnFound Counted (lineFound r n)) (numbered.oneToNine (length ds)) (itemFrom g (numbered.numbered ds) k l) [] (λ u. from-byte Counted g (numbered.numbered ds) k n l (λ x a e h. h) v) (λ u. tt)
+
+  numbered-reads : (g : ItemGrammar) (q : ℕ) → OnFound Counted (numbered.lineTurn g s q)
+  unfolding readTurn numbered.readLine
+  numbered-reads g q =
+      let l = lineBytes g s q in
+      let r = beyond (blank g) l in
+      let ds = numbered.readDigits r in
+      both (OnFound Counted) (ltb q (length s)) _ _
+      (λ u. numbered-then g ds (q + length (leading (blank g) l) + length ds) (nextLine (length s) (lineEnd (g .eol) s q)) (drop (length ds) r) (each-drop Byte (length ds) r (beyond-bytes (blank g) l (line-bytes g s q bytes)))) (λ u. tt)
+
+  numbered-turns : (set : List Bool) (g : BlockNumberedIter) (q : ℕ) → OnFound Counted (scanning.turn numbered.scanner g set s q)
+  unfolding scanning.turn
+  numbered-turns set g q = both (λ (t : ℕ → Turn NumberedItem). OnFound Counted (t q)) (g .streaming) _ _ (λ u. numbered-streams _ q) (λ u. numbered-reads _ q)
+
+  -- a state run that `new` wrote, stepped by an entry that keeps its promise, gives the numbered items of the text's lines
+  pub numbered-run : (eol sep tab : ℕ) (bytes run₀ : List ℕ) → eol ≤ 255 → sep ≤ 255 → tab ≤ 255 → length s ≤ 4294967295 → 20 ≤ length run₀ → (length (accepted (setOf bytes)) ≤ 3 → numbered.DigitsApart (grammar eol sep tab (has (setOf bytes))))
+      → numbered.NoDigit (grammar eol sep tab (has (setOf bytes))) → (first state : List ℕ) → Made (numberedCells (numbered.fresh eol sep tab (setOf bytes))) first state 0
+      → (after reply : List ℕ → List ℕ) (number : List ℕ → ℕ) → ((state : List ℕ) → Stepped numberedFrom numberedCells markerLimits (numberedAnswer bytes) (numberedState bytes) s state (after state) run₀ (reply state) (number state))
+      → (n : ℕ) → drain (λ r. stepFor (numbered.scanner .back) (valuesIn (reply r)) (after r)) n state ≡ take n (numbered.numbers (grammar eol sep tab (has (setOf bytes))) s)
+  unfolding numberedFrom
+  numbered-run eol sep tab bytes run₀ a b c short room apart none first state made after reply number keeps n =
+      let g = numbered.fresh eol sep tab (setOf bytes) in
+      let h = item-fresh numbered-lawful eol sep tab (setOf bytes) a b c in
+      items-run numbered-lawful (λ q n m i h l. (l .0, l .1, l .2, omega arith)) Counted (setOf bytes) s run₀ short (omega arith) (numbered-turns (setOf bytes))
+      (λ q n i h l v. fit-each run₀ (numbered.values i) room (omega arith) (omega arith, (omega arith, (omega arith, (omega arith, tt))))) g h (omega arith) state
+      (made-back (λ l. numbered.scanner .made (itemFields l)) numberedCells markerLimits item-small g h first state made) after reply number keeps n
+      ∙ ap (take n) (numbered-items (setOf bytes) s eol sep tab (length-tabulate (oneOf bytes) 256 0) apart none)

@@ -1,0 +1,52 @@
+-- `marked` is safe and ends: the place rises to the array's end. Assumes nothing.
+use borrow.Author.Needs.{needs}
+use mathlib.Core.Path.{_≡_}
+use Prim.Native.Nat.{_-_}
+use lib.ListN.{length}
+use Rattle.recall.proofs.cells.marked.Statement.{statement}
+use Rattle.recall.proofs.cells.marked.Tie as tie
+
+abbrev Inv-loop : tie.InvT-loop
+Inv-loop size cells₀ i₀ cells i = length cells ≡ 64
+
+abbrev μ-loop : tie.MeasureT-loop
+μ-loop size cells₀ i₀ cells i = 64 - i
+
+loop-holds : tie.Need-loop-holds Inv-loop μ-loop
+loop-holds c = search needs
+
+mark-requires : tie.Need-mark-requires Inv-loop μ-loop
+mark-requires c κs = search needs
+
+mul-cells : tie.Need-mul-cells Inv-loop μ-loop
+mul-cells c = search needs
+
+array-write-cells : tie.Need-array-write-cells Inv-loop μ-loop
+array-write-cells c = search needs
+
+add-i : tie.Need-add-i Inv-loop μ-loop
+add-i c = search needs
+
+loop-less : tie.Need-loop-less Inv-loop μ-loop
+loop-less c = search needs
+
+loop-again : tie.Need-loop-again Inv-loop μ-loop
+loop-again c = search needs
+
+returns : tie.Need-returns Inv-loop μ-loop
+returns c = search needs
+
+pub marked-spec : {M : Type 1} → statement M
+marked-spec =
+    tie.close
+    (tie.spec
+    Inv-loop
+    μ-loop
+    loop-holds
+    mark-requires
+    mul-cells
+    array-write-cells
+    add-i
+    loop-less
+    loop-again
+    returns)

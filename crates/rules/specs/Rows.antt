@@ -1,0 +1,95 @@
+-- Rules as a row for each byte, and the grammar that such rows make. Assumes nothing.
+-- The page: "by the first rule with that byte": all that a scan asks of the rules is a function of one byte.
+use mathlib.Core.Path.{_≡_}
+use mathlib.Core.Bool.{cond}
+use mathlib.Core.List.{List, [], _∷_}
+use Prim.Native.Nat.{ℕ, _%_, _<_}
+use lib.Dec.{eqb}
+use lib.ListN.{length, getD, take, replicate}
+use Rattle.search.specs.Search.{oneOf}
+use Rattle.common.specs.Rules.{tabulate, entry, row, hasRule}
+use Rattle.lines.specs.Reader.{readerIn}
+use Rattle.rules.specs.Grammar.{Rule, plain, sym, asym, Gram}
+use Rattle.rules.specs.Columns.{openRule, symRule, fenceRow}
+use Rattle.rules.specs.declared.search_bytes.Alphabet.{Alphabet}
+
+-- a row: the index of the fence rule; the inline rule's kind (0 nothing, 1 symmetric, 2 asymmetric), closing byte, count and index
+abbrev pub rowOf : ℕ → Rule → List ℕ
+rowOf f plain = f ∷ 0 ∷ 0 ∷ 0 ∷ 0 ∷ []
+rowOf f (sym i n) = f ∷ 1 ∷ 0 ∷ n ∷ i ∷ []
+rowOf f (asym i c n) = f ∷ 2 ∷ c ∷ n ∷ i ∷ []
+
+-- the rows of columns
+unfoldable pub ruleRows : List ℕ → List ℕ → List ℕ → List ℕ → List ℕ → List ℕ → List (List ℕ)
+ruleRows f y t o k n = tabulate (λ b. rowOf (fenceRow f b) (symRule y t (openRule o k n) b)) 256 0
+
+-- ---- what rows, also ones made by hand, say of a byte
+abbrev pub cell : List (List ℕ) → ℕ → ℕ → ℕ
+cell rows b k = getD (getD rows b []) k 0
+
+abbrev pub ruleAt : ℕ → ℕ → ℕ → ℕ → Rule
+ruleAt kind closer count index = cond (eqb kind 0) plain (cond (eqb kind 1) (sym index count) (asym index closer count))
+
+abbrev pub ruleIn : List (List ℕ) → ℕ → Rule
+ruleIn rows b = ruleAt (cell rows b 1) (cell rows b 2 % 256) (cell rows b 3) (cell rows b 4)
+
+-- the grammar of an alphabet, a table of fences, and rows
+abbrev pub gramBy : Alphabet → List ℕ → List (List ℕ) → Gram
+gramBy a fences rows = record {
+  eol = a .grammar .eol;
+  escape = a .grammar .escape;
+  trigger = oneOf (take (a .searched .count) (a .searched .bytes));
+  rule = ruleIn rows;
+  fenceIndex = λ b. cell rows b 0;
+  fences = readerIn (a .grammar) fences;
+}
+
+-- ---- filling
+abbrev pub noRows : List (List ℕ)
+noRows = replicate 256 (replicate 5 0)
+
+-- a row with another inline rule; with another fence rule
+abbrev pub pairRow : List ℕ → ℕ → ℕ → ℕ → ℕ → List ℕ
+pairRow r kind closer count index = getD r 0 0 ∷ kind ∷ closer ∷ count ∷ index ∷ []
+
+abbrev pub fencedRow : List ℕ → ℕ → List ℕ
+fencedRow r index = index ∷ getD r 1 0 ∷ getD r 2 0 ∷ getD r 3 0 ∷ getD r 4 0 ∷ []
+
+-- what rule j of a column makes of a row
+abbrev pub opener : List ℕ → List ℕ → ℕ → List ℕ → List ℕ
+opener closers counts j r = pairRow r 2 (getD closers j 0) (getD counts j 0) j
+
+abbrev pub twin : List ℕ → ℕ → List ℕ → List ℕ
+twin times j r = pairRow r 1 0 (getD times j 0) j
+
+abbrev pub fencer : ℕ → List ℕ → List ℕ
+fencer j r = fencedRow r j
+
+-- rows over which the rules of a column are laid, the first with a byte
+unfoldable pub passed : List ℕ → (ℕ → List ℕ → List ℕ) → List (List ℕ) → List (List ℕ)
+passed bytes made rows = tabulate (λ b. cond (hasRule bytes b) (made (row bytes b) (entry [] rows b)) (entry [] rows b)) 256 0
+
+-- what laying a column's rules over rows, which are 256, promises
+pub record Laid (bytes : List ℕ) (made : ℕ → List ℕ → List ℕ) (rows rows′ : List (List ℕ)) : Type 0 where
+  pub answer : length rows ≡ 256 → rows′ ≡ passed bytes made rows
+
+-- a column's closing bytes are bytes
+pub record Small (o k : List ℕ) : Type 0 where
+  pub small : (j : ℕ) → j < length o → getD k j 0 < 256
+
+pub record Opened (o k n : List ℕ) (rows rows′ : List (List ℕ)) : Type 0 where
+  pub laid : Laid o (opener k n) rows rows′
+  pub closers : Small o k
+
+-- the rows of inline rules
+unfoldable pub inlineRows : List ℕ → List ℕ → List ℕ → List ℕ → List ℕ → List (List ℕ)
+inlineRows y t o k n = tabulate (λ b. rowOf 0 (symRule y t (openRule o k n) b)) 256 0
+
+pub record Inlined (y t o k n : List ℕ) (rows : List (List ℕ)) : Type 0 where
+  pub answer : rows ≡ inlineRows y t o k n
+  pub closers : Small o k
+
+-- what folding columns promises
+pub record Folded (f y t o k n : List ℕ) (rows : List (List ℕ)) : Type 0 where
+  pub answer : rows ≡ ruleRows f y t o k n
+  pub closers : Small o k

@@ -1,0 +1,58 @@
+-- `Sums::text` meets its contract: a loop over the bytes. Assumes nothing.
+use borrow.Author.Needs.{needs}
+use Rattle.stored.proofs.sums.Sums.text.Statement.{statement}
+use Rattle.stored.proofs.sums.Sums.text.Tie as tie
+use Prim.Native.Nat.{_-_}
+use lib.ListN.{length}
+use Rattle.stored.specs.Sums.{fed}
+use Rattle.stored.specs.FoldLaws.{Folds, folds-first, folds-again}
+use Rattle.stored.specs.SumLaws.{text-fed}
+
+abbrev Inv-loop : tie.InvT-loop
+Inv-loop text sums₀ i₀ sums i = Folds fed sums₀ text sums i
+
+abbrev μ-loop : tie.MeasureT-loop
+μ-loop text sums₀ i₀ sums i = length text - i
+
+number-of-requires : tie.Need-number-of-requires Inv-loop μ-loop
+number-of-requires c κs = search needs
+
+feed-requires : tie.Need-feed-requires Inv-loop μ-loop
+feed-requires c κs = search needs
+
+loop-holds : tie.Need-loop-holds Inv-loop μ-loop
+loop-holds c = search folds-first
+
+shared-slice-read-byte : tie.Need-shared-slice-read-byte Inv-loop μ-loop
+shared-slice-read-byte c = search needs
+
+byte-requires : tie.Need-byte-requires Inv-loop μ-loop
+byte-requires c κs = search needs
+
+add-i : tie.Need-add-i Inv-loop μ-loop
+add-i c = search needs
+
+loop-less : tie.Need-loop-less Inv-loop μ-loop
+loop-less c = search needs
+
+loop-again : tie.Need-loop-again Inv-loop μ-loop
+loop-again c = search folds-again
+
+returns : tie.Need-returns Inv-loop μ-loop
+returns c = search text-fed
+
+pub text-spec : {M : Type 1} → statement M
+text-spec =
+    tie.close
+    (tie.spec
+    Inv-loop
+    μ-loop
+    number-of-requires
+    feed-requires
+    loop-holds
+    shared-slice-read-byte
+    byte-requires
+    add-i
+    loop-less
+    loop-again
+    returns)
