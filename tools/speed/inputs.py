@@ -1,4 +1,4 @@
-"""The benchmark's texts: four that are drawn from fixed seeds, and documents of Debian's packages."""
+"""The benchmark's texts: four that are drawn from fixed seeds, documents of Debian's packages, and hostile ones."""
 import glob
 import gzip
 import random
@@ -76,6 +76,23 @@ def quoted(chance):
     return remark + chance.choice(('\n', lines(chance, 1, 1)))
 
 
+# Texts that some search might walk again and again, by what each repeats behind its head: openers that nothing closes, alone, with a pair
+# between them, in items and in steps of one paragraph; openers and closers behind escapes; lines whose fence runs neither open nor close;
+# blanks and digits before marks that lead nothing; line ends and marks without anything else.
+HOSTILE = {
+    'openers': (b'', b'<a'),
+    'openers and pairs': (b'', b'<a`x` '),
+    'items': (b'', b'- <a\n'),
+    'steps': (b'', b'1. x <a\n'),
+    'escaped openers': (b'<', b'\\\\<\\>'),
+    'lone backticks': (b'`', b'a ``b ```c\n'),
+    'fence lines that close nothing': (b'~~~~\n', b'~~~\n'),
+    'fence lines that open nothing': (b'<', b'~~~ ~\n'),
+    'blanks': (b'x', b'        -        1.'),
+    'digits': (b'x', b'1234567890.'),
+    'quotes': (b'', b'>'),
+    'line ends': (b'', b'>\n<\n'),
+}
 DRAWN = {'prose': prose, 'dense': dense, 'captures': captures, 'quoted': quoted}
 NAMES = *DRAWN, 'documents'
 # Rust's release notes, in Markdown (package rustc-web), then Git's (package git).
@@ -100,6 +117,9 @@ def text(name, size):
     if name == 'documents':
         whole = documents()
         return (whole * (size // len(whole) + 1))[:size]
+    if name in HOSTILE:
+        head, again = HOSTILE[name]
+        return (head + again * (size // len(again) + 1))[:size]
     chance, parts, length = random.Random(name), [], 0
     while length < size:
         parts.append(DRAWN[name](chance).encode())
