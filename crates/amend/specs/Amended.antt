@@ -3,26 +3,26 @@
 -- accepted list".
 use mathlib.Core.Path.{_≡_}
 use mathlib.Core.Bool.{Bool, not, cond, _||_, _&&_}
-use mathlib.Core.List.{List, [], _∷_, _++_, map}
-use Prim.Native.Nat.{ℕ, _+_, _-_}
+use mathlib.Core.List.{List, [], _++_, map}
+use Prim.Native.Nat.{ℕ, _+_}
 use lib.Dec.{ltb}
 use lib.ListN.{length, take, drop}
-use Rattle.common.specs.Entry.{flatten, rows, room, over, wide}
-use Rattle.common.specs.Refusals.{Outcome, given, refuse, tooLong, past}
+use Rattle.common.specs.Entry.{flatten, rows, over, wide}
+use Rattle.common.specs.Refusals.{Outcome, refuse, tooLong, past}
 use Rattle.common.specs.declared.grammar.Grammar.{Grammar}
-use Rattle.region.specs.Region.{Region, move, up, keepBefore, keepFrom, Listed, row, unrow, tagOf}
+use Rattle.region.specs.Region.{Region, up, reaches, keepBefore, keepFrom, Listed, row, unrow, tagOf}
 use Rattle.rules.specs.Grammar.{Gram}
-use Rattle.rules.specs.Columns.{Columns, gramOf}
-use Rattle.rules.specs.Columns.{unequal}
+use Rattle.rules.specs.Columns.{Columns, gramOf, unequal}
 use Rattle.cover.specs.Shape.{misshapen}
-use Rattle.amend.specs.Amend.{Edit, joint}
-use Rattle.amend.specs.Local.{usesLineEnd}
+use Rattle.amend.specs.Amend.{Edit, movedBy, joint}
+use Rattle.joint.specs.Joint.{openEnd, lineEndIsMark}
 use Rattle.region.specs.Regions.{tagged}
+use Rattle.common.specs.Lists.{filledAnswer}
 
 -- ---- lists as regions
 -- the first n regions of a list
-unfoldable pub listed : ℕ → List ℕ → List Listed
-listed n l = map unrow (rows wide n l)
+unfoldable pub regionsIn : ℕ → List ℕ → List Listed
+regionsIn n l = map unrow (rows wide n l)
 
 -- a text's regions as a list has them
 abbrev pub listRegions : Gram → List ℕ → List Listed
@@ -32,7 +32,7 @@ listRegions = tagged tagOf
 abbrev pub edit : ℕ → ℕ → List ℕ → Edit
 edit first second text = record { first = first; second = second; text = text }
 
--- the edited text
+-- the edited text (`finished` of Several.antt says it of several edits, for the proof)
 abbrev pub edited : Edit → List ℕ → List ℕ
 edited e s = take (e .first) s ++ (e .text ++ drop (e .second) s)
 
@@ -41,37 +41,37 @@ abbrev pub follows : ℕ → ℕ → Bool
 follows len second = ltb second len
 
 -- "regions starting before the first cut; the replacement's own moved up by the first cut; unless the second cut is the text's end,
--- regions starting at or after it moved by the change in length"
+-- regions starting at or after it moved by the change in length" (`relist` of Several.antt says it of several edits, for the proof)
 unfoldable pub amendedRegions : {T : Type 0} → (List ℕ → List (Region T)) → ℕ → Edit → List (Region T) → List (Region T)
 amendedRegions build len e l =
     keepBefore (e .first) l
-    ++ (up (e .first) (build (e .text)) ++ cond (follows len (e .second)) (map (move (λ x. x + (e .first + length (e .text)) - e .second)) (keepFrom (e .second) l)) [])
+    ++ (up (e .first) (build (e .text)) ++ cond (follows len (e .second)) (movedBy (e .second) (e .first + length (e .text)) (keepFrom (e .second) l)) [])
 
 -- ---- what is refused
 -- 4: "first cut after second, or second past the text"
 abbrev pub miscut : List ℕ → Edit → Bool
 miscut s e = ltb (e .second) (e .first) || past s (e .second)
 
+-- 9: "the escape, a symmetric byte or an asymmetric opener is the line-end byte", of a grammar and columns
+abbrev pub usesLineEnd : Grammar → Columns → Bool
+usesLineEnd g c = lineEndIsMark (g .eol) (g .escape) (c .inline .symBytes) (c .inline .openers)
+
 -- 7: "a cut is not at a joint (the second may be the text's end)"
 unfoldable pub offJoint : {T : Type 0} → ℕ → List ℕ → List (Region T) → ℕ → ℕ → Bool
 offJoint eol s l first second = not (joint eol s l first) || (follows (length s) second && not (joint eol s l second))
 
 -- 8: "old text follows a replacement that isn't empty, and that replacement doesn't end in two line ends or has, built alone, a region
--- reaching its end": the replacement's end is no joint of it
+-- reaching its end"
 unfoldable pub leftOpen : {T : Type 0} → ℕ → (List ℕ → List (Region T)) → ℕ → Edit → Bool
-leftOpen eol build len e = follows len (e .second) && not (joint eol (e .text) (build (e .text)) (length (e .text)))
-
--- 3: "the answer has more regions … than there is room for"
-abbrev pub crowded : {T : Type 0} → List (Region T) → List ℕ → Bool
-crowded l out = ltb (room wide out) (length l)
+leftOpen eol build len e = openEnd eol (follows len (e .second)) (e .text) (reaches (length (e .text)) (build (e .text)))
 
 -- ---- the answer, and the list that is left
 module _ (g : Grammar) (c : Columns) (s l : List ℕ) (n : ℕ) (e : Edit) where
   -- the regions that an amendment of the list l, with n regions, is to leave
-  abbrev pub result : List Listed
-  result = amendedRegions (listRegions (gramOf g c)) (length s) e (listed n l)
+  abbrev pub amendedList : List Listed
+  amendedList = amendedRegions (listRegions (gramOf g c)) (length s) e (regionsIn n l)
 
-  -- "For an amendment: 1 (old text, replacement), 6, 4, 1 (edited text), 5, 9, 7, 8, 3."; else the count
+  -- "For an amendment: 1 (old text, replacement), 6, 4, 1 (edited text), 5, 9, 7, 8, 3.", the last as for building
   unfoldable pub amendedAnswer : List ℕ → Outcome
   amendedAnswer out =
       refuse 1 (tooLong s || tooLong (e .text))
@@ -80,10 +80,9 @@ module _ (g : Grammar) (c : Columns) (s l : List ℕ) (n : ℕ) (e : Edit) where
       (refuse 1 (tooLong (edited e s))
       (refuse 5 (misshapen l n (length s))
       (refuse 9 (usesLineEnd g c)
-      (refuse 7 (offJoint (g .eol) s (listed n l) (e .first) (e .second))
+      (refuse 7 (offJoint (g .eol) s (regionsIn n l) (e .first) (e .second))
       (refuse 8 (leftOpen (g .eol) (listRegions (gramOf g c)) (length s) e)
-      (refuse 3 (crowded result out)
-      (given (length result ∷ []))))))))))
+      (filledAnswer wide amendedList out))))))))
 
 -- "A refusal returns its number alone; lists, states and cursors keep their values. … Success writes the regions from place 0, returns
 -- their count and changes nothing beyond them.": the run that an outcome leaves of `out`, where the regions are l
@@ -93,4 +92,4 @@ leaves o out l = cond (ltb 0 (o .number)) out (over (flatten row l) out)
 -- the promise of an amendment: its answer, and the list that it leaves
 pub record Amended (g : Grammar) (c : Columns) (s l : List ℕ) (n : ℕ) (e : Edit) (out out′ : List ℕ) (o : Outcome) : Type 0 where
   pub answer : o ≡ amendedAnswer g c s l n e out
-  pub list : out′ ≡ leaves (amendedAnswer g c s l n e out) out (result g c s l n e)
+  pub list : out′ ≡ leaves (amendedAnswer g c s l n e out) out (amendedList g c s l n e)

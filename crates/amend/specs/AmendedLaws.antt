@@ -19,19 +19,16 @@ use Rattle.common.specs.declared.refusal.Answer.{Answer}
 use Rattle.common.specs.declared.refusal.Found.the-variants as found
 use Rattle.region.specs.Region.{reaches}
 use Rattle.rules.specs.Grammar.{Gram}
-use Rattle.rules.specs.Columns.{Columns, columns, gramOf}
-use Rattle.rules.specs.Columns.{unequal}
-use Rattle.rules.specs.Columns.{alphabetOf}
+use Rattle.rules.specs.Columns.{Columns, inlineRules, columns, unequal, alphabetOf, gramOf}
 use Rattle.rules.specs.Rows.{gramBy, Folded}
 use Rattle.rules.specs.RowLaws.{gram-same}
 use Rattle.rules.specs.declared.search_bytes.Alphabet.{Alphabet}
 use Rattle.lines.specs.Fences.{fenceTable}
-use Rattle.joint.specs.Joint.{afterEmptyLine, marks}
+use Rattle.joint.specs.Joint.{afterEmptyLine, lineEndIsMark}
 use Rattle.amend.specs.Amend.{Edit, joint}
-use Rattle.amend.specs.Local.{usesLineEnd}
 use Rattle.cover.specs.Shape.{misshapen}
-use Rattle.amend.specs.Amended.{listed, listRegions, edit, edited, follows, miscut, offJoint, amendedAnswer, Amended}
-use Rattle.amend.specs.Parts.{judged, said, Judged, Ready, settledAnswer, Settled}
+use Rattle.amend.specs.Amended.{regionsIn, listRegions, edit, edited, follows, miscut, usesLineEnd, offJoint, amendedAnswer, Amended}
+use Rattle.amend.specs.Parts.{judged, toldVerdict, Judged, CutsReady, settledAnswer, Settled}
 use Rattle.amend.specs.RowLaws.{orderly-told}
 use Rattle.amend.specs.JudgeLaws.{edited-length}
 use Rattle.amend.specs.declared.Verdict.{Verdict}
@@ -76,12 +73,12 @@ module _ (eol : ℕ) (s l : List ℕ) (n : ℕ) (e : Edit) (u m : Bool) where
       let t4 = miscut s e in
       let t1′ = tooLong (edited e s) in
       let t5 = misshapen l n (length s) in
-      let t7 = offJoint eol s (listed n l) (e .first) (e .second) in
+      let t7 = offJoint eol s (regionsIn n l) (e .first) (e .second) in
       refuse-same k 1 t1 _ _ (refuse-same k 6 u _ _ (refuse-same k 4 t4 _ _ (refuse-same k 1 t1′ _ _ (refuse-same k 5 t5 _ _ (refuse-same k 9 m _ _ (refuse-same k 7 t7 (given []) o (λ z. absurd (not-given q (sym z)))))))))
 
   module _ (fine : judged eol s l n e u m (given []) ≡ given []) where
     passed : ((tooLong s || tooLong (e .text)) ≡ false) × (u ≡ false) × (miscut s e ≡ false) × (tooLong (edited e s) ≡ false) × (misshapen l n (length s) ≡ false) × (m ≡ false)
-        × (offJoint eol s (listed n l) (e .first) (e .second) ≡ false)
+        × (offJoint eol s (regionsIn n l) (e .first) (e .second) ≡ false)
     unfolding judged
     passed =
         let a = refuse-pass 0 (tooLong s || tooLong (e .text)) _ [] fine in
@@ -90,7 +87,7 @@ module _ (eol : ℕ) (s l : List ℕ) (n : ℕ) (e : Edit) (u m : Bool) where
         let d = refuse-pass 0 (tooLong (edited e s)) _ [] (c .1) in
         let f = refuse-pass 4 (misshapen l n (length s)) _ [] (d .1) in
         let g = refuse-pass 8 m _ [] (f .1) in
-        let h = refuse-pass 6 (offJoint eol s (listed n l) (e .first) (e .second)) _ [] (g .1) in
+        let h = refuse-pass 6 (offJoint eol s (regionsIn n l) (e .first) (e .second)) _ [] (g .1) in
         (a .0, b .0, c .0, d .0, f .0, g .0, h .0)
 
     judged-on : (o : Outcome) → judged eol s l n e u m o ≡ o
@@ -98,16 +95,16 @@ module _ (eol : ℕ) (s l : List ℕ) (n : ℕ) (e : Edit) (u m : Bool) where
     judged-on o = let p = passed in simp (p .0, p .1, p .2, p .3, p .4, p .5, p .6)
 
 pub ready-told : (eol : ℕ) (s l : List ℕ) (n first second : ℕ) (r : List ℕ) (u m : Bool) (v : Verdict) → v ≡ verdict.Fine → Judged eol s l n (edit first second r) u m v
-    → Ready l n first second (length s) r
+    → CutsReady l n (record { first = first; second = second; len = length s }) r
 ready-told eol s l n first second r u m v e g =
-    let p = passed eol s l n (edit first second r) u m (sym (g .answer) ∙ ap said e) in
+    let p = passed eol s l n (edit first second r) u m (sym (g .answer) ∙ ap toldVerdict e) in
     let a = neither (tooLong s) (tooLong r) (p .0) in
     let b = neither (ltb second first) (past s second) (p .2) in
     let cuts : first ≤ second = ltb-false second first (b .0) in
     let inside : second ≤ length s = ltb-false (length s) second (b .1) in
     record {
       orderly = orderly-told l n (length s) (p .4);
-      cuts = cuts;
+      rising = cuts;
       inside = inside;
       short = ltb-false 4294967295 (length s) (a .0);
       small = omega (arith, edited-length s first second r cuts inside, ltb-false 4294967295 (length (edited (edit first second r) s)) (p .3));
@@ -116,36 +113,36 @@ ready-told eol s l n first second r u m v e g =
 -- ---- the ways out of the entry
 module _ (g : Grammar) (c : Columns) (s l : List ℕ) (n : ℕ) (e : Edit) (out : List ℕ) where
   as-judged : amendedAnswer g c s l n e out
-      ≡ judged (g .eol) s l n e (unequal c) (usesLineEnd g c) (settledAnswer (g .eol) (length s) (listRegions (gramOf g c)) (listed n l) e out)
+      ≡ judged (g .eol) s l n e (unequal c) (usesLineEnd g c) (settledAnswer (g .eol) (length s) (listRegions (gramOf g c)) (regionsIn n l) e out)
   unfolding amendedAnswer judged settledAnswer
   as-judged = refl
 
   module _ (u m : Bool) (v : Verdict) (hv : Judged (g .eol) s l n e u m v) (hu : Gives (unequal c) u) (hm : Gives (usesLineEnd g c) m) where
-    as-told : amendedAnswer g c s l n e out ≡ judged (g .eol) s l n e u m (settledAnswer (g .eol) (length s) (listRegions (gramOf g c)) (listed n l) e out)
+    as-told : amendedAnswer g c s l n e out ≡ judged (g .eol) s l n e u m (settledAnswer (g .eol) (length s) (listRegions (gramOf g c)) (regionsIn n l) e out)
     as-told = as-judged ∙ rw (← (hu .answer), ← (hm .answer))
 
     amended-stop : (q : Refusal) → v ≡ verdict.Refused q → Amended g c s l n e out out (refused (numberOf q))
     amended-stop q d =
-        let a : amendedAnswer g c s l n e out ≡ refused (numberOf q) = as-told ∙ judged-stop (g .eol) s l n e u m q _ (sym (hv .answer) ∙ ap said d) in
+        let a : amendedAnswer g c s l n e out ≡ refused (numberOf q) = as-told ∙ judged-stop (g .eol) s l n e u m q _ (sym (hv .answer) ∙ ap toldVerdict d) in
         record { answer = sym a; list = rw (a, number-positive q) }
 
-    amended-on : (out′ : List ℕ) (o : Outcome) → v ≡ verdict.Fine → Settled (g .eol) (length s) (listRegions (gramOf g c)) (listed n l) e out out′ o → Amended g c s l n e out out′ o
+    amended-on : (out′ : List ℕ) (o : Outcome) → v ≡ verdict.Fine → Settled (g .eol) (length s) (listRegions (gramOf g c)) (regionsIn n l) e out out′ o → Amended g c s l n e out out′ o
     amended-on out′ o d w =
-        let a : amendedAnswer g c s l n e out ≡ settledAnswer (g .eol) (length s) (listRegions (gramOf g c)) (listed n l) e out = as-told ∙ judged-on (g .eol) s l n e u m (sym (hv .answer) ∙ ap said d) _ in
+        let a : amendedAnswer g c s l n e out ≡ settledAnswer (g .eol) (length s) (listRegions (gramOf g c)) (regionsIn n l) e out = as-told ∙ judged-on (g .eol) s l n e u m (sym (hv .answer) ∙ ap toldVerdict d) _ in
         record { answer = w .answer ∙ sym a; list = w .list ∙ rw a }
 
 module _ (g : Grammar) (f m y t o k c s l : List ℕ) (n first second : ℕ) (r out : List ℕ) (u w : Bool) (v : Verdict) where
   pub amended-refused : (q : Refusal) → v ≡ verdict.Refused q → Judged (g .eol) s l n (edit first second r) u w v → Gives (unequal (columns f m y t o k c)) u
-      → Gives (marks (g .eol) (g .escape) y o) w → Amended g (columns f m y t o k c) s l n (edit first second r) out out (refused (numberOf q))
+      → Gives (lineEndIsMark (g .eol) (g .escape) y o) w → Amended g (columns f m y t o k c) s l n (edit first second r) out out (refused (numberOf q))
   amended-refused q d hv hu hw = amended-stop g (columns f m y t o k c) s l n (edit first second r) out u w v hv hu hw q d
 
   pub amended-settled : (alphabet : Alphabet) (fences : List ℕ) (rules : List (List ℕ)) (out′ : List ℕ) (a : Outcome) → v ≡ verdict.Fine → Judged (g .eol) s l n (edit first second r) u w v
-      → Gives (unequal (columns f m y t o k c)) u → Gives (marks (g .eol) (g .escape) y o) w → Gives (alphabetOf g f y o) alphabet → Gives (fenceTable f m) fences → Folded f y t o k c rules
-      → Settled (alphabet .grammar .eol) (length s) (listRegions (gramBy alphabet fences rules)) (listed n l) (edit first second r) out out′ a → Amended g (columns f m y t o k c) s l n (edit first second r) out out′ a
+      → Gives (unequal (columns f m y t o k c)) u → Gives (lineEndIsMark (g .eol) (g .escape) y o) w → Gives (alphabetOf g f y o) alphabet → Gives (fenceTable f m) fences → Folded f (inlineRules y t o k c) rules
+      → Settled (alphabet .grammar .eol) (length s) (listRegions (gramBy alphabet fences rules)) (regionsIn n l) (edit first second r) out out′ a → Amended g (columns f m y t o k c) s l n (edit first second r) out out′ a
   amended-settled alphabet fences rules out′ a d hv hu hw hs hf hr z =
       amended-on g (columns f m y t o k c) s l n (edit first second r) out u w v hv hu hw out′ a d
-      (subst (λ (x : Gram). Settled (g .eol) (length s) (listRegions x) (listed n l) (edit first second r) out out′ a) (gram-same f y t o k c rules hr g m alphabet fences hs hf)
-      (subst (λ (x : Alphabet). Settled (x .grammar .eol) (length s) (listRegions (gramBy alphabet fences rules)) (listed n l) (edit first second r) out out′ a) (hs .answer) z))
+      (subst (λ (x : Gram). Settled (g .eol) (length s) (listRegions x) (regionsIn n l) (edit first second r) out out′ a) (gram-same f y t o k c rules hr g m alphabet fences hs hf)
+      (subst (λ (x : Alphabet). Settled (x .grammar .eol) (length s) (listRegions (gramBy alphabet fences rules)) (regionsIn n l) (edit first second r) out out′ a) (hs .answer) z))
 
 -- ---- one answer, one list
 -- two results of an amendment for the same arguments are one: the answer, and the list that is left
@@ -183,8 +180,8 @@ module _ (g : Grammar) (c : Columns) (l : List ℕ) (n : ℕ) (e : Edit) (out : 
       (refuse 1 (ltb 4294967295 long)
       (refuse 5 (misshapen l n len)
       (refuse 9 (usesLineEnd g c)
-      (refuse 7 (not (first && not (reaches (e .first) (listed n l))) || (follows len (e .second) && not (second && not (reaches (e .second) (listed n l)))))
-      (settledAnswer (g .eol) len (listRegions (gramOf g c)) (listed n l) e out)))))))
+      (refuse 7 (not (first && not (reaches (e .first) (regionsIn n l))) || (follows len (e .second) && not (second && not (reaches (e .second) (regionsIn n l)))))
+      (settledAnswer (g .eol) len (listRegions (gramOf g c)) (regionsIn n l) e out)))))))
 
   is-asked : (s : List ℕ) → amendedAnswer g c s l n e out ≡ asked (length s) (length (edited e s)) (afterEmptyLine (g .eol) s (e .first)) (afterEmptyLine (g .eol) s (e .second))
   unfolding amendedAnswer asked offJoint joint settledAnswer

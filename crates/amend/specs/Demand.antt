@@ -14,11 +14,14 @@ use Rattle.common.specs.declared.grammar.Grammar.{Grammar}
 use Rattle.region.specs.Region.{Region, up, Origin, retag}
 use Rattle.rules.specs.Grammar.{plain, Gram}
 use Rattle.region.specs.Regions.{regions, tagged}
-use Rattle.rules.specs.Columns.{Columns, symRule, openRule, ruleOf, gramOf}
+use Rattle.rules.specs.Columns.{InlineRules, Columns, symRule, openRule, inlineRule, gramOf}
 use Rattle.region.specs.Ahead.{regions-in-order}
-use Rattle.amend.specs.Local.{Linewise, Apart, usesLineEnd}
+use Rattle.amend.specs.Local.{Linewise, FreeLineEnd}
 use Rattle.amend.specs.LocalLaws.{reader-linewise}
-use Rattle.amend.specs.Amend.{Edit, finished, relist, Fits, Blank, Decided, Joins}
+use Rattle.amend.specs.Amend.{Edit}
+use Rattle.amend.specs.Several.{finished, relist, Fits}
+use Rattle.amend.specs.Joins.{Blank, Decided, Joins}
+use Rattle.amend.specs.Amended.{usesLineEnd}
 use Rattle.amend.specs.Join.{regions-decided}
 use Rattle.amend.specs.Edits.{amended}
 use Rattle.amend.specs.Lists.{retag-up, retag-reaches, retag-order}
@@ -35,7 +38,7 @@ retag-joins {S} {T} f eol build joins = record { ordered = λ s. retag-order f 0
         (joins .decided a b two)
 
 -- ---- every grammar that the facts about joints hold for, and any number of edits at one go
-module _ (g : Gram) (lines : Linewise (g .eol) (g .fences)) (apart : Apart g) where
+module _ (g : Gram) (lines : Linewise (g .eol) (g .fences)) (apart : FreeLineEnd g) where
   pub regions-join : Joins (g .eol) (regions g)
   regions-join = record { ordered = regions-in-order g; decided = λ a b two. regions-decided g lines a b two apart }
 
@@ -44,25 +47,25 @@ module _ (g : Gram) (lines : Linewise (g .eol) (g .fences)) (apart : Apart g) wh
   demand f s es fits = amended (g .eol) (tagged f g) (retag-joins f (g .eol) (regions g) regions-join) s es fits
 
 -- ---- by the rules' columns
-no-rule : (c : Columns) (b : ℕ) → hasRule (c .symBytes) b ≡ false → hasRule (c .openers) b ≡ false → ruleOf c b ≡ plain
+no-rule : (i : InlineRules) (b : ℕ) → hasRule (i .symBytes) b ≡ false → hasRule (i .openers) b ≡ false → inlineRule i b ≡ plain
 unfolding symRule openRule
-no-rule c b e f = rw (e, f)
+no-rule i b e f = rw (e, f)
 
 module _ (g : Grammar) (c : Columns) (free : usesLineEnd g c ≡ false) where
   columns-lines : Linewise (g .eol) (gramOf g c .fences)
   columns-lines = reader-linewise g (onByte false (hasRule (c .fenceBytes))) (onByte 0 (leastOf (c .fenceBytes) (c .fenceMins)))
 
-  columns-apart : Apart (gramOf g c)
+  columns-apart : FreeLineEnd (gramOf g c)
   columns-apart = record { escape = λ e. clash (is-yes (g .eol) (g .escape) e) (w .0); opener = by (ltb (g .eol) 256) }
     where
-      w : (is (g .eol) (g .escape) ≡ false) × ((hasRule (c .symBytes) (g .eol) || hasRule (c .openers) (g .eol)) ≡ false)
+      w : (is (g .eol) (g .escape) ≡ false) × ((hasRule (c .inline .symBytes) (g .eol) || hasRule (c .inline .openers) (g .eol)) ≡ false)
       w = neither (is (g .eol) (g .escape)) _ free
 
-      v : (hasRule (c .symBytes) (g .eol) ≡ false) × (hasRule (c .openers) (g .eol) ≡ false)
-      v = neither (hasRule (c .symBytes) (g .eol)) _ (w .1)
+      v : (hasRule (c .inline .symBytes) (g .eol) ≡ false) × (hasRule (c .inline .openers) (g .eol) ≡ false)
+      v = neither (hasRule (c .inline .symBytes) (g .eol)) _ (w .1)
 
-      by : (t : Bool) → cond t (ruleOf c (g .eol)) plain ≡ plain
-      by true = no-rule c (g .eol) (v .0) (v .1)
+      by : (t : Bool) → cond t (inlineRule (c .inline) (g .eol)) plain ≡ plain
+      by true = no-rule (c .inline) (g .eol) (v .0) (v .1)
       by false = refl
 
   pub demand-columns : {T : Type 0} (f : Origin → T) (s : List ℕ) (es : List Edit) → Fits (g .eol) (tagged f (gramOf g c)) s 0 es

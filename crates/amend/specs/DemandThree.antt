@@ -4,10 +4,10 @@
 -- the amendment is given".
 use mathlib.Core.Path.{_≡_}
 use mathlib.Core.Bool.{false}
-use mathlib.Core.List.{List, _++_}
+use mathlib.Core.List.{List}
 use mathlib.Core.Logic.{_⊎_}
 use Prim.Native.Nat.{ℕ, _-_, _*_, _≤_, _<_}
-use lib.ListN.{length, getD, take, drop}
+use lib.ListN.{length, getD}
 use Rattle.common.specs.Entry.{room, wide}
 use Rattle.common.specs.Refusals.{told}
 use Rattle.common.specs.declared.grammar.Grammar.{Grammar}
@@ -17,29 +17,29 @@ use Rattle.region.specs.Region.{Region, reaches, Listed}
 use Rattle.region.specs.Regions.{regions}
 use Rattle.rules.specs.Columns.{Columns, unequal, gramOf}
 use Rattle.context.specs.Build.{Built}
-use Rattle.amend.specs.Amend.{Joint}
-use Rattle.amend.specs.Local.{usesLineEnd}
-use Rattle.amend.specs.Amended.{listRegions, edit, Amended}
+use Rattle.amend.specs.Amend.{Edit, Joint}
+use Rattle.amend.specs.Amended.{listRegions, edited, usesLineEnd, Amended}
 
 -- a replacement that old text may follow: it is empty, or it "ends in two line ends" and no region of it, "built alone", is one "reaching its end"
-abbrev pub Shut : {T : Type 0} → ℕ → (List ℕ → List (Region T)) → List ℕ → Type 0
-Shut eol build r = (length r ≡ 0) ⊎ ((2 ≤ length r) × (getD r (length r - 1) 0 ≡ eol) × (getD r (length r - 2) 0 ≡ eol) × (reaches (length r) (build r) ≡ false))
+-- (`EndsAtJoint` of Several.antt says it by the test of a joint, as the proof needs it; Serves.antt shows that they are one)
+abbrev pub ShutEnd : {T : Type 0} → ℕ → (List ℕ → List (Region T)) → List ℕ → Type 0
+ShutEnd eol build r = (length r ≡ 0) ⊎ ((2 ≤ length r) × (getD r (length r - 1) 0 ≡ eol) × (getD r (length r - 2) 0 ≡ eol) × (reaches (length r) (build r) ≡ false))
 
 -- what is asked of an edit of a text with a list of regions
-pub record Conditions (g : Grammar) (c : Columns) (old : List ℕ) (list : List Listed) (first second : ℕ) (text : List ℕ) : Type 0 where
+pub record Conditions (g : Grammar) (c : Columns) (old : List ℕ) (list : List Listed) (e : Edit) : Type 0 where
   -- the replacement and the edited text are within the limit
-  pub replacement : length text ≤ 4294967295
-  pub finished : length (take first old ++ (text ++ drop second old)) ≤ 4294967295
+  pub replacement : length (e .text) ≤ 4294967295
+  pub finished : length (edited e old) ≤ 4294967295
   -- the cuts are in order and within the text
-  pub rising : first ≤ second
-  pub within : second ≤ length old
+  pub rising : e .first ≤ e .second
+  pub within : e .second ≤ length old
   -- neither the escape nor an inline rule's byte is the line end
   pub apart : usesLineEnd g c ≡ false
   -- the first cut is a joint, the second a joint or the text's end
-  pub start : Joint (g .eol) old list first
-  pub stop : (second ≡ length old) ⊎ Joint (g .eol) old list second
+  pub start : Joint (g .eol) old list (e .first)
+  pub stop : (e .second ≡ length old) ⊎ Joint (g .eol) old list (e .second)
   -- where old text follows the replacement
-  pub shut : second < length old → Shut (g .eol) (listRegions (gramOf g c)) text
+  pub shut : e .second < length old → ShutEnd (g .eol) (listRegions (gramOf g c)) (e .text)
 
 -- how many regions a text has, by columns
 abbrev pub regionCount : Grammar → Columns → List ℕ → ℕ
@@ -58,14 +58,14 @@ pub record Agree (k : ℕ) (out out′ blank fresh : List ℕ) (r a : Answer) : 
 -- answer, and the amended list is the one built afresh.
 abbrev pub DemandThree : Type 0
 DemandThree =
-    (g : Grammar) (c : Columns) (old run l : List ℕ) (first second : ℕ) (text out out′ blank fresh : List ℕ) (q r a : Answer)
+    (g : Grammar) (c : Columns) (old run l : List ℕ) (e : Edit) (out out′ blank fresh : List ℕ) (q r a : Answer)
     → length old ≤ 4294967295
     → unequal c ≡ false
     → regionCount g c old ≤ room wide run
-    → Conditions g c old (listRegions (gramOf g c) old) first second text
-    → regionCount g c (take first old ++ (text ++ drop second old)) ≤ room wide out
-    → regionCount g c (take first old ++ (text ++ drop second old)) ≤ room wide blank
+    → Conditions g c old (listRegions (gramOf g c) old) e
+    → regionCount g c (edited e old) ≤ room wide out
+    → regionCount g c (edited e old) ≤ room wide blank
     → Built g c old run l (told q)
-    → Amended g c old l (regionCount g c old) (edit first second text) out out′ (told r)
-    → Built g c (take first old ++ (text ++ drop second old)) blank fresh (told a)
-    → (q ≡ Value (regionCount g c old)) × Agree (regionCount g c (take first old ++ (text ++ drop second old))) out out′ blank fresh r a
+    → Amended g c old l (regionCount g c old) e out out′ (told r)
+    → Built g c (edited e old) blank fresh (told a)
+    → (q ≡ Value (regionCount g c old)) × Agree (regionCount g c (edited e old)) out out′ blank fresh r a

@@ -14,7 +14,9 @@ use Rattle.search.specs.Search.{is, holds}
 use Rattle.search.specs.SearchLaws.{decide, clash, and-true, is-true, holds-true, neither}
 use Rattle.region.specs.Region.{Region, move, up, reaches, keepBefore, keepFrom}
 use Rattle.joint.specs.Joint.{afterEmptyLine}
-use Rattle.amend.specs.Amend.{Edit, part, finished, relist, joint, Joint, Sound, Fits, none, last, next, Blank, Joins}
+use Rattle.amend.specs.Amend.{Edit, joint, Joint}
+use Rattle.amend.specs.Several.{part, finished, relist, EndsAtJoint, Fits, none, last, next}
+use Rattle.amend.specs.Joins.{Blank, Joins}
 use Rattle.amend.specs.Lists.{up-append, up-up, up-zero, move-up, stay, reaches-append, reaches-up, reaches-zero, before-all, from-all, from-none, from-zero, before-up}
 
 -- ---- what the test of a joint tells
@@ -167,7 +169,7 @@ module _ {T : Type 0} (eol : ℕ) (build : List ℕ → List (Region T)) (joins 
           ∙ ap (λ (z : List (Region T)). map (move (λ x. x + n - q)) (keepBefore i (keepFrom q (build s))) ++ z) (up-up n (length u) (build more) ∙ ap (λ (m : ℕ). up (n + m) (build more)) long)
 
   -- ---- edits from a joint q on, which has become place n
-  sound-joins : (r more : List ℕ) → Sound eol build r → build (r ++ more) ≡ build r ++ up (length r) (build more)
+  sound-joins : (r more : List ℕ) → EndsAtJoint eol build r → build (r ++ more) ≡ build r ++ up (length r) (build more)
   sound-joins r more j =
       let w = joint-cut eol r (build r) (length r) j in
       joined r more (λ h. (w .two h .1, w .two h .2)) (w .clear)

@@ -15,7 +15,8 @@ use Rattle.search.specs.Search.{find, is, other, holds, firstPlace, lineEnd, ne
 use Rattle.search.specs.SearchLaws.{decide, is-yes, is-no, other-yes, holds-in, holds-prefix, first-ge, first-before, first-at, first-is, first-hit, first-prefix, first-past, find-ge, find-hit, find-prefix, find-past, back-prefix, Ends, start-zero, start-pos, back-after}
 use Rattle.common.specs.ItemLaws.{both}
 use Rattle.lines.specs.Paragraph.{endsAt, paragraphEnd, nextIn}
-use Rattle.common.specs.Turn.{Turn, go, stop, found, thenCollect, collect, firstTurn, allFound, Adv, Leads, Has}
+use Rattle.common.specs.Turn.{Turn, go, stop, found, thenCollect, collect, firstTurn, allFound}
+use Rattle.common.specs.Turning.{Adv, Leads, Finds}
 use Rattle.common.specs.TurnLaws.{by-turn, collect-go, collect-found, collect-alike, scan-same, scan-fuel, has-is}
 use Rattle.lines.specs.declared.fence_tests.Hit.{Hit}
 use Rattle.lines.specs.declared.fence_tests.Hit.the-variants.{At, End}
@@ -25,9 +26,9 @@ use Rattle.region.specs.Region.{Region, Caused, up, reaches}
 use Rattle.rules.specs.Grammar.{Rule, plain, sym, asym, Gram}
 use Rattle.region.specs.Regions.{shutPlace, fencedTo, fenced, oddBefore, escaped, nextOf, symAfter, symTurn, asymAfter, asymTurn, pairOf, openPair, inline, regionAt, regionTurn, regions}
 use Rattle.region.specs.Ahead.{Lies, Meets, Met, next-met, symTurn-ahead, asymTurn-ahead, regionTurn-ahead}
-use Rattle.amend.specs.Local.{Linewise, Apart}
+use Rattle.amend.specs.Local.{Linewise, FreeLineEnd}
 use Rattle.amend.specs.LocalLaws.{find-either, line-in, line-same}
-use Rattle.amend.specs.Amend.{Blank, Decided}
+use Rattle.amend.specs.Joins.{Blank, Decided}
 use Rattle.amend.specs.Lists.{reaches-none, reaches-now, reaches-later}
 use Rattle.amend.specs.Shift.{regions-shift}
 
@@ -35,7 +36,7 @@ use Rattle.amend.specs.Shift.{regions-shift}
 module _ {T : Type 0} where
   -- a turn that finds a region which starts before len and ends there or later
   abbrev pub Crosses : ℕ → Turn (Region T) → Type 0
-  Crosses len t = Has (λ r n. (r .start < len) × (len ≤ r .stop)) t
+  Crosses len t = Finds (λ r n. (r .start < len) × (len ≤ r .stop)) t
 
   -- a turn of the first scan that says which the turn over both is: the same, the one at len, or one that crosses len, as it does itself
   abbrev pub Decides : (ℕ → Turn (Region T)) → ℕ → ℕ → Turn (Region T) → Type 0
@@ -291,7 +292,7 @@ module _ (g : Gram) (lines : Linewise (g .eol) (g .fences)) (a b : List ℕ) (tw
       (λ u. inr (ltb-false (r .stop) (length a) u, subst (Crosses (length a)) (inv e) (i, ltb-false (r .stop) (length a) u))) (decide (ltb (r .stop) (length a)))
 
   -- ---- regions, where the line end opens no pair and is no escape
-  module _ (apart : Apart g) where
+  module _ (apart : FreeLineEnd g) where
     inline-same : (p : ℕ) (u : Rule) → p < length a → g .rule (getD a p 0) ≡ u → inline g (a ++ b) p (getD a p 0) u ≡ inline g a p (getD a p 0) u
     unfolding inline
     inline-same p plain h e = refl

@@ -9,7 +9,7 @@ use borrow.Author.Tests.{lt-ltb, le-ltb}
 use Rattle.search.specs.Promise.{Gives}
 use Rattle.common.specs.Refusals.{Outcome, refused, tooLong}
 use Rattle.cover.specs.Shape.{misshapen}
-use Rattle.amend.specs.Amended.{listed, edit, edited, miscut, offJoint}
+use Rattle.amend.specs.Amended.{regionsIn, edit, edited, miscut, offJoint}
 use Rattle.amend.specs.Parts.{judged}
 
 pub edited-length : (s : List ℕ) (first second : ℕ) (r : List ℕ) → first ≤ second → second ≤ length s → length (edited (edit first second r) s) ≡ length s - (second - first) + length r
@@ -71,10 +71,10 @@ module _ (eol : ℕ) (s l : List ℕ) (n first second : ℕ) (r : List ℕ) (une
                   judged-marked h = simp (texts, c, cuts, small, ← (g .answer), i, h)
 
                   module _ (j : marked ≡ false) (z : Bool) where
-                    pub judged-joint : z ≡ true → Gives (offJoint eol s (listed n l) first second) z → refused 7 ≡ judged eol s l n (edit first second r) unequal marked o
+                    pub judged-joint : z ≡ true → Gives (offJoint eol s (regionsIn n l) first second) z → refused 7 ≡ judged eol s l n (edit first second r) unequal marked o
                     unfolding judged
                     judged-joint h k = simp (texts, c, cuts, small, ← (g .answer), i, j, ← (k .answer), h)
 
-                    pub judged-fine : z ≡ false → Gives (offJoint eol s (listed n l) first second) z → o ≡ judged eol s l n (edit first second r) unequal marked o
+                    pub judged-fine : z ≡ false → Gives (offJoint eol s (regionsIn n l) first second) z → o ≡ judged eol s l n (edit first second r) unequal marked o
                     unfolding judged
                     judged-fine h k = simp (texts, c, cuts, small, ← (g .answer), i, j, ← (k .answer), h)

@@ -1,4 +1,7 @@
 pub mod Amend
+pub mod Amended
+pub mod Several
+pub mod Joins
 pub mod Local
 pub mod Places
 pub mod Lists
@@ -7,7 +10,6 @@ pub mod Starts
 pub mod Shift
 pub mod Join
 pub mod Edits
-pub mod Amended
 pub mod Parts
 pub mod JointLaws
 pub mod RowLaws

@@ -1,17 +1,12 @@
 -- What the facts about joints ask of a grammar: a fence reader that goes by lines, and a line end that neither escapes nor opens. Assumes nothing.
 -- The page: "the escape, a symmetric byte or an asymmetric opener is the line-end byte (amendment only)" is refused.
 use mathlib.Core.Path.{_≡_}
-use mathlib.Core.Bool.{Bool, _||_}
 use mathlib.Core.List.{List, _++_}
 use Prim.Native.Nat.{ℕ, _+_, _<_}
 use lib.ListN.{length}
-use Rattle.search.specs.Search.{is}
 use Rattle.search.specs.SearchLaws.{Ends}
-use Rattle.common.specs.Rules.{hasRule}
-use Rattle.common.specs.declared.grammar.Grammar.{Grammar}
 use Rattle.lines.specs.Reader.{Fences}
 use Rattle.rules.specs.Grammar.{plain, Gram}
-use Rattle.rules.specs.Columns.{Columns}
 
 -- ---- a fence reader that goes by lines
 -- a question that sees only the line of the place it is asked of: whole lines before that line do not change the answer, nor does what
@@ -27,12 +22,7 @@ pub record Linewise (eol : ℕ) (f : Fences) : Type 0 where
   pub size : Local eol (f .size)
   pub shuts : (b n : ℕ) → Local eol (f .shuts b n)
 
--- ---- a line end that neither escapes nor opens
--- "the escape, a symmetric byte or an asymmetric opener is the line-end byte"
-abbrev pub usesLineEnd : Grammar → Columns → Bool
-usesLineEnd g c = is (g .eol) (g .escape) || (hasRule (c .symBytes) (g .eol) || hasRule (c .openers) (g .eol))
-
--- the opposite, of any grammar
-pub record Apart (g : Gram) : Type 0 where
+-- ---- a line end that neither escapes nor opens: the opposite of refusal 9 (`usesLineEnd`), of any grammar
+pub record FreeLineEnd (g : Gram) : Type 0 where
   pub escape : g .escape ≡ g .eol → ⊥
   pub opener : g .rule (g .eol) ≡ plain

@@ -13,7 +13,7 @@ use Rattle.search.specs.Search.{find, is, other, either, lineEnd}
 use Rattle.search.specs.SearchLaws.{decide, holds-true, holds-prefix, holds-shift, find-ge, find-le, find-hit, find-prefix, find-past, find-shift, Ends, start-prefix, start-shift, last-byte}
 use Rattle.lines.specs.Fences.{runEnd, opensLine, closesTo, closing}
 use Rattle.common.specs.declared.grammar.Grammar.{Grammar}
-use Rattle.lines.specs.Reader.{first, reader}
+use Rattle.lines.specs.Reader.{editionOne, reader}
 use Rattle.amend.specs.Local.{Local, Linewise}
 use Rattle.amend.specs.Places.{ltb-up, leb-up, sub-up, min-up}
 
@@ -82,8 +82,8 @@ module _ (g : Grammar) (has : ℕ → Bool) (least : ℕ → ℕ) where
         simp (start-prefix (g .eol) a b p (omega arith), holds-prefix (is c) a b p h, line-same (g .eol) a b ends p h, run-same (g .eol) a b ends p h c, rest-same (g .eol) a b ends p h (other (either (g .sep) (g .tab))) (runEnd c a p (lineEnd (g .eol) a p)) (omega arith));
   }
 
-  first-linewise : Linewise (g .eol) (first g has least)
-  first-linewise = record {
+  edition-linewise : Linewise (g .eol) (editionOne g has least)
+  edition-linewise = record {
     opens = record {
       behind = λ a b ends p. simp (start-shift (g .eol) a b ends, opensLine-local .behind a b ends);
       within = λ a b ends p h. simp (start-prefix (g .eol) a b p (omega arith), opensLine-local .within a b ends p h);
@@ -99,4 +99,4 @@ module _ (g : Grammar) (has : ℕ → Bool) (least : ℕ → ℕ) where
   -- so does the reader of every grammar
   pub reader-linewise : Linewise (g .eol) (reader g has least)
   unfolding reader
-  reader-linewise = first-linewise
+  reader-linewise = edition-linewise

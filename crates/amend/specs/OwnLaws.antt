@@ -1,7 +1,7 @@
 -- Laws of a replacement's own regions: the rules of the loops that count and write them, by steps of `next_region`. Assumes nothing.
 use mathlib.Core.Path.{_≡_, sym, ap, subst, _∙_}
 use mathlib.Core.Bool.{Bool, true, false, _||_, or-false, or-assoc}
-use mathlib.Core.List.{List, _∷_, map}
+use mathlib.Core.List.{List, [], _∷_, map}
 use Prim.Native.Nat.{ℕ, _+_, _-_, _≤_, _<_}
 use native.Mathlib.Nat.{add-comm}
 use native.Mathlib.Omega.{arith}
@@ -12,17 +12,18 @@ use Rattle.search.specs.Promise.{Gives}
 use Rattle.region.specs.Region.{Caused, regionOf, move, up, reaches, asListed}
 use Rattle.rules.specs.Grammar.{Gram}
 use Rattle.region.specs.Regions.{nextRegion, regions}
-use Rattle.region.specs.Views.{viewNext, placed}
+use Rattle.region.specs.Views.{viewNext, foundRegion}
 use Rattle.region.specs.NextLaws.{regionsFrom, from-start, next-none, next-some, next-ahead}
-use Rattle.region.specs.Memory.{Keeps}
+use Rattle.region.specs.Memory.{KeptNext}
 use Rattle.region.specs.MemoryLaws.{Sound, sound-zeros, keeps-told, keeps-sound}
 use Rattle.region.specs.LoopLaws.{Counting, counting-first, counting-told, counting-end, counting-next, counting-less}
-use Rattle.context.specs.Build.{Puts, Put}
+use Rattle.common.specs.Lists.{RowPut}
+use Rattle.region.specs.Room.{RowFits}
 use Rattle.region.specs.declared.Region.{Region as Told}
 use Rattle.region.specs.declared.Next.{Next}
 use Rattle.region.specs.declared.Next.the-variants as step
-use Rattle.amend.specs.Parts.{Laid, Owns, surveyed}
-use Rattle.amend.specs.RowLaws.{Laying, laying-first, laying-put, laying-end}
+use Rattle.amend.specs.Parts.{PutRows, Owns, surveyed}
+use Rattle.amend.specs.RowLaws.{PuttingRows, putting-first, putting-put, putting-end}
 use Rattle.amend.specs.Amended.{listRegions}
 
 -- ---- the loop that counts: n regions found before q, and whether one of them reaches the text's end
@@ -33,8 +34,8 @@ pub record Surveying (g : Gram) (s m : List ℕ) (n : ℕ) (reached : Bool) (q :
 pub surveying-first : (g : Gram) (s : List ℕ) → Surveying g s (replicate 256 0) 0 false 0
 surveying-first g s = record { counting = counting-first g s; reach = ap (reaches (length s)) (from-start g s) }
 
-module _ (g : Gram) (s m : List ℕ) (n : ℕ) (y : Bool) (q : ℕ) (d : Next) (m′ : List ℕ) (i : Surveying g s m n y q) (kept : Keeps g s m q d m′) where
-  t : Gives (placed (nextRegion g s q)) (viewNext d)
+module _ (g : Gram) (s m : List ℕ) (n : ℕ) (y : Bool) (q : ℕ) (d : Next) (m′ : List ℕ) (i : Surveying g s m n y q) (kept : KeptNext g s m q d m′) where
+  t : Gives (foundRegion (nextRegion g s q)) (viewNext d)
   t = counting-told g s m n q d m′ (i .counting) kept
 
   inside : q ≤ length s
@@ -69,7 +70,7 @@ pub record Moving (g : Gram) (s dead : List ℕ) (by at : ℕ) (out₀ out : Lis
   pub sound : Sound g s dead q
   pub inside : q ≤ length s
   pub fits : length s + by ≤ 4294967295
-  pub laying : Laying (up by (listRegions g s)) (up by (map asListed (regionsFrom g s q))) at m out₀ out
+  pub putting : PuttingRows (up by (listRegions g s)) (up by (map asListed (regionsFrom g s q))) at m out₀ out
 
 pub moving-first : (g : Gram) (s : List ℕ) (by at : ℕ) (out : List ℕ) → Owns (regions g s) s by out at → Moving g s (replicate 256 0) by at out out at 0
 moving-first g s by at out w =
@@ -77,38 +78,38 @@ moving-first g s by at out w =
       sound = sound-zeros g s 0;
       inside = omega arith;
       fits = w .fits;
-      laying =
-          subst (λ (l : List Caused). Laying (up by (listRegions g s)) (up by (map asListed l)) at at out out) (from-start g s)
-          (laying-first (omega (arith, w .room, length-map (listRegions g s) (move (λ x. by + x)), length-map (regions g s) asListed)));
+      putting =
+          subst (λ (l : List Caused). PuttingRows (up by (listRegions g s)) (up by (map asListed l)) at at out out) (from-start g s)
+          (putting-first (omega (arith, w .room, length-map (listRegions g s) (move (λ x. by + x)), length-map (regions g s) asListed)));
     }
 
-module _ (g : Gram) (s dead : List ℕ) (by at : ℕ) (out₀ out : List ℕ) (m q : ℕ) (d : Next) (dead′ : List ℕ) (i : Moving g s dead by at out₀ out m q) (kept : Keeps g s dead q d dead′) where
-  told : Gives (placed (nextRegion g s q)) (viewNext d)
+module _ (g : Gram) (s dead : List ℕ) (by at : ℕ) (out₀ out : List ℕ) (m q : ℕ) (d : Next) (dead′ : List ℕ) (i : Moving g s dead by at out₀ out m q) (kept : KeptNext g s dead q d dead′) where
+  told : Gives (foundRegion (nextRegion g s q)) (viewNext d)
   told = keeps-told g s dead q (i .inside) (i .sound) d dead′ kept
 
-  pub moving-end : d ≡ step.Nothing → Laid (up by (listRegions g s)) at out₀ out m
-  moving-end e = laying-end (subst (λ (l : List Caused). Laying (up by (listRegions g s)) (up by (map asListed l)) at m out₀ out) (next-none g s q (i .inside) d told e) (i .laying))
+  pub moving-end : d ≡ step.Nothing → PutRows (up by (listRegions g s)) at out₀ out m
+  moving-end e = putting-end (subst (λ (l : List Caused). PuttingRows (up by (listRegions g s)) (up by (map asListed l)) at m out₀ out) (next-none g s q (i .inside) d told e) (i .putting))
 
   module _ (r : Told) (n : ℕ) (e : d ≡ step.Region r n) where
     pub moving-less : length s - n < length s - q
     moving-less = let w = next-ahead g s q (i .inside) d told r n e in omega arith
 
-    more : Laying (up by (listRegions g s)) (move (λ x. by + x) (asListed (regionOf r)) ∷ up by (map asListed (regionsFrom g s n))) at m out₀ out
-    more = subst (λ (l : List Caused). Laying (up by (listRegions g s)) (up by (map asListed l)) at m out₀ out) (next-some g s q (i .inside) d told r n e) (i .laying)
+    more : PuttingRows (up by (listRegions g s)) (move (λ x. by + x) (asListed (regionOf r)) ∷ up by (map asListed (regionsFrom g s n))) at m out₀ out
+    more = subst (λ (l : List Caused). PuttingRows (up by (listRegions g s)) (up by (map asListed l)) at m out₀ out) (next-some g s q (i .inside) d told r n e) (i .putting)
 
-    pub moving-puts : Puts m (r .start + by) (r .end + by) out
+    pub moving-puts : RowFits m (r .start + by) (r .end + by) out
     moving-puts =
         let w = next-ahead g s q (i .inside) d told r n e in
         record { room = omega (arith, more .room); low = omega (arith, i .fits); high = omega (arith, i .fits) }
 
-    pub moving-again : (m′ : ℕ) (out′ : List ℕ) → Put m (r .start + by) (r .end + by) out out′ m′ → Moving g s dead′ by at out₀ out′ m′ n
+    pub moving-again : (m′ : ℕ) (out′ : List ℕ) → RowPut ((r .start + by) ∷ (r .end + by) ∷ []) m out out′ m′ → Moving g s dead′ by at out₀ out′ m′ n
     moving-again m′ out′ p =
         record {
           sound = keeps-sound g s dead q (i .inside) (i .sound) d dead′ kept r n e;
           inside = next-ahead g s q (i .inside) d told r n e .1;
           fits = i .fits;
-          laying = laying-put (move (λ x. by + x) (asListed (regionOf r))) more (rw (add-comm by (r .start), add-comm by (r .end)) p);
+          putting = putting-put (move (λ x. by + x) (asListed (regionOf r))) more (rw (add-comm by (r .start), add-comm by (r .end)) p);
         }
 
 pub moving-same : {g : Gram} {s dead : List ℕ} {by at : ℕ} {out₀ out : List ℕ} {m q : ℕ} → Moving g s dead by at out₀ out m q → length out ≡ length out₀
-moving-same i = i .laying .long
+moving-same i = i .putting .long

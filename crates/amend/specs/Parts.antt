@@ -2,26 +2,29 @@
 -- The page's sentences stand in Amended.antt; here are its parts, a function each.
 use mathlib.Core.Path.{_≡_}
 use mathlib.Core.Bool.{Bool, false, _||_}
-use mathlib.Core.List.{List, [], _∷_, _++_, map}
+use mathlib.Core.List.{List, [], _++_}
 use Prim.Native.Nat.{ℕ, _+_, _-_, _*_, _≤_}
 use lib.ListN.{length, drop}
 use Rattle.common.specs.Entry.{flatten, over, putAt, wide}
 use Rattle.common.specs.Refusals.{Outcome, given, refused, refuse, tooLong, numberOf}
-use Rattle.region.specs.Region.{move, up, reaches, InOrder, Listed, Caused, row}
+use Rattle.region.specs.Region.{up, reaches, InOrder, Listed, Caused, row}
 use Rattle.rules.specs.Grammar.{Gram}
 use Rattle.region.specs.Regions.{regions}
-use Rattle.amend.specs.Amend.{Edit}
+use Rattle.amend.specs.Amend.{Edit, movedBy}
 use Rattle.cover.specs.Shape.{misshapen}
-use Rattle.amend.specs.Amended.{listed, listRegions, edited, amendedRegions, miscut, offJoint, leftOpen, crowded, leaves}
+use Rattle.common.specs.Lists.{filledAnswer}
+use Rattle.amend.specs.Amended.{regionsIn, listRegions, edited, amendedRegions, miscut, offJoint, leftOpen, leaves}
 use Rattle.amend.specs.declared.Verdict.{Verdict}
 use Rattle.amend.specs.declared.Verdict.the-variants as verdict
+use Rattle.amend.specs.declared.Cuts.{Cuts}
+use Rattle.amend.specs.declared.Split.{Split}
 use Rattle.amend.specs.declared.own.Counted.{Counted}
 
 -- ---- lists
 -- a list with its first n regions in order, up to len
 pub record Orderly (l : List ℕ) (n len : ℕ) : Type 0 where
   pub roomy : n * wide ≤ length l
-  pub order : InOrder 0 len (listed n l)
+  pub order : InOrder 0 len (regionsIn n l)
 
 -- a list that is not misshapen, of a text within the limit
 pub record Fair (l : List ℕ) (n len : ℕ) : Type 0 where
@@ -29,11 +32,11 @@ pub record Fair (l : List ℕ) (n len : ℕ) : Type 0 where
   pub short : len ≤ 4294967295
 
 -- the regions of a list from row i up to row n
-abbrev pub between : ℕ → ℕ → List ℕ → List Listed
-between i n l = listed (n - i) (drop (i * wide) l)
+abbrev pub regionsBetween : ℕ → ℕ → List ℕ → List Listed
+regionsBetween i n l = regionsIn (n - i) (drop (i * wide) l)
 
 -- regions that are written from row n on, and the row after them
-pub record Laid (l : List Listed) (n : ℕ) (out out′ : List ℕ) (r : ℕ) : Type 0 where
+pub record PutRows (l : List Listed) (n : ℕ) (out out′ : List ℕ) (r : ℕ) : Type 0 where
   pub next : r ≡ n + length l
   pub list : out′ ≡ putAt (n * wide) (flatten row l) out
 
@@ -46,13 +49,11 @@ pub record Moves (place down up : ℕ) : Type 0 where
 pub record Copies (l : List ℕ) (from to down up : ℕ) (out : List ℕ) (at : ℕ) : Type 0 where
   pub ahead : from ≤ to
   pub inside : to * wide ≤ length l
-  pub order : InOrder down (4294967295 + down - up) (between from to l)
+  pub order : InOrder down (4294967295 + down - up) (regionsBetween from to l)
   pub room : at * wide + (to - from) * wide ≤ length out
 
-abbrev pub Copied : List ℕ → ℕ → ℕ → ℕ → ℕ → ℕ → List ℕ → List ℕ → ℕ → Type 0
-Copied l from to down up at out out′ r = Laid (map (move (λ x. x + up - down)) (between from to l)) at out out′ r
-
 -- ---- the replacement's own regions
+-- how many they are, and whether one reaches the replacement's end
 abbrev pub surveyed : Gram → List ℕ → Counted
 surveyed g s = record { count = length (regions g s); reaching = reaches (length s) (regions g s) }
 
@@ -62,7 +63,7 @@ pub record Owns (l : List Caused) (s : List ℕ) (by : ℕ) (out : List ℕ) (at
   pub room : at * wide + length l * wide ≤ length out
 
 -- ---- refusals
--- the refusals that the lengths, the list, the cuts and the bytes before them decide, else what follows
+-- the first seven of `amendedAnswer`, which the lengths, the list, the cuts and the bytes before them decide, else what follows
 unfoldable pub judged : ℕ → List ℕ → List ℕ → ℕ → Edit → Bool → Bool → Outcome → Outcome
 judged eol s l n e unequal marked o =
     refuse 1 (tooLong s || tooLong (e .text))
@@ -71,45 +72,49 @@ judged eol s l n e unequal marked o =
     (refuse 1 (tooLong (edited e s))
     (refuse 5 (misshapen l n (length s))
     (refuse 9 marked
-    (refuse 7 (offJoint eol s (listed n l) (e .first) (e .second))
+    (refuse 7 (offJoint eol s (regionsIn n l) (e .first) (e .second))
     o))))))
 
-abbrev pub said : Verdict → Outcome
-said verdict.Fine = given []
-said (verdict.Refused r) = refused (numberOf r)
+abbrev pub toldVerdict : Verdict → Outcome
+toldVerdict verdict.Fine = given []
+toldVerdict (verdict.Refused r) = refused (numberOf r)
 
 -- what a verdict says
 pub record Judged (eol : ℕ) (s l : List ℕ) (n : ℕ) (e : Edit) (unequal marked : Bool) (v : Verdict) : Type 0 where
-  pub answer : said v ≡ judged eol s l n e unequal marked (given [])
+  pub answer : toldVerdict v ≡ judged eol s l n e unequal marked (given [])
 
 -- cuts that may be made in a text of a length with its list
-pub record Ready (l : List ℕ) (n first second len : ℕ) (r : List ℕ) : Type 0 where
-  pub orderly : Orderly l n len
-  pub cuts : first ≤ second
-  pub inside : second ≤ len
-  pub short : len ≤ 4294967295
-  pub small : len - (second - first) + length r ≤ 4294967295
+pub record CutsReady (l : List ℕ) (n : ℕ) (cuts : Cuts) (r : List ℕ) : Type 0 where
+  pub orderly : Orderly l n (cuts .len)
+  pub rising : cuts .first ≤ cuts .second
+  pub inside : cuts .second ≤ cuts .len
+  pub short : cuts .len ≤ 4294967295
+  pub small : cuts .len - (cuts .second - cuts .first) + length r ≤ 4294967295
 
--- the refusals that the replacement and the room decide, else the count
+-- its last two, which the replacement and the room decide, else the count
 unfoldable pub settledAnswer : ℕ → ℕ → (List ℕ → List Listed) → List Listed → Edit → List ℕ → Outcome
 settledAnswer eol len build l e out =
-    refuse 8 (leftOpen eol build len e) (refuse 3 (crowded (amendedRegions build len e l) out) (given (length (amendedRegions build len e l) ∷ [])))
+    refuse 8 (leftOpen eol build len e) (filledAnswer wide (amendedRegions build len e l) out)
 
+-- what settling promises
 pub record Settled (eol len : ℕ) (build : List ℕ → List Listed) (l : List Listed) (e : Edit) (out out′ : List ℕ) (o : Outcome) : Type 0 where
   pub answer : o ≡ settledAnswer eol len build l e out
   pub list : out′ ≡ leaves (settledAnswer eol len build l e out) out (amendedRegions build len e l)
 
 -- ---- writing
 -- the rows before, the replacement's own, and the rows from `after` on
-unfoldable pub parts : Gram → List ℕ → ℕ → ℕ → ℕ → ℕ → ℕ → List ℕ → List Listed
-parts g l n before after first second r =
-    map (move (λ x. x + 0 - 0)) (between 0 before l) ++ (up first (listRegions g r) ++ map (move (λ x. x + (first + length r) - second)) (between after n l))
+unfoldable pub parts : Gram → List ℕ → Split → Cuts → List ℕ → List Listed
+parts g l split cuts r =
+    movedBy 0 0 (regionsBetween 0 (split .before) l)
+    ++ (up (cuts .first) (listRegions g r) ++ movedBy (cuts .second) (cuts .first + length r) (regionsBetween (split .after) (split .count) l))
 
-pub record Roomy (g : Gram) (l : List ℕ) (n before after first second : ℕ) (r out : List ℕ) : Type 0 where
-  pub kept : Copies l 0 before 0 0 out 0
-  pub own : Owns (regions g r) r first out before
-  pub moved : Copies l after n second (first + length r) out (before + length (regions g r))
+-- what writing them asks
+pub record Roomy (g : Gram) (l : List ℕ) (split : Split) (cuts : Cuts) (r out : List ℕ) : Type 0 where
+  pub kept : Copies l 0 (split .before) 0 0 out 0
+  pub own : Owns (regions g r) r (cuts .first) out (split .before)
+  pub moved : Copies l (split .after) (split .count) (cuts .second) (cuts .first + length r) out (split .before + length (regions g r))
 
-pub record Merged (g : Gram) (l : List ℕ) (n before after first second : ℕ) (r out out′ : List ℕ) (k : ℕ) : Type 0 where
-  pub count : k ≡ length (parts g l n before after first second r)
-  pub list : out′ ≡ over (flatten row (parts g l n before after first second r)) out
+-- and promises: their number, and the list
+pub record Merged (g : Gram) (l : List ℕ) (split : Split) (cuts : Cuts) (r out out′ : List ℕ) (k : ℕ) : Type 0 where
+  pub count : k ≡ length (parts g l split cuts r)
+  pub list : out′ ≡ over (flatten row (parts g l split cuts r)) out

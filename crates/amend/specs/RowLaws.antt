@@ -12,12 +12,15 @@ use Rattle.search.specs.Promise.{Gives}
 use Rattle.common.specs.Entry.{flatten, rows, startOf, stopOf, Shaped, putAt, wide}
 use Rattle.common.specs.EntryLaws.{length-rows, rows-at, room-fits, length-put}
 use Rattle.region.specs.Region.{move, reaches, keepBefore, InOrder, Listed, row, unrow}
-use Rattle.context.specs.Build.{Puts, Put}
+use Rattle.region.specs.Ahead.{order-later}
+use Rattle.common.specs.Lists.{RowPut}
+use Rattle.region.specs.Room.{RowFits}
 use Rattle.cover.specs.Shape.{misshapen}
 use Rattle.cover.specs.ShapeLaws.{shape-fits, shape-order}
-use Rattle.amend.specs.Amended.{listed}
-use Rattle.amend.specs.Parts.{Orderly, Fair, between, Laid, Moves, Copies, Copied}
-use Rattle.amend.specs.Starts.{order-later, order-longer, before-few, before-below, before-above, reach-none, reach-last}
+use Rattle.amend.specs.Amend.{movedBy}
+use Rattle.amend.specs.Amended.{regionsIn}
+use Rattle.amend.specs.Parts.{Orderly, Fair, regionsBetween, PutRows, Moves, Copies}
+use Rattle.amend.specs.Starts.{order-longer, before-few, before-below, before-above, reach-none, reach-last}
 
 -- ---- rows and regions
 -- a region of no row
@@ -28,17 +31,17 @@ nowhere = unrow []
 abbrev pub rowAt : ℕ → List ℕ → Listed
 rowAt i l = record { start = getD l (i * wide + 0) 0; stop = getD l (i * wide + 1) 0; tag = tt }
 
-pub listed-length : (n : ℕ) (l : List ℕ) → length (listed n l) ≡ n
-unfolding listed
+pub listed-length : (n : ℕ) (l : List ℕ) → length (regionsIn n l) ≡ n
+unfolding regionsIn
 listed-length n l = length-map (rows wide n l) unrow ∙ length-rows wide n l
 
 module _ (n i : ℕ) (l : List ℕ) (h : i < n) where
-  pub listed-start : getD (listed n l) i nowhere .start ≡ getD l (i * wide + 0) 0
-  unfolding listed
+  pub listed-start : getD (regionsIn n l) i nowhere .start ≡ getD l (i * wide + 0) 0
+  unfolding regionsIn
   listed-start = ap (λ (r : Listed). r .start) (List·getD-map unrow (rows wide n l) i []) ∙ rows-at wide n i 0 l h (omega arith)
 
-  pub listed-stop : getD (listed n l) i nowhere .stop ≡ getD l (i * wide + 1) 0
-  unfolding listed
+  pub listed-stop : getD (regionsIn n l) i nowhere .stop ≡ getD l (i * wide + 1) 0
+  unfolding regionsIn
   listed-stop = ap (λ (r : Listed). r .stop) (List·getD-map unrow (rows wide n l) i []) ∙ rows-at wide n i 1 l h (omega arith)
 
   row-says : unrow (take wide (drop (i * wide) l)) ≡ rowAt i l
@@ -48,28 +51,28 @@ module _ (n i : ℕ) (l : List ℕ) (h : i < n) where
       rw (a, b)
 
   -- the row that stands at i, and those behind it
-  pub between-next : between i n l ≡ rowAt i l ∷ between (i + 1) n l
-  unfolding listed
+  pub between-next : regionsBetween i n l ≡ rowAt i l ∷ regionsBetween (i + 1) n l
+  unfolding regionsIn
   between-next =
       let e : n - i ≡ suc (n - (i + 1)) = omega arith in
       let f : (i + 1) * wide ≡ i * wide + wide = omega arith in
       rw (e, f, drop-drop wide (i * wide) l) (ap (λ (r : Listed). r ∷ map unrow (rows wide (n - (i + 1)) (drop (i * wide + wide) l))) row-says)
 
-pub between-none : (n i : ℕ) (l : List ℕ) → n ≤ i → between i n l ≡ []
-unfolding listed
+pub between-none : (n i : ℕ) (l : List ℕ) → n ≤ i → regionsBetween i n l ≡ []
+unfolding regionsIn
 between-none n i l h =
     let e : n - i ≡ 0 = omega arith in
     ap (λ (m : ℕ). map unrow (rows wide m (drop (i * wide) l))) e
 
 -- the first of the regions, and the others
-pub listed-take : (n i : ℕ) (l : List ℕ) → i ≤ n → take i (listed n l) ≡ listed i l
-unfolding listed
+pub listed-take : (n i : ℕ) (l : List ℕ) → i ≤ n → take i (regionsIn n l) ≡ regionsIn i l
+unfolding regionsIn
 listed-take n zero l h = refl
 listed-take zero (suc i) l h = absurd (omega arith)
 listed-take (suc n) (suc i) l h = ap (λ (z : List Listed). unrow (take wide l) ∷ z) (listed-take n i (drop wide l) (omega arith))
 
-pub listed-drop : (n i : ℕ) (l : List ℕ) → i ≤ n → drop i (listed n l) ≡ between i n l
-unfolding listed
+pub listed-drop : (n i : ℕ) (l : List ℕ) → i ≤ n → drop i (regionsIn n l) ≡ regionsBetween i n l
+unfolding regionsIn
 listed-drop n zero l h = rw sub-zero
 listed-drop zero (suc i) l h = absurd (omega arith)
 listed-drop (suc n) (suc i) l h =
@@ -77,7 +80,7 @@ listed-drop (suc n) (suc i) l h =
     let f : wide + i * wide ≡ suc i * wide = omega arith in
     listed-drop n i (drop wide l) (omega arith) ∙ ap (λ (z : List ℕ). map unrow (rows wide (n - i) z)) (drop-drop (i * wide) wide l ∙ ap (λ (k : ℕ). drop k l) f) ∙ ap (λ (m : ℕ). map unrow (rows wide m (drop (suc i * wide) l))) (sym e)
 
-pub between-zero : (n : ℕ) (l : List ℕ) → between 0 n l ≡ listed n l
+pub between-zero : (n : ℕ) (l : List ℕ) → regionsBetween 0 n l ≡ regionsIn n l
 between-zero n l = rw sub-zero
 
 -- ---- lists in order
@@ -87,11 +90,11 @@ ordered from len (r ∷ l) w = (w .0, w .1, w .2, ordered (stopOf r) len l (w .3
 
 -- a list that is not misshapen
 pub orderly-told : (l : List ℕ) (n len : ℕ) → misshapen l n len ≡ false → Orderly l n len
-unfolding listed
+unfolding regionsIn
 orderly-told l n len e = record { roomy = room-fits wide n l (shape-fits l n len e); order = ordered 0 len (rows wide n l) (shape-order l n len e) }
 
 pub orderly-longer : (l : List ℕ) (n len m : ℕ) → len ≤ m → Orderly l n len → Orderly l n m
-orderly-longer l n len m h w = record { roomy = w .roomy; order = order-longer 0 len m (listed n l) h (w .order) }
+orderly-longer l n len m h w = record { roomy = w .roomy; order = order-longer 0 len m (regionsIn n l) h (w .order) }
 
 pub fair : (l : List ℕ) (n len : ℕ) (y : Bool) → len ≤ 4294967295 → y ≡ false → Gives (misshapen l n len) y → Fair l n len
 fair l n len y h e g = record { shape = sym (g .answer) ∙ e; short = h }
@@ -102,67 +105,67 @@ fair-orderly {l} {n} {len} w = orderly-longer l n len 4294967295 (w .short) (ord
 -- ---- the loop that halves: the regions that start before k are at least `low` and at most `high`
 pub record Halving (l : List ℕ) (n k low high : ℕ) : Type 0 where
   pub list : Orderly l n 4294967295
-  pub below : low ≤ length (keepBefore k (listed n l))
-  pub above : length (keepBefore k (listed n l)) ≤ high
+  pub below : low ≤ length (keepBefore k (regionsIn n l))
+  pub above : length (keepBefore k (regionsIn n l)) ≤ high
   pub within : high ≤ n
 
 abbrev middle : ℕ → ℕ → ℕ
 middle low high = low + (high - low) / 2
 
 pub halving-first : (l : List ℕ) (n k : ℕ) → Orderly l n 4294967295 → Halving l n k 0 n
-halving-first l n k w = record { list = w; below = omega arith; above = omega (arith, before-few k (listed n l), listed-length n l); within = omega arith }
+halving-first l n k w = record { list = w; below = omega arith; above = omega (arith, before-few k (regionsIn n l), listed-length n l); within = omega arith }
 
 module _ (l : List ℕ) (n k low high : ℕ) (i : Halving l n k low high) where
-  pub halving-end : high ≤ low → low ≡ length (keepBefore k (listed n l))
+  pub halving-end : high ≤ low → low ≡ length (keepBefore k (regionsIn n l))
   halving-end h = omega (arith, i .below, i .above)
 
   module _ (h : low < high) (a : ℕ) (g : Gives (getD l (middle low high * wide + 0) 0) a) where
     at : middle low high < n
     at = omega (arith, i .within)
 
-    says : getD (listed n l) (middle low high) nowhere .start ≡ a
+    says : getD (regionsIn n l) (middle low high) nowhere .start ≡ a
     says = listed-start n (middle low high) l at ∙ sym (g .answer)
 
     pub halving-low : a < k → Halving l n k (middle low high + 1) high
     halving-low x =
-        let b = before-below k nowhere 0 4294967295 (middle low high) (listed n l) (i .list .order) (omega (arith, at, listed-length n l)) (omega (arith, says)) in
+        let b = before-below k nowhere 0 4294967295 (middle low high) (regionsIn n l) (i .list .order) (omega (arith, at, listed-length n l)) (omega (arith, says)) in
         record { list = i .list; below = omega (arith, b); above = i .above; within = i .within }
 
     pub halving-high : k ≤ a → Halving l n k low (middle low high)
     halving-high x =
-        let b = before-above k nowhere 0 4294967295 (middle low high) (listed n l) (i .list .order) (omega (arith, at, listed-length n l)) (omega (arith, says)) in
+        let b = before-above k nowhere 0 4294967295 (middle low high) (regionsIn n l) (i .list .order) (omega (arith, at, listed-length n l)) (omega (arith, says)) in
         record { list = i .list; below = i .below; above = b; within = omega (arith, at) }
 
 -- ---- the regions that reach a place: n of them start before it
-module _ (l : List ℕ) (count k n : ℕ) (w : Orderly l count 4294967295) (g : Gives (length (keepBefore k (listed count l))) n) where
-  pub reached-none : n ≡ 0 → false ≡ reaches k (listed count l)
-  reached-none e = sym (reach-none k (listed count l) (omega (arith, g .answer)))
+module _ (l : List ℕ) (count k n : ℕ) (w : Orderly l count 4294967295) (g : Gives (length (keepBefore k (regionsIn count l))) n) where
+  pub reached-none : n ≡ 0 → false ≡ reaches k (regionsIn count l)
+  reached-none e = sym (reach-none k (regionsIn count l) (omega (arith, g .answer)))
 
-  pub reached-last : (a : ℕ) → (n ≡ 0 → ⊥) → Gives (getD l ((n - 1) * wide + 1) 0) a → leb k a ≡ reaches k (listed count l)
+  pub reached-last : (a : ℕ) → (n ≡ 0 → ⊥) → Gives (getD l ((n - 1) * wide + 1) 0) a → leb k a ≡ reaches k (regionsIn count l)
   reached-last a z h =
-      let m : length (keepBefore k (listed count l)) ≡ suc (n - 1) = omega (arith, g .answer) in
-      let few = before-few k (listed count l) in
-      let b : a ≡ getD (listed count l) (n - 1) nowhere .stop = h .answer ∙ sym (listed-stop count (n - 1) l (omega (arith, g .answer, listed-length count l))) in
-      ap (leb k) b ∙ sym (reach-last k nowhere 0 4294967295 (n - 1) (listed count l) (w .order) m)
+      let m : length (keepBefore k (regionsIn count l)) ≡ suc (n - 1) = omega (arith, g .answer) in
+      let few = before-few k (regionsIn count l) in
+      let b : a ≡ getD (regionsIn count l) (n - 1) nowhere .stop = h .answer ∙ sym (listed-stop count (n - 1) l (omega (arith, g .answer, listed-length count l))) in
+      ap (leb k) b ∙ sym (reach-last k nowhere 0 4294967295 (n - 1) (regionsIn count l) (w .order) m)
 
   -- the last of them lies in the list
   pub reached-inside : (n ≡ 0 → ⊥) → (n - 1) * wide + 1 < length l
-  reached-inside z = omega (arith, g .answer, before-few k (listed count l), listed-length count l, w .roomy)
+  reached-inside z = omega (arith, g .answer, before-few k (regionsIn count l), listed-length count l, w .roomy)
 
 -- ---- regions written one after the other
 -- of the regions l, to be written from row n on, `rest` is still to be written, from row m on
-pub record Laying (l rest : List Listed) (n m : ℕ) (out₀ out : List ℕ) : Type 0 where
+pub record PuttingRows (l rest : List Listed) (n m : ℕ) (out₀ out : List ℕ) : Type 0 where
   pub same : putAt (n * wide) (flatten row l) out₀ ≡ putAt (m * wide) (flatten row rest) out
   pub count : n + length l ≡ m + length rest
   pub long : length out ≡ length out₀
   pub room : m * wide + length rest * wide ≤ length out
 
 module _ {l : List Listed} {n : ℕ} {out₀ : List ℕ} where
-  pub laying-first : n * wide + length l * wide ≤ length out₀ → Laying l l n n out₀ out₀
-  laying-first h = record { same = refl; count = refl; long = refl; room = h }
+  pub putting-first : n * wide + length l * wide ≤ length out₀ → PuttingRows l l n n out₀ out₀
+  putting-first h = record { same = refl; count = refl; long = refl; room = h }
 
-  pub laying-put : {rest : List Listed} {m m′ : ℕ} {out out′ : List ℕ} (r : Listed) → Laying l (r ∷ rest) n m out₀ out → Put m (r .start) (r .stop) out out′ m′ → Laying l rest n m′ out₀ out′
-  laying-put {rest} {m} {m′} {out} {out′} r i p =
+  pub putting-put : {rest : List Listed} {m m′ : ℕ} {out out′ : List ℕ} (r : Listed) → PuttingRows l (r ∷ rest) n m out₀ out → RowPut (r .start ∷ r .stop ∷ []) m out out′ m′ → PuttingRows l rest n m′ out₀ out′
+  putting-put {rest} {m} {m′} {out} {out′} r i p =
       let e : m′ * wide ≡ m * wide + 1 + 1 = omega (arith, p .next) in
       let z : length out′ ≡ length out = ap length (p .list) ∙ length-put (m * wide) (r .start ∷ r .stop ∷ []) out in
       record {
@@ -172,15 +175,15 @@ module _ {l : List Listed} {n : ℕ} {out₀ : List ℕ} where
         room = omega (arith, i .room, p .next, z);
       }
 
-  pub laying-end : {m : ℕ} {out : List ℕ} → Laying l [] n m out₀ out → Laid l n out₀ out m
-  laying-end i = record { next = omega (arith, i .count); list = sym (i .same) }
+  pub putting-end : {m : ℕ} {out : List ℕ} → PuttingRows l [] n m out₀ out → PutRows l n out₀ out m
+  putting-end i = record { next = omega (arith, i .count); list = sym (i .same) }
 
 -- ---- the loop that copies rows: it stands at row i of the list l, and at row m of `out`
 pub record Copying (l : List ℕ) (from to down up row : ℕ) (out₀ out : List ℕ) (i m : ℕ) : Type 0 where
   pub ahead : i ≤ to
   pub inside : to * wide ≤ length l
-  pub order : InOrder down (4294967295 + down - up) (between i to l)
-  pub laying : Laying (map (move (λ x. x + up - down)) (between from to l)) (map (move (λ x. x + up - down)) (between i to l)) row m out₀ out
+  pub order : InOrder down (4294967295 + down - up) (regionsBetween i to l)
+  pub putting : PuttingRows (map (move (λ x. x + up - down)) (regionsBetween from to l)) (map (move (λ x. x + up - down)) (regionsBetween i to l)) row m out₀ out
 
 module _ {l : List ℕ} {from to down up row : ℕ} {out₀ : List ℕ} where
   pub copying-first : Copies l from to down up out₀ row → Copying l from to down up row out₀ out₀ from row
@@ -189,23 +192,23 @@ module _ {l : List ℕ} {from to down up row : ℕ} {out₀ : List ℕ} where
         ahead = w .ahead;
         inside = w .inside;
         order = w .order;
-        laying = laying-first (omega (arith, w .room, length-map (between from to l) (move (λ x. x + up - down)), listed-length (to - from) (drop (from * wide) l)));
+        putting = putting-first (omega (arith, w .room, length-map (regionsBetween from to l) (move (λ x. x + up - down)), listed-length (to - from) (drop (from * wide) l)));
       }
 
   module _ {out : List ℕ} {i m : ℕ} (w : Copying l from to down up row out₀ out i m) where
     pub copying-same : length out ≡ length out₀
-    copying-same = w .laying .long
+    copying-same = w .putting .long
 
-    pub copying-end : to ≤ i → Copied l from to down up row out₀ out m
-    copying-end h = laying-end (subst (λ (z : List Listed). Laying (map (move (λ x. x + up - down)) (between from to l)) (map (move (λ x. x + up - down)) z) row m out₀ out) (between-none to i l h) (w .laying))
+    pub copying-end : to ≤ i → PutRows (movedBy down up (regionsBetween from to l)) row out₀ out m
+    copying-end h = putting-end (subst (λ (z : List Listed). PuttingRows (map (move (λ x. x + up - down)) (regionsBetween from to l)) (map (move (λ x. x + up - down)) z) row m out₀ out) (between-none to i l h) (w .putting))
 
     module _ (h : i < to) where
       -- what is known of row i
-      one : InOrder down (4294967295 + down - up) (rowAt i l ∷ between (i + 1) to l)
+      one : InOrder down (4294967295 + down - up) (rowAt i l ∷ regionsBetween (i + 1) to l)
       one = subst (InOrder down (4294967295 + down - up)) (between-next to i l h) (w .order)
 
-      next : Laying (map (move (λ x. x + up - down)) (between from to l)) (move (λ x. x + up - down) (rowAt i l) ∷ map (move (λ x. x + up - down)) (between (i + 1) to l)) row m out₀ out
-      next = subst (λ (z : List Listed). Laying (map (move (λ x. x + up - down)) (between from to l)) (map (move (λ x. x + up - down)) z) row m out₀ out) (between-next to i l h) (w .laying)
+      next : PuttingRows (map (move (λ x. x + up - down)) (regionsBetween from to l)) (move (λ x. x + up - down) (rowAt i l) ∷ map (move (λ x. x + up - down)) (regionsBetween (i + 1) to l)) row m out₀ out
+      next = subst (λ (z : List Listed). PuttingRows (map (move (λ x. x + up - down)) (regionsBetween from to l)) (map (move (λ x. x + up - down)) z) row m out₀ out) (between-next to i l h) (w .putting)
 
       -- what was read of row i may be moved
       pub start-moves : (a : ℕ) → Gives (getD l (i * wide + 0) 0) a → Moves a down up
@@ -215,7 +218,7 @@ module _ {l : List ℕ} {from to down up row : ℕ} {out₀ : List ℕ} where
       stop-moves b g = record { low = omega (arith, g .answer, one .0, one .1); high = omega (arith, g .answer, one .0, one .1, one .2) }
 
       module _ (x y a b : ℕ) where
-        pub copying-puts : Gives (a + up - down) x → Gives (b + up - down) y → Gives (getD l (i * wide + 0) 0) a → Gives (getD l (i * wide + 1) 0) b → Puts m x y out
+        pub copying-puts : Gives (a + up - down) x → Gives (b + up - down) y → Gives (getD l (i * wide + 0) 0) a → Gives (getD l (i * wide + 1) 0) b → RowFits m x y out
         copying-puts gx gy ga gb =
             record {
               room = omega (arith, next .room);
@@ -223,13 +226,13 @@ module _ {l : List ℕ} {from to down up row : ℕ} {out₀ : List ℕ} where
               high = omega (arith, gy .answer, gb .answer, one .0, one .1, one .2);
             }
 
-        pub copying-again : (m′ : ℕ) (out′ : List ℕ) → Put m x y out out′ m′ → Gives (a + up - down) x → Gives (b + up - down) y → Gives (getD l (i * wide + 0) 0) a → Gives (getD l (i * wide + 1) 0) b
+        pub copying-again : (m′ : ℕ) (out′ : List ℕ) → RowPut (x ∷ y ∷ []) m out out′ m′ → Gives (a + up - down) x → Gives (b + up - down) y → Gives (getD l (i * wide + 0) 0) a → Gives (getD l (i * wide + 1) 0) b
             → Copying l from to down up row out₀ out′ (i + 1) m′
         copying-again m′ out′ p gx gy ga gb =
-            let q : Put m (getD l (i * wide + 0) 0 + up - down) (getD l (i * wide + 1) 0 + up - down) out out′ m′ = rw (← (ga .answer), ← (gb .answer), ← (gx .answer), ← (gy .answer)) p in
+            let q : RowPut ((getD l (i * wide + 0) 0 + up - down) ∷ (getD l (i * wide + 1) 0 + up - down) ∷ []) m out out′ m′ = rw (← (ga .answer), ← (gb .answer), ← (gx .answer), ← (gy .answer)) p in
             record {
               ahead = omega arith;
               inside = w .inside;
-              order = order-later down (getD l (i * wide + 1) 0) (4294967295 + down - up) (between (i + 1) to l) (omega (arith, one .0, one .1)) (one .3);
-              laying = laying-put (move (λ x. x + up - down) (rowAt i l)) next q;
+              order = order-later down (getD l (i * wide + 1) 0) (4294967295 + down - up) (regionsBetween (i + 1) to l) (omega (arith, one .0, one .1)) (one .3);
+              putting = putting-put (move (λ x. x + up - down) (rowAt i l)) next q;
             }

@@ -1,7 +1,7 @@
 -- Behind whole lines a text's regions are its own, moved up; over any fence reader that goes by lines. Assumes nothing.
 -- The page: "regions starting at or after it moved by the change in length".
 use mathlib.Core.Path.{_≡_, refl, sym as inv, ap, _∙_}
-use mathlib.Core.Bool.{Bool, true, false, cond}
+use mathlib.Core.Bool.{Bool, true, false}
 use mathlib.Core.List.{List, _++_}
 use Prim.Native.Nat.{ℕ, _+_, _≤_, _<_}
 use native.Mathlib.Nat.{add-zero, add-assoc}
@@ -13,7 +13,9 @@ use borrow.Author.Tests.{ltb-true}
 use Rattle.search.specs.Search.{find, is, other, back, firstPlace, lineEnd, nextLine}
 use Rattle.search.specs.SearchLaws.{holds-shift, first-move, find-le, find-shift, back-shift, Ends}
 use Rattle.lines.specs.Paragraph.{endsAt, paragraphEnd, hitAt, nextIn}
-use Rattle.common.specs.Turn.{Turn, go, stop, found, allFound, moveT, Adv}
+use Rattle.common.specs.Turn.{Turn, go, stop, found, allFound, moveT}
+use Rattle.common.specs.Turning.{Adv}
+use Rattle.common.specs.ItemLaws.{of-cond}
 use Rattle.common.specs.TurnLaws.{firstTurn-move, allFound-move}
 use Rattle.lines.specs.declared.fence_tests.Hit.{Hit}
 use Rattle.lines.specs.declared.fence_tests.Hit.the-variants.{At, End}
@@ -34,10 +36,6 @@ moveHit k (End u) = End (k + u)
 hit-if : (k : ℕ) (t : Bool) (q u : ℕ) → hitAt t (k + q) (k + u) ≡ moveHit k (hitAt t q u)
 hit-if k true q u = refl
 hit-if k false q u = refl
-
-move-if : {A B : Type 0} (f : A → B) (k : ℕ) (t : Bool) (x y : Turn A) → moveT f k (cond t x y) ≡ cond t (moveT f k x) (moveT f k y)
-move-if f k true x y = refl
-move-if f k false x y = refl
 
 -- a ends in a line end, and no run of escapes reaches past its end
 module _ (g : Gram) (lines : Linewise (g .eol) (g .fences)) (a b : List ℕ) (ends : Ends (g .eol) a) (free : back (is (g .escape)) a (length a) ≡ 0) where
@@ -82,7 +80,7 @@ module _ (g : Gram) (lines : Linewise (g .eol) (g .fences)) (a b : List ℕ) (en
 
   symAfter-shift : (c count : ℕ) (t : Hit) → symAfter g (a ++ b) c count (moveHit (length a) t) ≡ Placed (symAfter g b c count t)
   unfolding Placed
-  symAfter-shift c count (At q) = simp (escaped-shift, find-shift, sub-up, add-assoc, move-if)
+  symAfter-shift c count (At q) = simp (escaped-shift, find-shift, sub-up, add-assoc, of-cond Placed)
   symAfter-shift c count (End u) = refl
 
   symTurn-shift : (c count j : ℕ) → symTurn g (a ++ b) c count (length a + j) ≡ Placed (symTurn g b c count j)
@@ -91,7 +89,7 @@ module _ (g : Gram) (lines : Linewise (g .eol) (g .fences)) (a b : List ℕ) (en
 
   asymAfter-shift : (t : Hit) → asymAfter g (a ++ b) (moveHit (length a) t) ≡ Placed (asymAfter g b t)
   unfolding Placed
-  asymAfter-shift (At q) = simp (escaped-shift, add-assoc, move-if)
+  asymAfter-shift (At q) = simp (escaped-shift, add-assoc, of-cond Placed)
   asymAfter-shift (End u) = refl
 
   asymTurn-shift : (c j : ℕ) → asymTurn g (a ++ b) c (length a + j) ≡ Placed (asymTurn g b c j)
@@ -108,7 +106,7 @@ module _ (g : Gram) (lines : Linewise (g .eol) (g .fences)) (a b : List ℕ) (en
       → openPair g (a ++ b) (length a + p) count k i close′ (length a + r) ≡ Moved (openPair g b p count k i close r)
   unfolding Placed Moved
   openPair-shift p count k i close close′ r adv same h =
-      simp (escaped-shift, sub-up, firstTurn-move adv (λ e. length a + e) close′ (length a) (λ q l. same q) (length (a ++ b)) r (omega (arith, length-append a b)) h, pairOf-shift, move-if, add-assoc)
+      simp (escaped-shift, sub-up, firstTurn-move adv (λ e. length a + e) close′ (length a) (λ q l. same q) (length (a ++ b)) r (omega (arith, length-append a b)) h, pairOf-shift, of-cond Moved, add-assoc)
 
   inline-shift : (p c : ℕ) (u : Rule) → p < length b → inline g (a ++ b) (length a + p) c u ≡ Moved (inline g b p c u)
   unfolding inline Moved
@@ -124,7 +122,7 @@ module _ (g : Gram) (lines : Linewise (g .eol) (g .fences)) (a b : List ℕ) (en
   regionAt-shift : (p : ℕ) → p < length b → regionAt g (a ++ b) (length a + p) ≡ Moved (regionAt g b p)
   unfolding Moved
   regionAt-shift p h =
-      simp (lines .opens .behind a b ends, fenced-shift, getD-append-add, inline-shift p (getD b p 0) (g .rule (getD b p 0)) h, move-if)
+      simp (lines .opens .behind a b ends, fenced-shift, getD-append-add, inline-shift p (getD b p 0) (g .rule (getD b p 0)) h, of-cond Moved)
 
   regionTurn-shift : (q : ℕ) → q ≤ length b → regionTurn g (a ++ b) (length a + q) ≡ Moved (regionTurn g b q)
   unfolding regionTurn Moved

@@ -14,10 +14,6 @@ use Rattle.amend.specs.Lists.{reaches-later, from-none}
 
 module _ {T : Type 0} where
   -- ---- between other places
-  pub order-later : (q n len : ℕ) (l : List (Region T)) → q ≤ n → InOrder n len l → InOrder q len l
-  order-later q n len [] h w = tt
-  order-later q n len (r ∷ l) h w = (omega arith, w .1, w .2, w .3)
-
   pub order-longer : (q len m : ℕ) (l : List (Region T)) → len ≤ m → InOrder q len l → InOrder q m l
   order-longer q len m [] h w = tt
   order-longer q len m (r ∷ l) h w = (w .0, w .1, omega arith, order-longer (r .stop) len m l h (w .3))

@@ -7,10 +7,10 @@ use mathlib.Core.Logic.{_⊎_, inl, inr}
 use Prim.Native.Nat.{ℕ, _+_, _-_, _*_, _≤_, _<_}
 use native.Mathlib.Omega.{arith}
 use lib.Dec.{ltb}
-use lib.ListN.{length, getD, take, drop, length-map, length-append, length-drop, List·getD-append}
+use lib.ListN.{length, getD, drop, length-map, length-append, length-drop, List·getD-append}
 use borrow.Author.Tests.{le-ltb, ltb-false, not-false}
 use Rattle.search.specs.SearchLaws.{decide, neither}
-use Rattle.common.specs.Entry.{flatten, rows, room, Shaped, over, wide}
+use Rattle.common.specs.Entry.{flatten, rows, room, over, wide}
 use Rattle.common.specs.EntryLaws.{length-flatten, rows-flatten, fits-room, holds-shaped, flatten-map}
 use Rattle.common.specs.Refusals.{Outcome, given, refuse, tooLong, past, told}
 use Rattle.common.specs.RefusalLaws.{answer-unique}
@@ -20,14 +20,15 @@ use Rattle.common.specs.declared.refusal.Answer.the-variants.{Value}
 use Rattle.region.specs.Region.{Caused, up, keepBefore, InOrder, Listed, tagOf, asListed, row, unrow, rowOf}
 use Rattle.region.specs.Regions.{regions}
 use Rattle.rules.specs.Columns.{Columns, gramOf}
-use Rattle.region.specs.Ahead.{regions-in-order}
+use Rattle.region.specs.Ahead.{regions-in-order, regions-shaped}
 use Rattle.rules.specs.Columns.{unequal}
-use Rattle.context.specs.Build.{full, builtAnswer, builtList, Built}
-use Rattle.amend.specs.Amend.{Edit, joint, Fits, none, last, next}
-use Rattle.amend.specs.Local.{usesLineEnd}
+use Rattle.context.specs.Build.{builtAnswer, builtList, Built}
+use Rattle.amend.specs.Amend.{Edit, joint}
+use Rattle.amend.specs.Several.{Fits, none, last, next}
 use Rattle.cover.specs.Cursor.{overfull}
 use Rattle.cover.specs.Shape.{misshapen}
-use Rattle.amend.specs.Amended.{listed, listRegions, edit, edited, amendedRegions, miscut, offJoint, leftOpen, crowded, result, amendedAnswer, Amended}
+use Rattle.common.specs.Lists.{crowded}
+use Rattle.amend.specs.Amended.{regionsIn, listRegions, edited, amendedRegions, miscut, usesLineEnd, offJoint, leftOpen, amendedList, amendedAnswer, Amended}
 use Rattle.amend.specs.Starts.{unless-end}
 use Rattle.amend.specs.Edits.{relist-one}
 use Rattle.amend.specs.AmendedLaws.{refuse-pass}
@@ -36,25 +37,20 @@ use Rattle.amend.specs.Lists.{retag-order}
 use Rattle.amend.specs.Demand.{demand-columns}
 
 -- a list whose first n regions are those of a text, by a grammar and rules
-abbrev pub Holds : Grammar → Columns → List ℕ → List ℕ → ℕ → Type 0
-Holds g c s l n = listed n l ≡ listRegions (gramOf g c) s
+abbrev pub HoldsRegions : Grammar → Columns → List ℕ → List ℕ → ℕ → Type 0
+HoldsRegions g c s l n = regionsIn n l ≡ listRegions (gramOf g c) s
 
 -- ---- what building leaves
 row-says : (l : List Caused) → map unrow (map rowOf l) ≡ map asListed l
 row-says [] = refl
 row-says (r ∷ l) = ap (λ (z : List Listed). asListed r ∷ z) (row-says l)
 
-listed-flatten : (l : List Caused) (rest : List ℕ) → listed (length l) (flatten rowOf l ++ rest) ≡ map asListed l
-unfolding listed
+listed-flatten : (l : List Caused) (rest : List ℕ) → regionsIn (length l) (flatten rowOf l ++ rest) ≡ map asListed l
+unfolding regionsIn
 listed-flatten l rest = ap (map unrow) (rows-flatten rowOf wide row-wide l rest) ∙ row-says l
 
--- regions in order are rows in order
-order-shaped : (from len : ℕ) (l : List Caused) → InOrder from len l → Shaped from len (map rowOf l)
-order-shaped from len [] w = tt
-order-shaped from len (r ∷ l) w = (w .0, w .1, w .2, order-shaped (r .stop) len l (w .3))
-
 -- what building has tested and left where it answered a count
-pub record Left (g : Grammar) (c : Columns) (s out l : List ℕ) (n : ℕ) : Type 0 where
+pub record BuiltLeft (g : Grammar) (c : Columns) (s out l : List ℕ) (n : ℕ) : Type 0 where
   pub short : tooLong s ≡ false
   pub equal : unequal c ≡ false
   pub fits : n ≤ room wide out
@@ -62,13 +58,13 @@ pub record Left (g : Grammar) (c : Columns) (s out l : List ℕ) (n : ℕ) : Typ
   pub left : l ≡ over (flatten rowOf (regions (gramOf g c) s)) out
 
 module _ {g : Grammar} {c : Columns} {s out l : List ℕ} {n : ℕ} (b : Built g c s out l (told (Value n))) where
-  pub built-told : Left g c s out l n
+  pub built-told : BuiltLeft g c s out l n
   unfolding builtAnswer builtList
   built-told =
       let R = regions (gramOf g c) s in
-      let p = refuse-pass 0 (tooLong s) (refuse 6 (unequal c) (refuse 3 (full R out) (given (length R ∷ [])))) (n ∷ []) (sym (b .answer)) in
-      let q = refuse-pass 5 (unequal c) (refuse 3 (full R out) (given (length R ∷ []))) (n ∷ []) (p .1) in
-      let w = refuse-pass 2 (full R out) (given (length R ∷ [])) (n ∷ []) (q .1) in
+      let p = refuse-pass 0 (tooLong s) (refuse 6 (unequal c) (refuse 3 (crowded wide R out) (given (length R ∷ [])))) (n ∷ []) (sym (b .answer)) in
+      let q = refuse-pass 5 (unequal c) (refuse 3 (crowded wide R out) (given (length R ∷ []))) (n ∷ []) (p .1) in
+      let w = refuse-pass 2 (crowded wide R out) (given (length R ∷ [])) (n ∷ []) (q .1) in
       let size : length R ≡ n = ap (λ (o : Outcome). getD (o .values) 0 0) (w .1) in
       record {
         short = p .0;
@@ -79,11 +75,11 @@ module _ {g : Grammar} {c : Columns} {s out l : List ℕ} {n : ℕ} (b : Built g
       }
 
   -- the list that building leaves holds the regions of its text
-  pub built-holds : Holds g c s l n
+  pub built-holds : HoldsRegions g c s l n
   built-holds =
       let R = regions (gramOf g c) s in
       let w = built-told in
-      ap (λ (m : ℕ). listed m l) (sym (w .count)) ∙ ap (listed (length R)) (w .left) ∙ listed-flatten R (drop (length (flatten rowOf R)) out)
+      ap (λ (m : ℕ). regionsIn m l) (sym (w .count)) ∙ ap (regionsIn (length R)) (w .left) ∙ listed-flatten R (drop (length (flatten rowOf R)) out)
 
   -- it has room for them, and they are in order within the text
   pub built-shaped : misshapen l n (length s) ≡ false
@@ -95,26 +91,26 @@ module _ {g : Grammar} {c : Columns} {s out l : List ℕ} {n : ℕ} (b : Built g
       let long : length l ≡ length (flatten rowOf R) + (length out - length (flatten rowOf R)) = ap length (w .left) ∙ length-append (flatten rowOf R) (drop (length (flatten rowOf R)) out) ∙ ap (λ (m : ℕ). length (flatten rowOf R) + m) (length-drop (length (flatten rowOf R)) out) in
       let fits : overfull wide l n ≡ false = le-ltb (room wide l) n (fits-room wide n l (omega arith) (omega (arith, size, long, w .count))) in
       let same : rows wide n l ≡ map rowOf R = ap (λ (m : ℕ). rows wide m l) (sym (w .count)) ∙ ap (rows wide (length R)) (w .left) ∙ rows-flatten rowOf wide row-wide R (drop (length (flatten rowOf R)) out) in
-      rw (fits, same, holds-shaped 0 (length s) (map rowOf R) (order-shaped 0 (length s) R (regions-in-order (gramOf g c) s)))
+      rw (fits, same, holds-shaped 0 (length s) (map rowOf R) (regions-shaped (gramOf g c) s))
 
 -- ---- what an amendment that accepts has tested
 -- the cuts, the marks and the replacement's end
-pub record Meets (g : Grammar) (c : Columns) (s l : List ℕ) (n : ℕ) (e : Edit) : Type 0 where
+pub record Admitted (g : Grammar) (c : Columns) (s l : List ℕ) (n : ℕ) (e : Edit) : Type 0 where
   pub cuts : (e .first ≤ e .second) × (e .second ≤ length s)
   pub free : usesLineEnd g c ≡ false
-  pub joints : offJoint (g .eol) s (listed n l) (e .first) (e .second) ≡ false
+  pub joints : offJoint (g .eol) s (regionsIn n l) (e .first) (e .second) ≡ false
   pub shut : leftOpen (g .eol) (listRegions (gramOf g c)) (length s) e ≡ false
 
 pub record Accepted (g : Grammar) (c : Columns) (s l : List ℕ) (n : ℕ) (e : Edit) (out : List ℕ) (k : ℕ) : Type 0 where
   pub equal : unequal c ≡ false
   pub short : tooLong (edited e s) ≡ false
-  pub meets : Meets g c s l n e
-  pub fits : crowded (result g c s l n e) out ≡ false
-  pub count : k ≡ length (result g c s l n e)
+  pub meets : Admitted g c s l n e
+  pub fits : crowded wide (amendedList g c s l n e) out ≡ false
+  pub count : k ≡ length (amendedList g c s l n e)
 
-pub accepted : (g : Grammar) (c : Columns) (s l : List ℕ) (n : ℕ) (e : Edit) (out : List ℕ) (k : ℕ) → given (k ∷ []) ≡ amendedAnswer g c s l n e out → Accepted g c s l n e out k
+pub accepted-told : (g : Grammar) (c : Columns) (s l : List ℕ) (n : ℕ) (e : Edit) (out : List ℕ) (k : ℕ) → given (k ∷ []) ≡ amendedAnswer g c s l n e out → Accepted g c s l n e out k
 unfolding amendedAnswer
-accepted g c s l n e out k served =
+accepted-told g c s l n e out k served =
     let v = k ∷ [] in
     let p1 = refuse-pass 0 (tooLong s || tooLong (e .text)) _ v (sym served) in
     let p6 = refuse-pass 5 (unequal c) _ v (p1 .1) in
@@ -122,9 +118,9 @@ accepted g c s l n e out k served =
     let p1′ = refuse-pass 0 (tooLong (edited e s)) _ v (p4 .1) in
     let p5 = refuse-pass 4 (misshapen l n (length s)) _ v (p1′ .1) in
     let p9 = refuse-pass 8 (usesLineEnd g c) _ v (p5 .1) in
-    let p7 = refuse-pass 6 (offJoint (g .eol) s (listed n l) (e .first) (e .second)) _ v (p9 .1) in
+    let p7 = refuse-pass 6 (offJoint (g .eol) s (regionsIn n l) (e .first) (e .second)) _ v (p9 .1) in
     let p8 = refuse-pass 7 (leftOpen (g .eol) (listRegions (gramOf g c)) (length s) e) _ v (p7 .1) in
-    let p3 = refuse-pass 2 (crowded (result g c s l n e) out) _ v (p8 .1) in
+    let p3 = refuse-pass 2 (crowded wide (amendedList g c s l n e) out) _ v (p8 .1) in
     let m = neither (ltb (e .second) (e .first)) (past s (e .second)) (p4 .0) in
     record {
       equal = p6 .0;
@@ -135,15 +131,15 @@ accepted g c s l n e out k served =
     }
 
 -- ---- so the edit fits the joint theorem
-module _ (g : Grammar) (c : Columns) (s l : List ℕ) (n : ℕ) (e : Edit) (a : Meets g c s l n e) (holds : Holds g c s l n) where
+module _ (g : Grammar) (c : Columns) (s l : List ℕ) (n : ℕ) (e : Edit) (a : Admitted g c s l n e) (holds : HoldsRegions g c s l n) where
   both : (joint (g .eol) s (listRegions (gramOf g c) s) (e .first) ≡ true) × ((ltb (e .second) (length s) && not (joint (g .eol) s (listRegions (gramOf g c) s) (e .second))) ≡ false)
   unfolding offJoint
   both =
-      let w = neither (not (joint (g .eol) s (listed n l) (e .first))) _ (a .joints) in
+      let w = neither (not (joint (g .eol) s (regionsIn n l) (e .first))) _ (a .joints) in
       (subst (λ (z : List Listed). joint (g .eol) s z (e .first) ≡ true) holds (not-false _ (w .0)), subst (λ (z : List Listed). (ltb (e .second) (length s) && not (joint (g .eol) s z (e .second))) ≡ false) holds (w .1))
 
   fitting : Fits (g .eol) (listRegions (gramOf g c)) s 0 (e ∷ [])
-  unfolding leftOpen
+  unfolding leftOpen joint
   fitting = by (decide (ltb (e .second) (length s)))
     where
       by : (ltb (e .second) (length s) ≡ true) ⊎ (ltb (e .second) (length s) ≡ false) → Fits (g .eol) (listRegions (gramOf g c)) s 0 (e ∷ [])
@@ -154,7 +150,7 @@ module _ (g : Grammar) (c : Columns) (s l : List ℕ) (n : ℕ) (e : Edit) (a : 
   ordered = retag-order tagOf 0 (length s) (regions (gramOf g c) s) (regions-in-order (gramOf g c) s)
 
   -- the regions asked for are those of the edited text
-  pub same : result g c s l n e ≡ listRegions (gramOf g c) (edited e s)
+  pub same : amendedList g c s l n e ≡ listRegions (gramOf g c) (edited e s)
   unfolding amendedRegions
   same =
       let build = listRegions (gramOf g c) in
@@ -172,15 +168,15 @@ pub record Rebuilt (k : ℕ) (out out′ blank fresh : List ℕ) (a : Answer) : 
   pub places : k ≤ room wide blank → (i : ℕ) → i < k * wide → getD fresh i 0 ≡ getD out′ i 0
   pub whole : blank ≡ out → (a ≡ Value k) × (fresh ≡ out′)
 
-module _ (g : Grammar) (c : Columns) (s l : List ℕ) (n : ℕ) (e : Edit) (out out′ : List ℕ) (k : ℕ) (holds : Holds g c s l n) (m : Amended g c s l n e out out′ (told (Value k))) where
+module _ (g : Grammar) (c : Columns) (s l : List ℕ) (n : ℕ) (e : Edit) (out out′ : List ℕ) (k : ℕ) (holds : HoldsRegions g c s l n) (m : Amended g c s l n e out out′ (told (Value k))) where
   tested : Accepted g c s l n e out k
-  tested = accepted g c s l n e out k (m .answer)
+  tested = accepted-told g c s l n e out k (m .answer)
 
   -- the regions of the edited text
   afresh : List Caused
   afresh = regions (gramOf g c) (edited e s)
 
-  alike : result g c s l n e ≡ map asListed afresh
+  alike : amendedList g c s l n e ≡ map asListed afresh
   unfolding afresh
   alike = same g c s l n e (tested .meets) holds
 
@@ -188,13 +184,13 @@ module _ (g : Grammar) (c : Columns) (s l : List ℕ) (n : ℕ) (e : Edit) (out 
   size = tested .count ∙ ap length alike ∙ length-map afresh asListed
 
   roomy : k ≤ room wide out
-  roomy = omega (arith, tested .count, ltb-false (room wide out) (length (result g c s l n e)) (tested .fits))
+  roomy = omega (arith, tested .count, ltb-false (room wide out) (length (amendedList g c s l n e)) (tested .fits))
 
   left : out′ ≡ over (flatten rowOf afresh) out
   left = m .list ∙ rw (← (m .answer)) (ap (λ (x : List ℕ). over x out) (ap (flatten row) alike ∙ flatten-map row asListed afresh))
 
   module _ (blank fresh : List ℕ) (a : Answer) (b : Built g c (edited e s) blank fresh (told a)) (h : k ≤ room wide blank) where
-    free : full afresh blank ≡ false
+    free : crowded wide afresh blank ≡ false
     free = le-ltb (room wide blank) (length afresh) (omega (arith, size))
 
     answered : a ≡ Value k
@@ -216,13 +212,12 @@ module _ (g : Grammar) (c : Columns) (s l : List ℕ) (n : ℕ) (e : Edit) (out 
         ∙ sym (ap (λ (z : List ℕ). getD z i 0) left ∙ List·getD-append (flatten rowOf afresh) (drop (length (flatten rowOf afresh)) out) 0 i x)
 
 -- where a list holds the regions of the old text and an amendment accepts, building the edited text afresh gives the same list
-pub amend-is-rebuild-held : {g : Grammar} {c : Columns} {old l : List ℕ} {n first second : ℕ} {text out out′ blank fresh : List ℕ} {k : ℕ} {a : Answer}
-    → Holds g c old l n
-    → Amended g c old l n (edit first second text) out out′ (told (Value k))
-    → Built g c (take first old ++ (text ++ drop second old)) blank fresh (told a)
+pub amend-is-rebuild-held : {g : Grammar} {c : Columns} {old l : List ℕ} {n : ℕ} {e : Edit} {out out′ blank fresh : List ℕ} {k : ℕ} {a : Answer}
+    → HoldsRegions g c old l n
+    → Amended g c old l n e out out′ (told (Value k))
+    → Built g c (edited e old) blank fresh (told a)
     → Rebuilt k out out′ blank fresh a
-amend-is-rebuild-held {g} {c} {old} {l} {n} {first} {second} {text} {out} {out′} {blank} {fresh} {k} {a} holds m b =
-    let e = edit first second text in
+amend-is-rebuild-held {g} {c} {old} {l} {n} {e} {out} {out′} {blank} {fresh} {k} {a} holds m b =
     record {
       count = answered g c old l n e out out′ k holds m blank fresh a b;
       places = at-each g c old l n e out out′ k holds m blank fresh a b;
@@ -232,10 +227,10 @@ amend-is-rebuild-held {g} {c} {old} {l} {n} {first} {second} {text} {out} {out�
     }
 
 -- Mission demand 3, of the promises that `build` and `amend` keep. Build the old text; amend its list, by the same grammar and rules, for
--- the text in which `text` replaces the bytes from the first cut up to the second; build that text afresh: two equal lists.
-pub amend-is-rebuild : {g : Grammar} {c : Columns} {old run l : List ℕ} {n first second : ℕ} {text out out′ blank fresh : List ℕ} {k : ℕ} {a : Answer}
+-- the text that an edit makes; build that text afresh: two equal lists.
+pub amend-is-rebuild : {g : Grammar} {c : Columns} {old run l : List ℕ} {n : ℕ} {e : Edit} {out out′ blank fresh : List ℕ} {k : ℕ} {a : Answer}
     → Built g c old run l (told (Value n))
-    → Amended g c old l n (edit first second text) out out′ (told (Value k))
-    → Built g c (take first old ++ (text ++ drop second old)) blank fresh (told a)
+    → Amended g c old l n e out out′ (told (Value k))
+    → Built g c (edited e old) blank fresh (told a)
     → Rebuilt k out out′ blank fresh a
 amend-is-rebuild b = amend-is-rebuild-held (built-holds b)

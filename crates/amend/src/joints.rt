@@ -7,13 +7,13 @@ ghost use lib.ListN.{length};
 ghost use Rattle.search.specs.Promise.{Gives};
 ghost use Rattle.region.specs.Region.{reaches};
 ghost use Rattle.amend.specs.Amend.{joint};
-ghost use Rattle.amend.specs.Amended.{listed, offJoint};
+ghost use Rattle.amend.specs.Amended.{regionsIn, offJoint};
 ghost use Rattle.amend.specs.Parts.{Orderly, Fair};
 
 // Whether a region that starts before `k` ends at `k` or later: only the last of those can.
 fn reaches_place(list: &[u32], count: usize, k: usize) -> bool
     requires { ⌜ Orderly (now list) count 4294967295 ⌝ }
-    ensures { λ r. ⌜ Gives (reaches k (listed count (now (list .entry)))) r ⌝ }
+    ensures { λ r. ⌜ Gives (reaches k (regionsIn count (now (list .entry)))) r ⌝ }
 {
     let n = starts_before(list, count, k);
     if n == 0 {
@@ -25,7 +25,7 @@ fn reaches_place(list: &[u32], count: usize, k: usize) -> bool
 // Whether `k` is a joint of the text with its list.
 fn is_joint(src: &[u8], list: &[u32], count: usize, k: usize, eol: u8) -> bool
     requires { ⌜ Orderly (now list) count 4294967295 ⌝ }
-    ensures { λ r. ⌜ Gives (joint eol (now (src .entry)) (listed count (now (list .entry))) k) r ⌝ }
+    ensures { λ r. ⌜ Gives (joint eol (now (src .entry)) (regionsIn count (now (list .entry))) k) r ⌝ }
 {
     if after_empty_line(src, k, eol) {
         if reaches_place(list, count, k) {
@@ -46,7 +46,7 @@ pub(crate) fn is_off_joint(
     eol: u8,
 ) -> bool
     requires { ⌜ Fair (now list) count (length (now src)) ⌝ }
-    ensures { λ r. ⌜ Gives (offJoint eol (now (src .entry)) (listed count (now (list .entry))) first second) r ⌝ }
+    ensures { λ r. ⌜ Gives (offJoint eol (now (src .entry)) (regionsIn count (now (list .entry))) first second) r ⌝ }
 {
     if is_joint(src, list, count, first, eol) {
         if src.len() <= second {

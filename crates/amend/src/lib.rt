@@ -25,8 +25,8 @@ use rules::search_bytes::Alphabet;
 ghost use Rattle.common.specs.Refusals.{told};
 ghost use Rattle.rules.specs.Columns.{columns};
 ghost use Rattle.rules.specs.Rows.{gramBy};
-ghost use Rattle.amend.specs.Amended.{edit, listed, listRegions, Amended};
-ghost use Rattle.amend.specs.Parts.{Judged, Ready, Roomy, Merged, Settled};
+ghost use Rattle.amend.specs.Amended.{edit, regionsIn, listRegions, Amended};
+ghost use Rattle.amend.specs.Parts.{Judged, CutsReady, Roomy, Merged, Settled};
 
 // Whether the cuts may be made.
 enum Verdict {
@@ -114,12 +114,11 @@ fn write(
     out: &mut [u32],
 ) -> usize
     requires { ⌜
-        Roomy (gramBy alphabet (now fences) (now rules)) (now list) (split .count) (split .before) (split .after) (cuts .first)
-        (cuts .second) (now text) (now out)
+        Roomy (gramBy alphabet (now fences) (now rules)) (now list) split cuts (now text) (now out)
         ⌝ }
     ensures { λ r. ⌜
-        Merged (gramBy alphabet (now (fences .entry)) (now (rules .entry))) (now (list .entry)) (split .count) (split .before)
-        (split .after) (cuts .first) (cuts .second) (now (text .entry)) (now (out .entry)) (now (out .exit)) r
+        Merged (gramBy alphabet (now (fences .entry)) (now (rules .entry))) (now (list .entry)) split cuts
+        (now (text .entry)) (now (out .entry)) (now (out .exit)) r
         ⌝ }
 {
     let kept = copy_rows(list, 0, split.before, 0, 0, out, 0);
@@ -147,10 +146,10 @@ fn settle(
     rules: &Rows,
     out: &mut [u32],
 ) -> Answer
-    requires { ⌜ Ready (now list) count (cuts .first) (cuts .second) (cuts .len) (now text) ⌝ }
+    requires { ⌜ CutsReady (now list) count cuts (now text) ⌝ }
     ensures { λ r. ⌜
         Settled (alphabet .grammar .eol) (cuts .len) (listRegions (gramBy alphabet (now (fences .entry)) (now (rules .entry))))
-        (listed count (now (list .entry))) (edit (cuts .first) (cuts .second) (now (text .entry))) (now (out .entry))
+        (regionsIn count (now (list .entry))) (edit (cuts .first) (cuts .second) (now (text .entry))) (now (out .entry))
         (now (out .exit)) (told r)
         ⌝ }
 {

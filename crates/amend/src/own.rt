@@ -10,7 +10,7 @@ ghost use Rattle.search.specs.Promise.{Gives};
 ghost use Rattle.region.specs.Region.{up};
 ghost use Rattle.region.specs.Regions.{regions};
 ghost use Rattle.rules.specs.Rows.{gramBy};
-ghost use Rattle.amend.specs.Parts.{surveyed, Owns, Laid};
+ghost use Rattle.amend.specs.Parts.{surveyed, Owns, PutRows};
 ghost use Rattle.amend.specs.Amended.{listRegions};
 
 // How many regions a text has, and whether one reaches its end.
@@ -66,7 +66,7 @@ pub(crate) fn write_own(
 ) -> usize
     requires { ⌜ Owns (regions (gramBy alphabet (now fences) (now rules)) (now text)) (now text) by (now out) row ⌝ }
     ensures { λ r. ⌜
-        Laid (up by (listRegions (gramBy alphabet (now (fences .entry)) (now (rules .entry))) (now (text .entry)))) row
+        PutRows (up by (listRegions (gramBy alphabet (now (fences .entry)) (now (rules .entry))) (now (text .entry)))) row
         (now (out .entry)) (now (out .exit)) r
         ⌝ }
 {

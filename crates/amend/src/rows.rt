@@ -2,13 +2,16 @@
 use common::list::END;
 use common::list::START;
 use common::list::WIDE;
+ghost use mathlib.Core.List.{[], _∷_};
 ghost use Prim.Native.Nat.{_+_, _-_, _*_, _<_};
 ghost use lib.ListN.{length, getD};
 ghost use Rattle.search.specs.Promise.{Gives};
 ghost use Rattle.region.specs.Region.{keepBefore};
-ghost use Rattle.context.specs.Build.{Puts, Put};
-ghost use Rattle.amend.specs.Amended.{listed};
-ghost use Rattle.amend.specs.Parts.{Orderly, Moves, Copies, Copied};
+ghost use Rattle.common.specs.Lists.{RowPut};
+ghost use Rattle.region.specs.Room.{RowFits};
+ghost use Rattle.amend.specs.Amend.{movedBy};
+ghost use Rattle.amend.specs.Amended.{regionsIn};
+ghost use Rattle.amend.specs.Parts.{Orderly, regionsBetween, Moves, Copies, PutRows};
 ghost use Rattle.common.specs.Entry.{wide};
 
 // A number of a list as a place.
@@ -29,7 +32,7 @@ pub(crate) fn number(list: &[u32], i: usize, j: usize) -> usize
 // How many regions start before `k`. They are sorted, so that halving finds it.
 pub(crate) fn starts_before(list: &[u32], count: usize, k: usize) -> usize
     requires { ⌜ Orderly (now list) count 4294967295 ⌝ }
-    ensures { λ r. ⌜ Gives (length (keepBefore k (listed count (now (list .entry))))) r ⌝ }
+    ensures { λ r. ⌜ Gives (length (keepBefore k (regionsIn count (now (list .entry))))) r ⌝ }
 {
     let mut low = 0;
     let mut high = count;
@@ -46,8 +49,8 @@ pub(crate) fn starts_before(list: &[u32], count: usize, k: usize) -> usize
 
 // Writes row `n`, and answers the next row's number.
 fn put(out: &mut [u32], n: usize, start: usize, end: usize) -> usize
-    requires { ⌜ Puts n start end (now out) ⌝ }
-    ensures { λ r. ⌜ Put n start end (now (out .entry)) (now (out .exit)) r ⌝ }
+    requires { ⌜ RowFits n start end (now out) ⌝ }
+    ensures { λ r. ⌜ RowPut (start ∷ end ∷ []) n (now (out .entry)) (now (out .exit)) r ⌝ }
 {
     let k = n * WIDE;
     out[k] = start as u32;
@@ -57,8 +60,8 @@ fn put(out: &mut [u32], n: usize, start: usize, end: usize) -> usize
 
 // Writes row `n` with both places moved up by `by`.
 pub(crate) fn put_moved(out: &mut [u32], n: usize, start: usize, end: usize, by: usize) -> usize
-    requires { ⌜ Puts n (start + by) (end + by) (now out) ⌝ }
-    ensures { λ r. ⌜ Put n (start + by) (end + by) (now (out .entry)) (now (out .exit)) r ⌝ }
+    requires { ⌜ RowFits n (start + by) (end + by) (now out) ⌝ }
+    ensures { λ r. ⌜ RowPut ((start + by) ∷ (end + by) ∷ []) n (now (out .entry)) (now (out .exit)) r ⌝ }
 {
     put(out, n, start + by, end + by)
 }
@@ -83,7 +86,7 @@ pub(crate) fn copy_rows(
     row: usize,
 ) -> usize
     requires { ⌜ Copies (now list) from to down up (now out) row ⌝ }
-    ensures { λ r. ⌜ Copied (now (list .entry)) from to down up row (now (out .entry)) (now (out .exit)) r ⌝ }
+    ensures { λ r. ⌜ PutRows (movedBy down up (regionsBetween from to (now (list .entry)))) row (now (out .entry)) (now (out .exit)) r ⌝ }
 {
     let mut i = from;
     let mut n = row;

@@ -6,6 +6,7 @@ use Prim.Native.Nat.{ℕ, _+_}
 use lib.Dec.{ltb}
 use lib.ListN.{length, getD, take}
 use lib.Seq.{slice}
+use Rattle.search.specs.Promise.{Gives}
 use Rattle.search.specs.Search.{either, oneOf, holds, find, lineEnd, nextLine}
 use Rattle.common.specs.Refusals.{Outcome, given, refused, tooLong, past, numberOf}
 use Rattle.common.specs.Turn.{Turn, go, stop, found, Step}
@@ -44,6 +45,10 @@ streamHit g s p =
     cond (leads (g .eol) (g .sep) (g .tab) s p && holds (blank g) s (p + 1))
     (found (mark (getD s p 0) (p + 2) (lineEnd (g .eol) s (p + 2))) (nextLine (length s) (lineEnd (g .eol) s (p + 2))))
     (go (nextLine (length s) (lineEnd (g .eol) s p)))
+
+-- what is promised of such a byte, whatever else the scan accepts
+pub record HitSays (eol sep tab : ℕ) (s : List ℕ) (p : ℕ) (r : Turn MarkerItem) : Type 0 where
+  pub hit : (t : ℕ → Bool) → Gives (streamHit (grammar eol sep tab t) s p) r
 
 -- one turn at q: the next accepted byte, and what it leads; where there is none the scan stays
 unfoldable pub streamTurn : ItemGrammar → List ℕ → ℕ → Turn MarkerItem
@@ -136,8 +141,8 @@ abbrev pub KeptFrom : BlockMarkerIter → List Bool → List ℕ → (BlockMarke
 KeptFrom g set s next = KeepsFrom scanner g set s (λ k. told (next k .found)) (λ k. next k .next)
 
 -- what a step yields, and the state after it
-abbrev pub stepped : MarkerStep → Step MarkerItem BlockMarkerIter
-stepped r = stepFor (scanner .back) (told (r .found) .values) (r .next)
+abbrev pub toldStep : MarkerStep → Step MarkerItem BlockMarkerIter
+toldStep r = stepFor (scanner .back) (told (r .found) .values) (r .next)
 
 -- all items that a state's scan has before it
 abbrev pub items : BlockMarkerIter → List Bool → List ℕ → List MarkerItem

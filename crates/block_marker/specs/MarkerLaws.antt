@@ -12,16 +12,17 @@ use borrow.Author.Tests.{lt-ltb, le-ltb, ltb-true, ltb-false}
 use Rattle.search.specs.Promise.{Gives}
 use Rattle.search.specs.Search.{is, either, other, holds, find, Sought, back, lineStart, lineEnd, nextLine}
 use Rattle.search.specs.SearchLaws.{decide, clash, and-true, is-no, holds-in, holds-true, find-ge, find-le, find-before, find-over, line-next}
-use Rattle.common.specs.Turn.{go, stop, found, allFound, None, Ahead, Adv, Covers}
+use Rattle.common.specs.Turn.{Turn, go, stop, found, allFound, None}
+use Rattle.common.specs.Turning.{Ahead, Adv, Covers}
 use Rattle.common.specs.TurnLaws.{collect-covers}
 use Rattle.common.specs.Items.{ItemGrammar, grammar, blank, Apart, leading, beyond, leads, itemFrom, itemAt, itemsOf}
-use Rattle.common.specs.ItemLaws.{both, leading-is, beyond-is, leading-beyond, marked, from-drop, marked-tests, Parted, marked-parted, parted-marked, AtMost, most-from, Walked, walked, walked-is, start-after, AtLine, at-start, line-size, line-length, line-low, Led, led, led-find, led-walked, no-line, on-line, line-rest, line-reach, read-none, read-line, read-adv, read-items, hit-adv, hit-covers, blank-refused, accepted-blank, blank-inside, accepted-inside}
-use Rattle.block_marker.specs.Marker.{mark, markLine, markers, streamHit, streamTurn, lineTurn}
+use Rattle.common.specs.ItemLaws.{both, leading-is, beyond-is, leading-beyond, acceptedAt, from-drop, marked-tests, Parted, marked-parted, parted-marked, AtMost, most-from, Walked, walked, walked-is, start-after, AtLine, at-start, line-size, line-length, line-low, Led, led, led-find, led-walked, no-line, on-line, line-rest, line-reach, read-none, read-line, read-adv, read-items, hit-adv, hit-covers, blank-refused, accepted-blank, blank-inside, accepted-inside}
+use Rattle.block_marker.specs.Marker.{mark, markLine, markers, streamHit, HitSays, streamTurn, lineTurn}
 use Rattle.block_marker.specs.declared.MarkerItem.{MarkerItem}
 
 -- ---- the item of a line by searches: u is the text up to the line's end, p the first byte from a on that is no separator or tab
 module _ (g : ItemGrammar) (u : List ℕ) (a p : ℕ) (h : a ≤ length u) (e : find (other (blank g)) u a ≡ p) where
-  mark-search : markLine g a (drop a u) ≡ cond (marked g u p) (mark (getD u p 0) (p + 2) (length u) ∷ []) []
+  mark-search : markLine g a (drop a u) ≡ cond (acceptedAt g u p) (mark (getD u p 0) (p + 2) (length u) ∷ []) []
   unfolding markLine
   mark-search =
       let l = find-ge (other (blank g)) u a in
@@ -29,11 +30,25 @@ module _ (g : ItemGrammar) (u : List ℕ) (a p : ℕ) (h : a ≤ length u) (e : 
       let k : a + length (leading (blank g) (drop a u)) ≡ p = omega (arith, ap length (leading-is (blank g) u a h), length-slice a (find (other (blank g)) u a) u m) in
       ap (λ (k : ℕ). itemFrom g mark k (beyond (blank g) (drop a u))) k ∙ ap (itemFrom g mark p) (beyond-is (blank g) u a h ∙ ap (λ (k : ℕ). drop k u) e) ∙ from-drop g mark u p
 
-  mark-yes : marked g u p ≡ true → markLine g a (drop a u) ≡ mark (getD u p 0) (p + 2) (length u) ∷ []
+  mark-yes : acceptedAt g u p ≡ true → markLine g a (drop a u) ≡ mark (getD u p 0) (p + 2) (length u) ∷ []
   mark-yes y = mark-search ∙ simp y
 
-  mark-no : marked g u p ≡ false → markLine g a (drop a u) ≡ []
+  mark-no : acceptedAt g u p ≡ false → markLine g a (drop a u) ≡ []
   mark-no y = mark-search ∙ simp y
+
+-- ---- the ways out of a hit, whatever the scan accepts
+module _ (eol sep tab : ℕ) (s : List ℕ) (p : ℕ) (y : Bool) (g : Gives (leads eol sep tab s p) y) where
+  pub hit-passed : (e n : ℕ) → y ≡ false → Sought (is eol) s p e → Gives (nextLine (length s) e) n → HitSays eol sep tab s p (go n)
+  hit-passed e n f x m = record { hit = λ t. record { answer = simp (← (g .answer), f, ← (x .here), ← (m .answer)) } }
+
+  module _ (z : Bool) (f : y ≡ true) (k : Gives (holds (either sep tab) s (p + 1)) z) where
+    pub hit-bare : (e n : ℕ) → z ≡ false → Sought (is eol) s p e → Gives (nextLine (length s) e) n → HitSays eol sep tab s p (go n)
+    hit-bare e n c x m = record { hit = λ t. record { answer = simp (← (g .answer), f, ← (k .answer), c, ← (x .here), ← (m .answer)) } }
+
+    pub hit-found : (e n m : ℕ) → z ≡ true → Sought (is eol) s (p + 2) e → Gives (nextLine (length s) e) n → Gives (getD s p 0) m → HitSays eol sep tab s p (found (mark m (p + 2) e) n)
+    hit-found e n m c x l b = record { hit = λ t. record { answer = simp (← (g .answer), f, ← (k .answer), c, ← (x .here), ← (l .answer), ← (b .answer)) } }
+
+pub ruleset hit-rules = (hit-passed, hit-bare, hit-found)
 
 -- ---- the ways out of the streaming turn
 module _ (eol sep tab : ℕ) (t : ℕ → Bool) (s : List ℕ) (q p : ℕ) where
@@ -41,24 +56,11 @@ module _ (eol sep tab : ℕ) (t : ℕ → Bool) (s : List ℕ) (q p : ℕ) where
   unfolding streamTurn
   stream-none h w = record { answer = simp (← (w .here), le-ltb p (length s) h) }
 
-  module _ (h : p < length s) (y : Bool) where
-    pub stream-passed : (e n : ℕ) → y ≡ false → Gives (leads eol sep tab s p) y → Sought t s q p → Sought (is eol) s p e → Gives (nextLine (length s) e) n
-        → Gives (streamTurn (grammar eol sep tab t) s q) (go n)
-    unfolding streamTurn
-    stream-passed e n f g w x m = record { answer = simp (← (w .here), lt-ltb p (length s) h, ← (g .answer), f, ← (x .here), ← (m .answer)) }
+  pub stream-hit : (v : Turn MarkerItem) → p < length s → Sought t s q p → HitSays eol sep tab s p v → Gives (streamTurn (grammar eol sep tab t) s q) v
+  unfolding streamTurn
+  stream-hit v h w g = record { answer = g .hit t .answer ∙ sym (simp (← (w .here), lt-ltb p (length s) h)) }
 
-    module _ (z : Bool) (f : y ≡ true) where
-      pub stream-bare : (e n : ℕ) → z ≡ false → Gives (leads eol sep tab s p) y → Gives (holds (either sep tab) s (p + 1)) z → Sought t s q p → Sought (is eol) s p e → Gives (nextLine (length s) e) n
-          → Gives (streamTurn (grammar eol sep tab t) s q) (go n)
-      unfolding streamTurn
-      stream-bare e n c g k w x m = record { answer = simp (← (w .here), lt-ltb p (length s) h, ← (g .answer), f, ← (k .answer), c, ← (x .here), ← (m .answer)) }
-
-      pub stream-found : (e n m : ℕ) → z ≡ true → Gives (leads eol sep tab s p) y → Gives (holds (either sep tab) s (p + 1)) z → Sought t s q p → Sought (is eol) s (p + 2) e → Gives (nextLine (length s) e) n → Gives (getD s p 0) m
-          → Gives (streamTurn (grammar eol sep tab t) s q) (found (mark m (p + 2) e) n)
-      unfolding streamTurn
-      stream-found e n m c g k w x l b = record { answer = simp (← (w .here), lt-ltb p (length s) h, ← (g .answer), f, ← (k .answer), c, ← (x .here), ← (l .answer), ← (b .answer)) }
-
-pub ruleset stream-rules = (stream-none, stream-passed, stream-bare, stream-found)
+pub ruleset stream-rules = (stream-none, stream-hit)
 
 -- ---- the ways out of the line turn
 module _ (eol sep tab : ℕ) (t : ℕ → Bool) (s : List ℕ) (q : ℕ)
@@ -66,7 +68,7 @@ module _ (eol sep tab : ℕ) (t : ℕ → Bool) (s : List ℕ) (q : ℕ)
   size : length (take e s) ≡ e
   size = sym (line-size eol s q e w h)
 
-  line-go : (n : ℕ) → marked (grammar eol sep tab t) (take e s) p ≡ false → Gives (nextLine (length s) e) n → Gives (lineTurn (grammar eol sep tab t) s q) (go n)
+  line-go : (n : ℕ) → acceptedAt (grammar eol sep tab t) (take e s) p ≡ false → Gives (nextLine (length s) e) n → Gives (lineTurn (grammar eol sep tab t) s q) (go n)
   line-go n f l = record {
     answer = sym (read-line (grammar eol sep tab t) (markLine (grammar eol sep tab t)) s q e n [] h w (mark-no (grammar eol sep tab t) (take e s) q p (line-reach eol s q e w h) (sym (v .here)) f) l);
   }
@@ -75,7 +77,7 @@ module _ (eol sep tab : ℕ) (t : ℕ → Bool) (s : List ℕ) (q : ℕ)
   line-blank n i = line-go n (rw (le-ltb (p + 1) (length (take e s)) (omega (arith, size))))
 
   module _ (m n : ℕ) (y : Bool) where
-    tests : (z : Bool) → Gives (getD (take e s) p 0) m → Gives (t m) y → Gives (holds (either sep tab) (take e s) (p + 1)) z → marked (grammar eol sep tab t) (take e s) p ≡ (z && y)
+    tests : (z : Bool) → Gives (getD (take e s) p 0) m → Gives (t m) y → Gives (holds (either sep tab) (take e s) (p + 1)) z → acceptedAt (grammar eol sep tab t) (take e s) p ≡ (z && y)
     tests z = marked-tests (grammar eol sep tab t) (take e s) p m y z
 
     pub line-passed : y ≡ false → Gives (getD (take e s) p 0) m → Gives (t m) y → Gives (nextLine (length s) e) n → Gives (lineTurn (grammar eol sep tab t) s q) (go n)
@@ -134,12 +136,12 @@ module _ (g : ItemGrammar) (s : List ℕ) where
 
     -- a place has nothing, or has its marker
     mark-cases : (itemAt g (markLine g) s a ≡ []) ⊎ ((p : ℕ) × Has a p)
-    mark-cases = by (decide (lineStart (g .eol) s a)) (decide (marked g u p))
+    mark-cases = by (decide (lineStart (g .eol) s a)) (decide (acceptedAt g u p))
       where
         p : ℕ
         p = find (other (blank g)) u a
 
-        by : (lineStart (g .eol) s a ≡ true) ⊎ (lineStart (g .eol) s a ≡ false) → (marked g u p ≡ true) ⊎ (marked g u p ≡ false) → (itemAt g (markLine g) s a ≡ []) ⊎ ((p : ℕ) × Has a p)
+        by : (lineStart (g .eol) s a ≡ true) ⊎ (lineStart (g .eol) s a ≡ false) → (acceptedAt g u p ≡ true) ⊎ (acceptedAt g u p ≡ false) → (itemAt g (markLine g) s a ≡ []) ⊎ ((p : ℕ) × Has a p)
         by (inr b) c = inl (no-line g (markLine g) s a b)
         by (inl b) (inr c) = inl (on-line g (markLine g) s a b ∙ mark-no g u a p (line-low (g .eol) s a h) refl c)
         by (inl b) (inl c) =

@@ -13,9 +13,10 @@ use Rattle.common.specs.RefusalLaws.{read-refused}
 use Rattle.common.specs.Turn.{allFound, drain}
 use Rattle.common.specs.Items.{grammar, blank, has, Apart, leads}
 use Rattle.common.specs.ItemLaws.{of-cond}
-use Rattle.common.specs.Scanning.{byNeedles, bySet, flagOff, foundBy, result, ofTurn, Lawful}
+use Rattle.common.specs.Scanning.{byNeedles, bySet, flagOff, foundBy, result, ofTurn}
+use Rattle.common.specs.ScanningLaws.{Lawful}
 use Rattle.common.specs.ScanningLaws as scanning
-use Rattle.block_marker.specs.Marker.{markLine, markers, streamHit, streamTurn, scanner, fresh, unfolded, told, Kept, KeptFrom, stepped, items}
+use Rattle.block_marker.specs.Marker.{markLine, markers, streamHit, streamTurn, scanner, fresh, unfolded, told, Kept, KeptFrom, toldStep, items}
 use Rattle.block_marker.specs.MarkerLaws.{Lies, stream-adv, line-adv, lined-items, streamed-items}
 use Rattle.block_marker.specs.declared.BlockMarkerIter.{BlockMarkerIter}
 use Rattle.block_marker.specs.declared.MarkerFound.{MarkerFound}
@@ -57,7 +58,7 @@ module _ (set : List Bool) (s : List ℕ) (eol sep tab : ℕ) (size : length set
 
   -- stepping it yields them one by one, and none when there is none left
   pub fresh-run : length s ≤ 4294967295 → (next : BlockMarkerIter → MarkerStep) → KeptFrom (fresh eol sep tab set) set s next
-      → (n : ℕ) → drain (λ k. stepped (next k)) n (fresh eol sep tab set) ≡ take n (markers (grammar eol sep tab (has set)) s)
+      → (n : ℕ) → drain (λ k. toldStep (next k)) n (fresh eol sep tab set) ≡ take n (markers (grammar eol sep tab (has set)) s)
   fresh-run short next =
       scanning.fresh-run lawful set s eol sep tab size (markers (grammar eol sep tab (has set)) s) streamed (lined-items (grammar eol sep tab (has set)) s) short (λ k. told (next k .found)) (λ k. next k .next)
 
@@ -67,7 +68,7 @@ module _ (set : List Bool) (s : List ℕ) (eol sep tab : ℕ) (size : length set
 pub same-items : (set : List Bool) (s : List ℕ) (eol sep tab : ℕ) → length set ≡ 256 → length s ≤ 4294967295
     → length (accepted set) ≤ 3 → Apart (grammar eol sep tab (has set))
     → (next : BlockMarkerIter → MarkerStep) → KeptFrom (fresh eol sep tab set) set s next → KeptFrom (flagOff scanner (fresh eol sep tab set)) set s next
-    → (fresh eol sep tab set .streaming ≡ true) × ((n : ℕ) → drain (λ k. stepped (next k)) n (fresh eol sep tab set) ≡ drain (λ k. stepped (next k)) n (flagOff scanner (fresh eol sep tab set)))
+    → (fresh eol sep tab set .streaming ≡ true) × ((n : ℕ) → drain (λ k. toldStep (next k)) n (fresh eol sep tab set) ≡ drain (λ k. toldStep (next k)) n (flagOff scanner (fresh eol sep tab set)))
 same-items set s eol sep tab size short few apart next keeps keeps′ =
     let g = grammar eol sep tab (has set) in
     (scanning.fresh-streams lawful eol sep tab set few, scanning.same-run lawful set s eol sep tab size (markers g s) (λ h. streamed-items g s apart) (lined-items g s) short (λ k. told (next k .found)) (λ k. next k .next) keeps keeps′)

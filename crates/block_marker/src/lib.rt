@@ -6,6 +6,7 @@
 // the byte leads its line, so that lines without one are never visited. With more the lines are read one by one.
 use common::items::blank_at;
 use common::items::leads_later;
+use common::items::leads_line;
 use common::refusal::Refusal;
 use common::sets::accepts;
 use common::sets::probe_matcher;
@@ -16,15 +17,17 @@ use find::find_byte;
 use find::is_one_of;
 use search::blank_end;
 use search::byte_at;
+use search::is_blank;
 use search::next_line;
-ghost use Prim.Native.Nat.{_≤_};
+ghost use Prim.Native.Nat.{_≤_, _<_};
 ghost use lib.ListN.{length, take};
 ghost use Rattle.search.specs.Promise.{Gives, Steps};
 ghost use Rattle.search.specs.Search.{oneOf, Sought};
-ghost use Rattle.common.specs.Items.{grammar, has, Unled, Looked};
+ghost use Rattle.common.specs.Items.{grammar, has, leads};
+ghost use Rattle.common.specs.Later.{Unled, Looked};
 ghost use Rattle.common.specs.Scanning.{at, first};
 ghost use Rattle.common.specs.Turn.{firstTurn};
-ghost use Rattle.block_marker.specs.Marker.{streamTurn, lineTurn, scanner, fresh, view, rests, told, answer, state};
+ghost use Rattle.block_marker.specs.Marker.{HitSays, streamTurn, lineTurn, scanner, fresh, view, rests, told, answer, state};
 
 // The fields of the Rust's iterator; the text and the set of accepted bytes are lent beside it.
 pub struct BlockMarkerIter {
@@ -82,9 +85,47 @@ fn find_mark(src: &[u8], q: usize, needles: &[u8; 3], nn: usize) -> usize
     find_any_of(needles, nn, src, q)
 }
 
-// One turn of the streaming scan. A failed hit rules its whole line out, since a later hit on that line would have this one before
-// it: on to the next line, instead of rejecting the line's hits one by one.
+// What a hit at `p` says; `led` tells whether it leads its line. A failed hit rules its whole line out, since a later hit on that line
+// would have this one before it: on to the next line, instead of rejecting the line's hits one by one.
+fn hit(src: &[u8], p: usize, led: bool, eol: u8, sep: u8, tab: u8) -> MarkerTurn
+    requires { ⌜ p < length (now src) ⌝ }
+    requires { ⌜ Gives (leads eol sep tab (now src) p) led ⌝ }
+    ensures { λ r. ⌜ HitSays eol sep tab (now (src .entry)) p (view r) ⌝ }
+{
+    if led {
+        if blank_at(src, p + 1, sep, tab) {
+            let start = p + 2;
+            let e = find_byte(src, start, eol);
+            return MarkerTurn::Found(byte_at(src, p), start, e, next_line(src.len(), e));
+        }
+        return MarkerTurn::Go(next_line(src.len(), find_byte(src, p, eol)));
+    }
+    MarkerTurn::Go(next_line(src.len(), find_byte(src, p, eol)))
+}
+
+// One turn of the streaming scan.
 fn stream_turn(
+    src: &[u8],
+    q: usize,
+    eol: u8,
+    sep: u8,
+    tab: u8,
+    needles: &[u8; 3],
+    nn: usize,
+) -> MarkerTurn
+    ensures { λ r. ⌜
+        Gives (streamTurn (grammar eol sep tab (oneOf (take nn (now (needles .entry))))) (now (src .entry)) q) (view r)
+        ⌝ }
+{
+    let p = find_mark(src, q, needles, nn);
+    if p >= src.len() {
+        return MarkerTurn::Stop(q);
+    }
+    hit(src, p, leads_line(src, p, eol, sep, tab), eol, sep, tab)
+}
+
+// The same with a place that leads no line, kept from turn to turn.
+fn kept_turn(
     src: &[u8],
     q: usize,
     eol: u8,
@@ -104,19 +145,12 @@ fn stream_turn(
     if p >= src.len() {
         return MarkerTurn::Stop(q);
     }
-    if leads_later(src, p, eol, sep, tab, lost) {
-        if blank_at(src, p + 1, sep, tab) {
-            let start = p + 2;
-            let e = find_byte(src, start, eol);
-            return MarkerTurn::Found(byte_at(src, p), start, e, next_line(src.len(), e));
-        }
-        return MarkerTurn::Go(next_line(src.len(), find_byte(src, p, eol)));
-    }
-    MarkerTurn::Go(next_line(src.len(), find_byte(src, p, eol)))
+    let led = leads_later(src, p, eol, sep, tab, lost);
+    hit(src, p, led, eol, sep, tab)
 }
 
-// The first item of the streaming scan at or after `from`, or where the scan stays when there is none.
-fn first_streamed(
+// The first item of the streaming scan at or after `from`, or where the scan stays when there is none; such a place is kept.
+fn first_kept(
     src: &[u8],
     from: usize,
     eol: u8,
@@ -134,7 +168,43 @@ fn first_streamed(
     let mut lost = [0usize; 1];
     let mut q = from;
     loop {
-        match stream_turn(src, q, eol, sep, tab, needles, nn, &mut lost) {
+        match kept_turn(src, q, eol, sep, tab, needles, nn, &mut lost) {
+            MarkerTurn::Go(n) => {
+                q = n;
+            }
+            MarkerTurn::Stop(v) => {
+                return MarkerFirst::Stopped(v);
+            }
+            MarkerTurn::Found(m, a, e, n) => {
+                return MarkerFirst::Found(m, a, e, n);
+            }
+        }
+    }
+}
+
+// The same, where no place need be kept: a walk back ends at the line end before, so that no line is walked twice. Only where the line end
+// is itself a separator or a tab it goes on.
+fn first_streamed(
+    src: &[u8],
+    from: usize,
+    eol: u8,
+    sep: u8,
+    tab: u8,
+    needles: &[u8; 3],
+    nn: usize,
+) -> MarkerFirst
+    requires { ⌜ from ≤ length (now src) ⌝ }
+    ensures { λ r. ⌜
+        Gives (firstTurn (streamTurn (grammar eol sep tab (oneOf (take nn (now (needles .entry))))) (now (src .entry)))
+        (length (now (src .entry))) from) (rests r)
+        ⌝ }
+{
+    if is_blank(eol, sep, tab) {
+        return first_kept(src, from, eol, sep, tab, needles, nn);
+    }
+    let mut q = from;
+    loop {
+        match stream_turn(src, q, eol, sep, tab, needles, nn) {
             MarkerTurn::Go(n) => {
                 q = n;
             }

@@ -123,19 +123,19 @@ take-drop n m [] = ap (take n) (drop-nil m) ∙ take-nil n ∙ sym (ap (drop m) 
 take-drop n zero (x ∷ l) = let z : 0 + n ≡ n = omega arith in ap (λ (k : ℕ). take k (x ∷ l)) (sym z)
 take-drop n (suc m) (x ∷ l) = take-drop n m l ∙ ap (λ (k : ℕ). drop (suc m) (take k (x ∷ l))) (sym (suc-add m n))
 
-pub record Reading (u : List ℕ) (from i v : ℕ) : Type 0 where
+pub record DigitsReading (u : List ℕ) (from i v : ℕ) : Type 0 where
   pub seeks : Seeks (other digit) (take (from + 9) u) from i
   pub value : v ≡ valued (slice from i u)
   pub small : v < 10 ^ (i - from)
   pub most : i ≤ from + 9
 
 module _ (u : List ℕ) (from : ℕ) where
-  pub reading-first : Reading u from from 0
+  pub reading-first : DigitsReading u from from 0
   reading-first =
       let z : from - from ≡ 0 = omega arith in
       record { seeks = seeks-first (other digit) (take (from + 9) u) from; value = sym (valued-empty u from); small = rw z (omega arith); most = omega arith }
 
-  module _ (i v : ℕ) (w : Reading u from i v) where
+  module _ (i v : ℕ) (w : DigitsReading u from i v) where
     pub reading-low : from ≤ i
     reading-low = w .seeks .ahead
 
@@ -190,7 +190,7 @@ module _ (u : List ℕ) (from : ℕ) where
       pub reading-add : (n : ℕ) → y ≡ true → Gives (digit x) y → Gives (x - 48) n → Fits w32 (v * 10 + n)
       reading-add n e d c = record { fits = omega (arith, w .small, power l, digit-most x (sym (d .answer) ∙ e), c .answer) }
 
-      pub reading-again : (n : ℕ) → y ≡ true → Gives (digit x) y → Gives (getD u i 0) x → Gives (x - 48) n → Reading u from (i + 1) (v * 10 + n)
+      pub reading-again : (n : ℕ) → y ≡ true → Gives (digit x) y → Gives (getD u i 0) x → Gives (x - 48) n → DigitsReading u from (i + 1) (v * 10 + n)
       reading-again n e d b c =
           let a = w .seeks .ahead in
           let z : i + 1 - from ≡ suc (i - from) = omega arith in

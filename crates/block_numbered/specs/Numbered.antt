@@ -23,7 +23,7 @@ use Rattle.block_numbered.specs.declared.NumberedTurn.{NumberedTurn}
 use Rattle.block_numbered.specs.declared.NumberedTurn.the-variants.{Go, Stop, Found}
 use Rattle.block_numbered.specs.declared.NumberedFirst.{NumberedFirst}
 use Rattle.block_numbered.specs.declared.NumberedFirst.the-variants as first
-use Rattle.block_numbered.specs.declared.Digits.{Digits}
+use Rattle.block_numbered.specs.declared.DigitRun.{DigitRun}
 
 -- "1 to 9 ASCII digits"
 abbrev pub oneToNine : ℕ → Bool
@@ -178,7 +178,7 @@ told Nothing = given []
 told (Refused r) = refused (numberOf r)
 
 -- digits read from a place: their number, and where they end
-abbrev pub digitsAt : ℕ → List ℕ → Digits
+abbrev pub digitsAt : ℕ → List ℕ → DigitRun
 digitsAt from ds = record { number = valued ds; end = from + length ds }
 
 -- ---- the run
@@ -191,8 +191,8 @@ abbrev pub KeptFrom : BlockNumberedIter → List Bool → List ℕ → (BlockNum
 KeptFrom g set s next = KeepsFrom scanner g set s (λ k. told (next k .found)) (λ k. next k .next)
 
 -- what a step yields, and the state after it
-abbrev pub stepped : NumberedStep → Step NumberedItem BlockNumberedIter
-stepped r = stepFor (scanner .back) (told (r .found) .values) (r .next)
+abbrev pub toldStep : NumberedStep → Step NumberedItem BlockNumberedIter
+toldStep r = stepFor (scanner .back) (told (r .found) .values) (r .next)
 
 -- all items that a state's scan has before it
 abbrev pub items : BlockNumberedIter → List Bool → List ℕ → List NumberedItem

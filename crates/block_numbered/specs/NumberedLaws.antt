@@ -13,14 +13,15 @@ use Rattle.search.specs.Promise.{Gives}
 use Rattle.search.specs.Search.{is, either, other, holds, find, Sought, back, lineStart, lineEnd, nextLine}
 use Rattle.search.specs.SearchLaws.{decide, clash, and-true, is-no, either-true, other-yes, other-no, other-false, holds-in, holds-true, find-ge, find-le, find-before, find-at, find-is, find-end, find-over, back-le, line-next}
 use Rattle.decimal.specs.Decimal.{digit, valued}
-use Rattle.common.specs.Turn.{go, stop, found, allFound, Ahead, Adv, Covers}
+use Rattle.common.specs.Turn.{go, stop, found, allFound}
+use Rattle.common.specs.Turning.{Ahead, Adv, Covers}
 use Rattle.common.specs.TurnLaws.{collect-covers}
 use Rattle.common.specs.Items.{ItemGrammar, grammar, blank, leading, beyond, leads, itemFrom, itemAt, itemsOf}
-use Rattle.common.specs.ItemLaws.{both, other-true, leading-is, beyond-is, leading-beyond, marked, from-drop, marked-tests, Parted, marked-parted, parted-marked, AtMost, most-from, Walked, walked, walked-is, start-after, line-size, line-length, line-low, Led, led, led-find, led-walked, no-line, on-line, line-rest, line-reach, read-none, read-line, read-adv, read-items, hit-adv, hit-covers, blank-refused, accepted-blank, blank-inside, accepted-inside}
+use Rattle.common.specs.ItemLaws.{both, other-true, leading-is, beyond-is, leading-beyond, acceptedAt, from-drop, marked-tests, Parted, marked-parted, parted-marked, AtMost, most-from, Walked, walked, walked-is, start-after, line-size, line-length, line-low, Led, led, led-find, led-walked, no-line, on-line, line-rest, line-reach, read-none, read-line, read-adv, read-items, hit-adv, hit-covers, blank-refused, accepted-blank, blank-inside, accepted-inside}
 use Rattle.block_numbered.specs.Numbered.{oneToNine, few, numbered, item, numberThen, numberFrom, numberLine, numbers, NoDigit, DigitsApart, streamHit, streamTurn, readDigits, readFrom, readLine, lineTurn, digitsAt}
 use Rattle.block_numbered.specs.DigitLaws.{few-none, few-some, one-to-nine, nine-yes, digits-small, leading-few, leading-many, drop-leading}
 use Rattle.block_numbered.specs.declared.NumberedItem.{NumberedItem}
-use Rattle.block_numbered.specs.declared.Digits.{Digits}
+use Rattle.block_numbered.specs.declared.DigitRun.{DigitRun}
 
 -- ---- digits between two places
 -- where all bytes from k up to p are digits, nine at the most, they are what is read there
@@ -74,10 +75,10 @@ module _ (eol sep tab : ℕ) (t : ℕ → Bool) (s : List ℕ) (q p : ℕ) where
         pub stream-bare : z ≡ false → Gives (leads eol sep tab s (p - n)) y → Gives (holds (either sep tab) s (p + 1)) z → Gives (streamTurn (grammar eol sep tab t) s q) (go (p + 1))
         stream-bare e a b = record { answer = sym (rest z a b ∙ simp (f, e)) }
 
-        pub stream-found : (e i m : ℕ) (r : Digits) → z ≡ true → Gives (leads eol sep tab s (p - n)) y → Gives (holds (either sep tab) s (p + 1)) z → Gives (digitsAt (p - n) (readDigits (slice (p - n) p s))) r
+        pub stream-found : (e i m : ℕ) (r : DigitRun) → z ≡ true → Gives (leads eol sep tab s (p - n)) y → Gives (holds (either sep tab) s (p + 1)) z → Gives (digitsAt (p - n) (readDigits (slice (p - n) p s))) r
             → Sought (is eol) s (p + 2) e → Gives (nextLine (length s) e) i → Gives (getD s p 0) m → Gives (streamTurn (grammar eol sep tab t) s q) (found (item (r .number) m (p + 2) e) i)
         stream-found e i m r c a b x l v k =
-            let u : r .number ≡ valued (slice (p - n) p s) = ap (λ (j : Digits). j .number) (x .answer) ∙ ap valued (subst (λ (j : ℕ). readDigits (slice (p - j) p s) ≡ slice (p - j) p s) (sym count) (back-read s p (omega arith) (some .1))) in
+            let u : r .number ≡ valued (slice (p - n) p s) = ap (λ (j : DigitRun). j .number) (x .answer) ∙ ap valued (subst (λ (j : ℕ). readDigits (slice (p - j) p s) ≡ slice (p - j) p s) (sym count) (back-read s p (omega arith) (some .1))) in
             record { answer = sym (rest z a b ∙ simp (f, c, ← (l .here), ← (v .answer), ← (k .answer), ← u)) }
 
 pub ruleset stream-rules = (stream-none, stream-digitless, stream-unled, stream-bare, stream-found)
@@ -94,15 +95,15 @@ module _ (g : ItemGrammar) (u : List ℕ) (a p : ℕ) (h : a ≤ length u) (e : 
   behind = beyond-is (blank g) u a h ∙ ap (λ (k : ℕ). drop k u) e
 
   -- behind digits ds that end at j
-  then-drop : (ds : List ℕ) (j : ℕ) → numberThen g ds j (drop j u) ≡ cond (oneToNine (length ds) && marked g u j) (numbered ds (getD u j 0) (j + 2) (length u) ∷ []) []
-  then-drop ds j = ap (λ (l : List NumberedItem). cond (oneToNine (length ds)) l []) (from-drop g (numbered ds) u j) ∙ by (oneToNine (length ds)) (marked g u j)
+  then-drop : (ds : List ℕ) (j : ℕ) → numberThen g ds j (drop j u) ≡ cond (oneToNine (length ds) && acceptedAt g u j) (numbered ds (getD u j 0) (j + 2) (length u) ∷ []) []
+  then-drop ds j = ap (λ (l : List NumberedItem). cond (oneToNine (length ds)) l []) (from-drop g (numbered ds) u j) ∙ by (oneToNine (length ds)) (acceptedAt g u j)
     where
       by : (x y : Bool) → cond x (cond y (numbered ds (getD u j 0) (j + 2) (length u) ∷ []) []) [] ≡ cond (x && y) (numbered ds (getD u j 0) (j + 2) (length u) ∷ []) []
       by true y = refl
       by false y = refl
 
   read-search : (j : ℕ) → p + length (readDigits (drop p u)) ≡ j
-      → readLine g a (drop a u) ≡ cond (oneToNine (length (readDigits (drop p u))) && marked g u j) (numbered (readDigits (drop p u)) (getD u j 0) (j + 2) (length u) ∷ []) []
+      → readLine g a (drop a u) ≡ cond (oneToNine (length (readDigits (drop p u))) && acceptedAt g u j) (numbered (readDigits (drop p u)) (getD u j 0) (j + 2) (length u) ∷ []) []
   unfolding readLine
   read-search j f =
       ap (λ (k : ℕ). readFrom g k (beyond (blank g) (drop a u))) lead
@@ -112,7 +113,7 @@ module _ (g : ItemGrammar) (u : List ℕ) (a p : ℕ) (h : a ≤ length u) (e : 
       ∙ then-drop (readDigits (drop p u)) j
 
   number-search : (j : ℕ) → p ≤ length u → find (other digit) u p ≡ j
-      → numberLine g a (drop a u) ≡ cond (oneToNine (j - p) && marked g u j) (numbered (slice p j u) (getD u j 0) (j + 2) (length u) ∷ []) []
+      → numberLine g a (drop a u) ≡ cond (oneToNine (j - p) && acceptedAt g u j) (numbered (slice p j u) (getD u j 0) (j + 2) (length u) ∷ []) []
   unfolding numberLine
   number-search j l f =
       let m = find-ge (other digit) u p in
@@ -126,11 +127,11 @@ module _ (g : ItemGrammar) (u : List ℕ) (a p : ℕ) (h : a ≤ length u) (e : 
       ∙ ap (λ (k : ℕ). numberThen g (slice p j u) k (beyond digit (drop p u))) k
       ∙ ap (numberThen g (slice p j u) j) (beyond-is digit u p l ∙ ap (λ (k : ℕ). drop k u) f)
       ∙ then-drop (slice p j u) j
-      ∙ ap (λ (k : ℕ). cond (oneToNine k && marked g u j) (numbered (slice p j u) (getD u j 0) (j + 2) (length u) ∷ []) []) c
+      ∙ ap (λ (k : ℕ). cond (oneToNine k && acceptedAt g u j) (numbered (slice p j u) (getD u j 0) (j + 2) (length u) ∷ []) []) c
 
 -- ---- the ways out of the line turn
 module _ (eol sep tab : ℕ) (t : ℕ → Bool) (s : List ℕ) (q : ℕ)
-    (e p i : ℕ) (r : Digits) (h : q < length s) (w : Sought (is eol) s q e) (v : Sought (other (either sep tab)) (take e s) q p) (d : Gives (digitsAt p (readDigits (drop p (take e s)))) r) where
+    (e p i : ℕ) (r : DigitRun) (h : q < length s) (w : Sought (is eol) s q e) (v : Sought (other (either sep tab)) (take e s) q p) (d : Gives (digitsAt p (readDigits (drop p (take e s)))) r) where
   size : length (take e s) ≡ e
   size = sym (line-size eol s q e w h)
 
@@ -139,9 +140,9 @@ module _ (eol sep tab : ℕ) (t : ℕ → Bool) (s : List ℕ) (q : ℕ)
 
   stop-at : p + length ds ≡ r .end
   unfolding ds
-  stop-at = sym (ap (λ (k : Digits). k .end) (d .answer))
+  stop-at = sym (ap (λ (k : DigitRun). k .end) (d .answer))
 
-  line-go : (oneToNine (length ds) && marked (grammar eol sep tab t) (take e s) (r .end)) ≡ false → Gives (nextLine (length s) e) i → Gives (lineTurn (grammar eol sep tab t) s q) (go i)
+  line-go : (oneToNine (length ds) && acceptedAt (grammar eol sep tab t) (take e s) (r .end)) ≡ false → Gives (nextLine (length s) e) i → Gives (lineTurn (grammar eol sep tab t) s q) (go i)
   unfolding ds
   line-go f l = record { answer = sym (read-line (grammar eol sep tab t) (readLine (grammar eol sep tab t)) s q e i [] h w (read-search (grammar eol sep tab t) (take e s) q p (line-reach eol s q e w h) (sym (v .here)) (r .end) stop-at ∙ simp f) l) }
 
@@ -152,7 +153,7 @@ module _ (eol sep tab : ℕ) (t : ℕ → Bool) (s : List ℕ) (q : ℕ)
   line-short f = line-go (rw (le-ltb (r .end + 1) (length (take e s)) (omega (arith, size))) (and-false (oneToNine (length ds))))
 
   module _ (m : ℕ) (y : Bool) where
-    tests : (z : Bool) → Gives (getD (take e s) (r .end) 0) m → Gives (t m) y → Gives (holds (either sep tab) (take e s) (r .end + 1)) z → marked (grammar eol sep tab t) (take e s) (r .end) ≡ (z && y)
+    tests : (z : Bool) → Gives (getD (take e s) (r .end) 0) m → Gives (t m) y → Gives (holds (either sep tab) (take e s) (r .end + 1)) z → acceptedAt (grammar eol sep tab t) (take e s) (r .end) ≡ (z && y)
     tests z = marked-tests (grammar eol sep tab t) (take e s) (r .end) m y z
 
     pub line-passed : y ≡ false → Gives (getD (take e s) (r .end) 0) m → Gives (t m) y → Gives (nextLine (length s) e) i → Gives (lineTurn (grammar eol sep tab t) s q) (go i)
@@ -172,7 +173,7 @@ module _ (eol sep tab : ℕ) (t : ℕ → Bool) (s : List ℕ) (q : ℕ)
             sym (read-line (grammar eol sep tab t) (readLine (grammar eol sep tab t)) s q e i (item (r .number) m (r .end + 2) e ∷ []) h w
             (read-search (grammar eol sep tab t) (take e s) q p (line-reach eol s q e w h) (sym (v .here)) (r .end) stop-at
             ∙ rw (nine-yes (length ds) (omega (arith, stop-at)) (read-nine (drop p (take e s))), tests z b a k, c, f, size, ← (b .answer))
-            (ap (λ (n : ℕ). item n m (r .end + 2) e ∷ []) (sym (ap (λ (k : Digits). k .number) (d .answer))))) l);
+            (ap (λ (n : ℕ). item n m (r .end + 2) e ∷ []) (sym (ap (λ (k : DigitRun). k .number) (d .answer))))) l);
       }
 
 pub ruleset line-rules = (read-none, line-digitless, line-short, line-passed, line-bare, line-found)
@@ -265,7 +266,7 @@ module _ (g : ItemGrammar) (s : List ℕ) where
 
     -- a place has nothing, or has its digits and their delimiter
     number-cases : (itemAt g (numberLine g) s a ≡ []) ⊎ ((p : ℕ) × (j : ℕ) × Has a p j)
-    number-cases = by (decide (lineStart (g .eol) s a)) (decide (oneToNine (j - p) && marked g u j))
+    number-cases = by (decide (lineStart (g .eol) s a)) (decide (oneToNine (j - p) && acceptedAt g u j))
       where
         p : ℕ
         p = find (other (blank g)) u a
@@ -276,13 +277,13 @@ module _ (g : ItemGrammar) (s : List ℕ) where
         high : p ≤ length u
         high = find-le (other (blank g)) u a (line-low (g .eol) s a h)
 
-        by : (lineStart (g .eol) s a ≡ true) ⊎ (lineStart (g .eol) s a ≡ false) → ((oneToNine (j - p) && marked g u j) ≡ true) ⊎ ((oneToNine (j - p) && marked g u j) ≡ false)
+        by : (lineStart (g .eol) s a ≡ true) ⊎ (lineStart (g .eol) s a ≡ false) → ((oneToNine (j - p) && acceptedAt g u j) ≡ true) ⊎ ((oneToNine (j - p) && acceptedAt g u j) ≡ false)
             → (itemAt g (numberLine g) s a ≡ []) ⊎ ((p : ℕ) × (j : ℕ) × Has a p j)
         by (inr b) c = inl (no-line g (numberLine g) s a b)
         by (inl b) (inr c) = inl (on-line g (numberLine g) s a b ∙ number-search g u a p (line-low (g .eol) s a h) refl j high refl ∙ simp c)
         by (inl b) (inl c) =
             let e = lineEnd (g .eol) s a in
-            let v = and-true (oneToNine (j - p)) (marked g u j) c in
+            let v = and-true (oneToNine (j - p)) (acceptedAt g u j) c in
             let o = one-to-nine (j - p) (v .0) in
             let w = marked-parted g s e j (line-length (g .eol) s a h) (v .1) in
             let m = w .inside in

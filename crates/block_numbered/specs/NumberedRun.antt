@@ -11,13 +11,15 @@ use Rattle.decimal.specs.Decimal.{digit}
 use Rattle.common.specs.Sets.{accepted}
 use Rattle.common.specs.Refusals.{read, unlessNone}
 use Rattle.common.specs.RefusalLaws.{read-refused}
-use Rattle.common.specs.Turn.{allFound, Each, drain}
+use Rattle.common.specs.Turn.{allFound, drain}
+use Rattle.common.specs.Turning.{Each}
 use Rattle.common.specs.TurnLaws.{collect-each}
 use Rattle.common.specs.Items.{grammar, blank, has, leads}
 use Rattle.common.specs.ItemLaws.{of-cond}
-use Rattle.common.specs.Scanning.{byNeedles, bySet, flagOff, foundBy, result, ofTurn, Lawful}
+use Rattle.common.specs.Scanning.{byNeedles, bySet, flagOff, foundBy, result, ofTurn}
+use Rattle.common.specs.ScanningLaws.{Lawful}
 use Rattle.common.specs.ScanningLaws as scanning
-use Rattle.block_numbered.specs.Numbered.{oneToNine, numbers, NoDigit, DigitsApart, streamHit, streamTurn, readLine, scanner, fresh, unfolded, told, Kept, KeptFrom, stepped, items}
+use Rattle.block_numbered.specs.Numbered.{oneToNine, numbers, NoDigit, DigitsApart, streamHit, streamTurn, readLine, scanner, fresh, unfolded, told, Kept, KeptFrom, toldStep, items}
 use Rattle.block_numbered.specs.NumberedLaws.{Lies, stream-adv, line-adv, lined-items, streamed-items}
 use Rattle.block_numbered.specs.declared.BlockNumberedIter.{BlockNumberedIter}
 use Rattle.block_numbered.specs.declared.NumberedFound.{NumberedFound}
@@ -64,7 +66,7 @@ module _ (set : List Bool) (s : List ℕ) (eol sep tab : ℕ) (size : length set
 
   -- stepping it yields them one by one, and none when there is none left
   pub fresh-run : NoDigit (grammar eol sep tab (has set)) → length s ≤ 4294967295 → (next : BlockNumberedIter → NumberedStep) → KeptFrom (fresh eol sep tab set) set s next
-      → (n : ℕ) → drain (λ k. stepped (next k)) n (fresh eol sep tab set) ≡ take n (numbers (grammar eol sep tab (has set)) s)
+      → (n : ℕ) → drain (λ k. toldStep (next k)) n (fresh eol sep tab set) ≡ take n (numbers (grammar eol sep tab (has set)) s)
   fresh-run none short next =
       scanning.fresh-run lawful set s eol sep tab size (numbers (grammar eol sep tab (has set)) s) streamed (lined-items (grammar eol sep tab (has set)) s none) short (λ k. told (next k .found)) (λ k. next k .next)
 
@@ -75,7 +77,7 @@ module _ (set : List Bool) (s : List ℕ) (eol sep tab : ℕ) (size : length set
 pub same-items : (set : List Bool) (s : List ℕ) (eol sep tab : ℕ) → length set ≡ 256 → length s ≤ 4294967295
     → length (accepted set) ≤ 3 → DigitsApart (grammar eol sep tab (has set))
     → (next : BlockNumberedIter → NumberedStep) → KeptFrom (fresh eol sep tab set) set s next → KeptFrom (flagOff scanner (fresh eol sep tab set)) set s next
-    → (fresh eol sep tab set .streaming ≡ true) × ((n : ℕ) → drain (λ k. stepped (next k)) n (fresh eol sep tab set) ≡ drain (λ k. stepped (next k)) n (flagOff scanner (fresh eol sep tab set)))
+    → (fresh eol sep tab set .streaming ≡ true) × ((n : ℕ) → drain (λ k. toldStep (next k)) n (fresh eol sep tab set) ≡ drain (λ k. toldStep (next k)) n (flagOff scanner (fresh eol sep tab set)))
 same-items set s eol sep tab size short few apart next keeps keeps′ =
     let g = grammar eol sep tab (has set) in
     (scanning.fresh-streams lawful eol sep tab set few, scanning.same-run lawful set s eol sep tab size (numbers g s) (λ h. streamed-items g s apart) (lined-items g s (apart .not-digit)) short (λ k. told (next k .found)) (λ k. next k .next) keeps keeps′)

@@ -23,7 +23,8 @@ ghost use lib.ListN.{length, take, drop};
 ghost use Rattle.search.specs.Promise.{Gives, Steps};
 ghost use Rattle.search.specs.Search.{oneOf, back};
 ghost use Rattle.decimal.specs.Decimal.{digit};
-ghost use Rattle.common.specs.Items.{grammar, has, Unled, Looked};
+ghost use Rattle.common.specs.Items.{grammar, has};
+ghost use Rattle.common.specs.Later.{Unled, Looked};
 ghost use Rattle.common.specs.Scanning.{at, first};
 ghost use Rattle.common.specs.Turn.{firstTurn};
 ghost use Rattle.block_numbered.specs.Numbered.{few, readDigits, digitsAt, streamTurn, lineTurn, scanner, fresh, view, rests, told, answer, state};
@@ -75,7 +76,7 @@ enum NumberedFirst {
 }
 
 // Digits that were read: their number, and where they end.
-struct Digits {
+struct DigitRun {
     number: u32,
     end: usize,
 }
@@ -138,24 +139,24 @@ fn digits_before(src: &[u8], p: usize) -> usize
 }
 
 // The digits of a line from `from` on, nine at the most.
-fn read_digits(line: &[u8], from: usize) -> Digits
+fn read_digits(line: &[u8], from: usize) -> DigitRun
     ensures { λ r. ⌜ Gives (digitsAt from (readDigits (drop from (now (line .entry))))) r ⌝ }
 {
     let mut i = from;
     let mut number: u32 = 0;
     while i < line.len() {
         if i - from >= 9 {
-            return Digits { number, end: i };
+            return DigitRun { number, end: i };
         }
         let x = byte_at(line, i);
         if is_digit(x) {
             number = number * 10 + digit_value(x);
             i += 1;
         } else {
-            return Digits { number, end: i };
+            return DigitRun { number, end: i };
         }
     }
-    Digits { number, end: i }
+    DigitRun { number, end: i }
 }
 
 // One turn of the streaming scan. A failed hit is rejected in place, and the scan goes on from the next byte: delimiters in prose are

@@ -13,7 +13,7 @@ use Rattle.common.specs.Rules.{tabulate}
 use Rattle.common.specs.TableLaws.{length-tabulate}
 use Rattle.common.specs.Sets.{Index}
 use Rattle.cells.specs.Bytes.{four, fromFour}
-use Rattle.cells.specs.Reply.{Laid}
+use Rattle.cells.specs.Reply.{LaidAt}
 
 -- a number of 32 bits is read back from its four bytes: no other number is written so
 pub four-back : (n : ℕ) → n < 4294967296 → fromFour (four n) ≡ n
@@ -35,7 +35,7 @@ module _ {A : Type 0} where
   pub put-all : (l out : List A) → length l ≡ length out → putAt 0 l out ≡ l
   put-all l out h = sym (take-all (0 + length l) (putAt 0 l out) (omega (arith, length-put 0 l out))) ∙ put-front 0 l out (omega arith)
 
-pub laid-four : (k x : ℕ) (out : List ℕ) → Laid k (four x) (out) (set (set (set (set out k (x % 256)) (k + 1) (x / 256 % 256)) (k + 2) (x / 65536 % 256)) (k + 3) (x / 16777216 % 256))
+pub laid-four : (k x : ℕ) (out : List ℕ) → LaidAt k (four x) (out) (set (set (set (set out k (x % 256)) (k + 1) (x / 256 % 256)) (k + 2) (x / 65536 % 256)) (k + 3) (x / 16777216 % 256))
 laid-four k x out = record { list = put-four k (x % 256) (x / 256 % 256) (x / 65536 % 256) (x / 16777216 % 256) out }
 
 -- a loop that has laid the first i of `all` from a place on, w numbers each
@@ -52,11 +52,11 @@ module _ {A : Type 0} {flat : A → List ℕ} {w : ℕ} {all : List A} {from : �
     pub lays-same : length out ≡ length out₀
     lays-same = ap length (l .list) ∙ length-put from (flatten flat (take i all)) out₀
 
-    pub lays-all : length all ≤ i → Laid from (flatten flat all) out₀ out
+    pub lays-all : length all ≤ i → LaidAt from (flatten flat all) out₀ out
     lays-all h = record { list = l .list ∙ rw (take-all i all h) }
 
 module _ {A : Type 0} (flat : A → List ℕ) (w : ℕ) (wide : (a : A) → length (flat a) ≡ w) (d : A) {all : List A} {from : ℕ} {out₀ : List ℕ} {i : ℕ} {out : List ℕ} (l : Lays flat w all from i out₀ out) where
-  pub lays-next : (out′ : List ℕ) → i < length all → Laid (from + i * w) (flat (getD all i d)) out out′ → Lays flat w all from (i + 1) out₀ out′
+  pub lays-next : (out′ : List ℕ) → i < length all → LaidAt (from + i * w) (flat (getD all i d)) out out′ → Lays flat w all from (i + 1) out₀ out′
   lays-next out′ h x =
       let e : length (flatten flat (take i all)) ≡ i * w = length-flatten flat w wide (take i all) ∙ ap (λ (n : ℕ). n * w) (length-take-le i all (omega arith)) in
       let f : flatten flat (take (suc i) all) ≡ flatten flat (take i all) ++ flat (getD all i d) = rw (take-suc all i d h) (flatten-snoc (take i all) (getD all i d)) in
@@ -75,10 +75,10 @@ module _ {all : List ℕ} {from : ℕ} {out₀ : List ℕ} {i : ℕ} {out : List
   pub lays-room : i < length all → from + i * 4 + 4 ≤ length out
   lays-room h = omega (arith, lays-same l)
 
-  pub lays-again : (out′ : List ℕ) → i < length all → Laid (from + i * 4) (four (getD all i 0)) out out′ → Lays four 4 all from (i + 1) out₀ out′
+  pub lays-again : (out′ : List ℕ) → i < length all → LaidAt (from + i * 4) (four (getD all i 0)) out out′ → Lays four 4 all from (i + 1) out₀ out′
   lays-again out′ h d = lays-next four 4 (λ n. refl) 0 l out′ h d
 
-  pub lays-again-byte : (x : ℕ) (out′ : List ℕ) → i < length all → Index (getD all i 0) x → Laid (from + i * 4) (four x) out out′ → Lays four 4 all from (i + 1) out₀ out′
+  pub lays-again-byte : (x : ℕ) (out′ : List ℕ) → i < length all → Index (getD all i 0) x → LaidAt (from + i * 4) (four x) out out′ → Lays four 4 all from (i + 1) out₀ out′
   lays-again-byte x out′ h w d = lays-again out′ h (rw (w .same) at d)
 
 -- ---- reading: an array whose first i places are filled by a function

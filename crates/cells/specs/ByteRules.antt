@@ -2,24 +2,70 @@
 -- The page: "Rules come as columns of numbers" and "there each number of a list is four bytes, low byte first."
 use mathlib.Core.Bool.{Bool, not, _||_}
 use mathlib.Core.List.{List, map}
-use Prim.Native.Nat.{ℕ, _*_, _/_}
+use Prim.Native.Nat.{ℕ, _*_, _/_, _%_}
 use lib.Dec.{eqb}
 use lib.ListN.{length, getD}
 use Rattle.common.specs.Entry.{rows}
 use Rattle.common.specs.Refusals.{differ}
+use Rattle.rules.specs.Columns.{InlineRules, inlineRules, Columns}
+use Rattle.rules.specs.Records.{ruleBytes, ruleMins}
 use Rattle.rules.specs.declared.records.FenceRule.{FenceRule}
+use Rattle.cells.specs.Bytes.{cells}
 
+-- ---- rules as a host lends them
+-- the inline rules' columns, as those of `Columns`, where a count is four bytes
+pub record InlineRuns : Type 0 where
+  pub symBytes : List ℕ
+  pub symCounts : List ℕ
+  pub openers : List ℕ
+  pub closers : List ℕ
+  pub openCounts : List ℕ
+
+-- all rules as columns
+pub record ColumnRuns : Type 0 where
+  pub fenceBytes : List ℕ
+  pub fenceMins : List ℕ
+  pub inline : InlineRuns
+
+-- "fence rule records given as bytes (two bytes a rule)", and the inline rules
+pub record RuleRuns : Type 0 where
+  pub fenceRules : List ℕ
+  pub inline : InlineRuns
+
+-- ---- "count columns are byte runs of exactly four times the byte column's length, else 6"
 -- whether a run is four bytes for each number of a byte column
 abbrev pub fourfold : List ℕ → List ℕ → Bool
 fourfold run bytes = eqb (length run) (length bytes * 4)
 
--- "count columns are byte runs of exactly four times the byte column's length, else 6"
-unfoldable pub uneven : List ℕ → List ℕ → List ℕ → List ℕ → List ℕ → Bool
-uneven symmetric times openers closers counts = not (fourfold times symmetric) || (differ openers closers || not (fourfold counts openers))
+unfoldable pub uneven : InlineRuns → Bool
+uneven i = not (fourfold (i .symCounts) (i .symBytes)) || (differ (i .openers) (i .closers) || not (fourfold (i .openCounts) (i .openers)))
 
--- "fence rule records given as bytes (two bytes a rule)": the byte, and the minimum
-abbrev pub ruleOf : List ℕ → FenceRule
-ruleOf l = record { byte = getD l 0 0; min = getD l 1 0 }
+-- "a rule's columns differ in length": the fence rules', or an inline rule's
+unfoldable pub unevenColumns : ColumnRuns → Bool
+unevenColumns c = differ (c .fenceBytes) (c .fenceMins) || uneven (c .inline)
 
-unfoldable pub rulesOf : List ℕ → List FenceRule
-rulesOf l = map ruleOf (rows 2 (length l / 2) l)
+-- the same of fence rules in two bytes each: "an odd length is 6"
+unfoldable pub unevenRules : RuleRuns → Bool
+unevenRules c = not (eqb (length (c .fenceRules) % 2) 0) || uneven (c .inline)
+
+-- ---- the columns that they hold, in numbers
+abbrev pub inlineIn : InlineRuns → InlineRules
+inlineIn i = inlineRules (i .symBytes) (cells (i .symCounts)) (i .openers) (i .closers) (cells (i .openCounts))
+
+unfoldable pub columnsIn : ColumnRuns → Columns
+columnsIn c = record { fenceBytes = c .fenceBytes; fenceMins = c .fenceMins; inline = inlineIn (c .inline) }
+
+-- a fence rule's two bytes: the byte, and the minimum
+abbrev pub fenceRuleOf : List ℕ → FenceRule
+fenceRuleOf l = record { byte = getD l 0 0; min = getD l 1 0 }
+
+-- "two bytes a rule"
+unfoldable pub fenceRulesOf : List ℕ → List FenceRule
+fenceRulesOf l = map fenceRuleOf (rows 2 (length l / 2) l)
+
+unfoldable pub ruleColumnsIn : RuleRuns → Columns
+ruleColumnsIn c = columnsIn (record {
+  fenceBytes = ruleBytes (fenceRulesOf (c .fenceRules));
+  fenceMins = ruleMins (fenceRulesOf (c .fenceRules));
+  inline = c .inline;
+})

@@ -1,9 +1,9 @@
 -- Laws of lists poured into a run of bytes: that a promise leaves one result, and the ways out of pouring and of building. Assumes nothing.
 use mathlib.Core.Path.{_≡_, refl, sym, subst, _∙_}
-use mathlib.Core.Bool.{Bool, true, false, _||_}
+use mathlib.Core.Bool.{Bool, true, false, not, _||_}
 use mathlib.Core.List.{List, [], _∷_}
 use mathlib.Core.Logic.{_⊎_, inl, inr}
-use Prim.Native.Nat.{ℕ, _/_, _≤_, _<_}
+use Prim.Native.Nat.{ℕ, _/_, _%_, _≤_, _<_}
 use lib.Dec.{eqb, ltb, leb}
 use lib.ListN.{length}
 use borrow.Author.Tests.{lt-ltb, le-ltb, leb-true, leb-false, eq-eqb, ne-eqb}
@@ -11,79 +11,97 @@ use Rattle.search.specs.Promise.{Gives}
 use Rattle.search.specs.SearchLaws.{decide}
 use Rattle.common.specs.Entry.{flatten}
 use Rattle.common.specs.Refusals.{Outcome, given, refused, differ}
+use Rattle.common.specs.Lists.{Wrote, filledAnswer}
 use Rattle.cells.specs.Reply.{fitted, Replied}
-use Rattle.cells.specs.Poured.{Wrote, Poured, pourAnswer, PouredAs, buildAnswer, BuiltAs}
-use Rattle.cells.specs.ByteRules.{uneven}
+use Rattle.cells.specs.Poured.{ListRuns, Poured, PouredAs, buildAnswer, BuiltAs}
+use Rattle.cells.specs.ByteRules.{ColumnRuns, RuleRuns, uneven, unevenColumns, unevenRules}
 use Rattle.cells.specs.ReplyLaws.{replied-unique, refused-by, reply-short, enough, too-short}
 
 -- two results for the same arguments are one
-pub poured-unique : {o : Outcome} {l out out′ out″ run run′ run″ : List ℕ} {r r′ : ℕ} → Poured o l out out′ run run′ r → Poured o l out out″ run run″ r′ → (r ≡ r′) × (run′ ≡ run″) × (out′ ≡ out″)
+pub poured-unique : {o : Outcome} {l : List ℕ} {before after after′ : ListRuns} {r r′ : ℕ} → Poured o l before after r → Poured o l before after′ r′ → (r ≡ r′) × (after .answer ≡ after′ .answer) × (after .list ≡ after′ .list)
 poured-unique a b =
     let e = replied-unique (a .reply) (b .reply) in
     (e .0, e .1, a .left ∙ sym (b .left))
 
 -- ---- the ways out of pouring: m is how many numbers the answer run has room for, y whether the list has room for all
-pub poured-off : (n : ℕ) (l out run : List ℕ) → eqb n 0 ≡ false → Poured (refused n) l out out run run n
+pub poured-off : (n : ℕ) (l : List ℕ) (lent : ListRuns) → eqb n 0 ≡ false → Poured (refused n) l lent lent n
 unfolding fitted
-poured-off n l out run e = record { reply = refused-by n run e; left = simp e }
+poured-off n l lent e = record { reply = refused-by n (lent .answer) e; left = simp e }
 
 -- there is room
 pub pour-room : {A : Type 0} (l : List A) (w : ℕ) (out : List ℕ) (y : Bool) → y ≡ true → Gives (leb (length l) (length out / w)) y → length l ≤ length out / w
 pour-room l w out y e f = leb-true (length l) (length out / w) (sym (f .answer) ∙ e)
 
-module _ {A : Type 0} (flat : A → List ℕ) (w : ℕ) (l : List A) (out run : List ℕ) where
+module _ {A : Type 0} (flat : A → List ℕ) (w : ℕ) (l : List A) (lent : ListRuns) where
   -- the answer run is too short: then it is 3, whatever the list's room
-  pub pour-short : (m : ℕ) → m ≤ 1 → Gives (length run / 4) m → PouredAs flat w l out out run run 3
+  pub pour-short : (m : ℕ) → m ≤ 1 → Gives (length (lent .answer) / 4) m → PouredAs flat w l lent lent 3
   unfolding fitted
-  pour-short m k room = by (decide (ltb (length out / w) (length l)))
+  pour-short m k room = by (decide (ltb (length (lent .list) / w) (length l)))
     where
-      by : (ltb (length out / w) (length l) ≡ true) ⊎ (ltb (length out / w) (length l) ≡ false) → PouredAs flat w l out out run run 3
-      by (inl u) = rw u (poured-off 3 (flatten flat l) out run refl)
-      by (inr u) = rw u (record { reply = reply-short (length l ∷ []) run m room k; left = simp (too-short (length l ∷ []) run m room k) })
+      by : (ltb (length (lent .list) / w) (length l) ≡ true) ⊎ (ltb (length (lent .list) / w) (length l) ≡ false) → PouredAs flat w l lent lent 3
+      by (inl u) = rw u (poured-off 3 (flatten flat l) lent refl)
+      by (inr u) = rw u (record { reply = reply-short (length l ∷ []) (lent .answer) m room k; left = simp (too-short (length l ∷ []) (lent .answer) m room k) })
 
-  module _ (y : Bool) (f : Gives (leb (length l) (length out / w)) y) where
-    pub pour-full : y ≡ false → PouredAs flat w l out out run run 3
+  module _ (y : Bool) (f : Gives (leb (length l) (length (lent .list) / w)) y) where
+    pub pour-full : y ≡ false → PouredAs flat w l lent lent 3
     pour-full e =
-        let t : ltb (length out / w) (length l) ≡ true = lt-ltb (length out / w) (length l) (leb-false (length l) (length out / w) (sym (f .answer) ∙ e)) in
-        rw t (poured-off 3 (flatten flat l) out run refl)
+        let t : ltb (length (lent .list) / w) (length l) ≡ true = lt-ltb (length (lent .list) / w) (length l) (leb-false (length l) (length (lent .list) / w) (sym (f .answer) ∙ e)) in
+        rw t (poured-off 3 (flatten flat l) lent refl)
 
-    pub pour-done : (out′ run′ : List ℕ) (m k r : ℕ) → y ≡ true → 1 < m → Gives (length run / 4) m → Wrote flat l out out′ k → Replied (given (k ∷ [])) run run′ r → PouredAs flat w l out out′ run run′ r
+    pub pour-done : (after : ListRuns) (m k r : ℕ) → y ≡ true → 1 < m → Gives (length (lent .answer) / 4) m → Wrote flat l (lent .list) (after .list) k → Replied (given (k ∷ [])) (lent .answer) (after .answer) r → PouredAs flat w l lent after r
     unfolding fitted
-    pour-done out′ run′ m k r e q n v d =
-        let t : ltb (length out / w) (length l) ≡ false = le-ltb (length out / w) (length l) (pour-room l w out y e f) in
-        let o : pourAnswer w l out ≡ given (k ∷ []) = rw (t, v .count) in
-        subst (λ (x : Outcome). Poured x (flatten flat l) out out′ run run′ r) (sym o) (record { reply = d; left = v .list ∙ simp (enough (k ∷ []) run m n q) })
+    pour-done after m k r e q n v d =
+        let t : ltb (length (lent .list) / w) (length l) ≡ false = le-ltb (length (lent .list) / w) (length l) (pour-room l w (lent .list) y e f) in
+        let o : filledAnswer w l (lent .list) ≡ given (k ∷ []) = rw (t, v .count) in
+        subst (λ (x : Outcome). Poured x (flatten flat l) lent after r) (sym o) (record { reply = d; left = v .list ∙ simp (enough (k ∷ []) (lent .answer) m n q) })
 
 -- ---- the ways out of building
-module _ {A : Type 0} (flat : A → List ℕ) (w : ℕ) (bad : Bool) (l : List A) (s out run : List ℕ) where
-  off : (n : ℕ) → eqb n 0 ≡ false → buildAnswer w bad l s out ≡ refused n → BuiltAs flat w bad l s out out run run n
-  off n e x = subst (λ (o : Outcome). Poured o (flatten flat l) out out run run n) (sym x) (poured-off n (flatten flat l) out run e)
+module _ {A : Type 0} (flat : A → List ℕ) (w : ℕ) (bad : Bool) (l : List A) (s : List ℕ) (lent : ListRuns) where
+  off : (n : ℕ) → eqb n 0 ≡ false → buildAnswer w bad l s lent ≡ refused n → BuiltAs flat w bad l s lent lent n
+  off n e x = subst (λ (o : Outcome). Poured o (flatten flat l) lent lent n) (sym x) (poured-off n (flatten flat l) lent e)
 
-  pub build-long : 4294967295 < length s → BuiltAs flat w bad l s out out run run 1
+  pub build-long : 4294967295 < length s → BuiltAs flat w bad l s lent lent 1
   unfolding buildAnswer
   build-long h = off 1 refl (simp (lt-ltb 4294967295 (length s) h))
 
-  pub build-bad : length s ≤ 4294967295 → bad ≡ true → BuiltAs flat w bad l s out out run run 6
+  pub build-bad : length s ≤ 4294967295 → bad ≡ true → BuiltAs flat w bad l s lent lent 6
   unfolding buildAnswer
   build-bad h e = off 6 refl (simp (le-ltb 4294967295 (length s) h, e))
 
-  pub build-good : (out′ run′ : List ℕ) (r : ℕ) → length s ≤ 4294967295 → bad ≡ false → PouredAs flat w l out out′ run run′ r → BuiltAs flat w bad l s out out′ run run′ r
+  pub build-good : (after : ListRuns) (r : ℕ) → length s ≤ 4294967295 → bad ≡ false → PouredAs flat w l lent after r → BuiltAs flat w bad l s lent after r
   unfolding buildAnswer
-  build-good out′ run′ r h e d =
-      let x : buildAnswer w bad l s out ≡ pourAnswer w l out = simp (le-ltb 4294967295 (length s) h, e) in
-      subst (λ (o : Outcome). Poured o (flatten flat l) out out′ run run′ r) (sym x) d
+  build-good after r h e d =
+      let x : buildAnswer w bad l s lent ≡ filledAnswer w l (lent .list) = simp (le-ltb 4294967295 (length s) h, e) in
+      subst (λ (o : Outcome). Poured o (flatten flat l) lent after r) (sym x) d
 
-pub or-right : (a b : Bool) → b ≡ true → (a || b) ≡ true
+or-right : (a b : Bool) → b ≡ true → (a || b) ≡ true
 or-right true b e = refl
 or-right false b e = e
 
--- rules as columns, whatever is made by them: b says whether an inline rule's columns are uneven
-module _ {A : Type 0} (flat : A → List ℕ) (w : ℕ) (l : List A) (f m y t o k n s out run : List ℕ) where
-  pub columns-differ : length s ≤ 4294967295 → (length f ≡ length m → ⊥) → BuiltAs flat w (differ f m || uneven y t o k n) l s out out run run 6
-  columns-differ h d = build-bad flat w (differ f m || uneven y t o k n) l s out run h (rw (ne-eqb (length f) (length m) d))
+-- by rules as columns, whatever is made by them: b says whether an inline rule's columns are uneven
+module _ {A : Type 0} (flat : A → List ℕ) (w : ℕ) (c : ColumnRuns) (l : List A) (s : List ℕ) (lent : ListRuns) where
+  pub columns-differ : length s ≤ 4294967295 → (length (c .fenceBytes) ≡ length (c .fenceMins) → ⊥) → BuiltAs flat w (unevenColumns c) l s lent lent 6
+  unfolding unevenColumns
+  columns-differ h d = build-bad flat w (unevenColumns c) l s lent h (rw (ne-eqb (length (c .fenceBytes)) (length (c .fenceMins)) d))
 
-  pub columns-uneven : (b : Bool) → length s ≤ 4294967295 → b ≡ true → Gives (uneven y t o k n) b → BuiltAs flat w (differ f m || uneven y t o k n) l s out out run run 6
-  columns-uneven b h e u = build-bad flat w (differ f m || uneven y t o k n) l s out run h (or-right (differ f m) (uneven y t o k n) (sym (u .answer) ∙ e))
+  pub columns-uneven : (b : Bool) → length s ≤ 4294967295 → b ≡ true → Gives (uneven (c .inline)) b → BuiltAs flat w (unevenColumns c) l s lent lent 6
+  unfolding unevenColumns
+  columns-uneven b h e u = build-bad flat w (unevenColumns c) l s lent h (or-right (differ (c .fenceBytes) (c .fenceMins)) (uneven (c .inline)) (sym (u .answer) ∙ e))
 
-  pub columns-built : (b : Bool) (out′ run′ : List ℕ) (r : ℕ) → length s ≤ 4294967295 → length f ≡ length m → b ≡ false → Gives (uneven y t o k n) b → PouredAs flat w l out out′ run run′ r → BuiltAs flat w (differ f m || uneven y t o k n) l s out out′ run run′ r
-  columns-built b out′ run′ r h e u x v = build-good flat w (differ f m || uneven y t o k n) l s out run out′ run′ r h (rw (eq-eqb (length f) (length m) e) (sym (x .answer) ∙ u)) v
+  pub columns-built : (b : Bool) (after : ListRuns) (r : ℕ) → length s ≤ 4294967295 → length (c .fenceBytes) ≡ length (c .fenceMins) → b ≡ false → Gives (uneven (c .inline)) b → PouredAs flat w l lent after r → BuiltAs flat w (unevenColumns c) l s lent after r
+  unfolding unevenColumns
+  columns-built b after r h e u x v = build-good flat w (unevenColumns c) l s lent after r h (rw (eq-eqb (length (c .fenceBytes)) (length (c .fenceMins)) e) (sym (x .answer) ∙ u)) v
+
+-- by fence rules of two bytes each
+module _ {A : Type 0} (flat : A → List ℕ) (w : ℕ) (c : RuleRuns) (l : List A) (s : List ℕ) (lent : ListRuns) where
+  pub rules-odd : length s ≤ 4294967295 → (length (c .fenceRules) % 2 ≡ 0 → ⊥) → BuiltAs flat w (unevenRules c) l s lent lent 6
+  unfolding unevenRules
+  rules-odd h d = build-bad flat w (unevenRules c) l s lent h (rw (ne-eqb (length (c .fenceRules) % 2) 0 d))
+
+  pub rules-uneven : (b : Bool) → length s ≤ 4294967295 → b ≡ true → Gives (uneven (c .inline)) b → BuiltAs flat w (unevenRules c) l s lent lent 6
+  unfolding unevenRules
+  rules-uneven b h e u = build-bad flat w (unevenRules c) l s lent h (or-right (not (eqb (length (c .fenceRules) % 2) 0)) (uneven (c .inline)) (sym (u .answer) ∙ e))
+
+  pub rules-built : (b : Bool) (after : ListRuns) (r : ℕ) → length s ≤ 4294967295 → length (c .fenceRules) % 2 ≡ 0 → b ≡ false → Gives (uneven (c .inline)) b → PouredAs flat w l lent after r → BuiltAs flat w (unevenRules c) l s lent after r
+  unfolding unevenRules
+  rules-built b after r h e u x v = build-good flat w (unevenRules c) l s lent after r h (rw (eq-eqb (length (c .fenceRules) % 2) 0 e) (sym (x .answer) ∙ u)) v

@@ -11,7 +11,7 @@ use Rattle.common.specs.Refusals.{Outcome, refuse}
 use Rattle.cells.specs.Bytes.{four}
 
 -- numbers set from place k on; all other places stay as they are
-pub record Laid (k : ℕ) (l out out′ : List ℕ) : Type 0 where
+pub record LaidAt (k : ℕ) (l out out′ : List ℕ) : Type 0 where
   pub list : out′ ≡ putAt k l out
 
 -- the same where there is room for all of them; else nothing is changed

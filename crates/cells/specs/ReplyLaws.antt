@@ -21,7 +21,7 @@ use Rattle.common.specs.declared.refusal.Found.{Found}
 use Rattle.common.specs.declared.refusal.Found.the-variants as found
 use Rattle.cells.specs.Bytes.{four}
 use Rattle.cells.specs.ByteLaws.{length-four}
-use Rattle.cells.specs.Reply.{Laid, LaidIf, written, short, fitted, answered, Replied}
+use Rattle.cells.specs.Reply.{LaidAt, LaidIf, written, short, fitted, answered, Replied}
 
 -- two replies to the same arguments are one: the number, and the run that is left
 pub replied-unique : {o : Outcome} {run run′ run″ : List ℕ} {r r′ : ℕ} → Replied o run run′ r → Replied o run run″ r′ → (r ≡ r′) × (run′ ≡ run″)
@@ -48,11 +48,11 @@ module _ (from : ℕ) (l out : List ℕ) (y : Bool) (g : Gives (ltb (length out)
   pub put-room : y ≡ false → from + length l * 4 ≤ length out
   put-room e = ltb-false (length out) (from + length l * 4) (sym (g .answer) ∙ e)
 
-  pub put-some : (out′ : List ℕ) → y ≡ false → Laid from (flatten four l) out out′ → LaidIf from (flatten four l) out out′
+  pub put-some : (out′ : List ℕ) → y ≡ false → LaidAt from (flatten four l) out out′ → LaidIf from (flatten four l) out out′
   put-some out′ e d = record { list = d .list ∙ simp (← lacking, e) }
 
 -- where there is room, they are laid
-pub laid-there : (k : ℕ) (l out out′ : List ℕ) → k + length l ≤ length out → LaidIf k l out out′ → Laid k l out out′
+pub laid-there : (k : ℕ) (l out out′ : List ℕ) → k + length l ≤ length out → LaidIf k l out out′ → LaidAt k l out out′
 laid-there k l out out′ h d = record { list = d .list ∙ simp (le-ltb (length out) (k + length l) h) }
 
 -- two results for the same arguments are one
@@ -73,7 +73,7 @@ module _ (vs run : List ℕ) (m : ℕ) (room : Gives (length run / 4) m) where
   reply-short h = record { number = simp (too-short h); list = simp (too-short h) }
 
   -- the values stand over its front
-  pub laid-reply : (run′ : List ℕ) → length vs < m → Laid 0 (written vs) run run′ → Replied (given vs) run run′ 0
+  pub laid-reply : (run′ : List ℕ) → length vs < m → LaidAt 0 (written vs) run run′ → Replied (given vs) run run′ 0
   unfolding fitted answered
   laid-reply run′ h d =
       record {
@@ -82,10 +82,10 @@ module _ (vs run : List ℕ) (m : ℕ) (room : Gives (length run / 4) m) where
       }
 
 -- laid behind one another
-pub laid-behind : (k j : ℕ) (a b out out′ out″ : List ℕ) → Laid k a out out′ → Laid j b out′ out″ → j ≡ k + length a → Laid k (a ++ b) out out″
+pub laid-behind : (k j : ℕ) (a b out out′ out″ : List ℕ) → LaidAt k a out out′ → LaidAt j b out′ out″ → j ≡ k + length a → LaidAt k (a ++ b) out out″
 laid-behind k j a b out out′ out″ x y e = record { list = y .list ∙ rw (e, x .list) (sym (put-append k a b out)) }
 
-pub reply-values : (vs run run′ run″ : List ℕ) (m : ℕ) → Gives (length run / 4) m → length vs < m → Laid 0 (four (length vs)) run run′ → Laid 4 (flatten four vs) run′ run″ → Replied (given vs) run run″ 0
+pub reply-values : (vs run run′ run″ : List ℕ) (m : ℕ) → Gives (length run / 4) m → length vs < m → LaidAt 0 (four (length vs)) run run′ → LaidAt 4 (flatten four vs) run′ run″ → Replied (given vs) run run″ 0
 reply-values vs run run′ run″ m room h x y = laid-reply vs run m room run″ h (laid-behind 0 4 (four (length vs)) (flatten four vs) run run′ run″ x y refl)
 
 -- numbers, and bytes behind them
@@ -93,7 +93,7 @@ module _ (a b run : List ℕ) (n m : ℕ) (e : n ≡ length a + length b) (room 
   pub mixed-short : m ≤ n → Replied (given (a ++ b)) run run 3
   mixed-short h = reply-short (a ++ b) run m room (omega (arith, length-append a b))
 
-  pub mixed-values : (run′ run″ run‴ : List ℕ) → n < m → Laid 0 (four n) run run′ → Laid 4 (flatten four a) run′ run″ → Laid (4 + length a * 4) (flatten four b) run″ run‴ → Replied (given (a ++ b)) run run‴ 0
+  pub mixed-values : (run′ run″ run‴ : List ℕ) → n < m → LaidAt 0 (four n) run run′ → LaidAt 4 (flatten four a) run′ run″ → LaidAt (4 + length a * 4) (flatten four b) run″ run‴ → Replied (given (a ++ b)) run run‴ 0
   mixed-values run′ run″ run‴ h x y z =
       let c : n ≡ length (a ++ b) = e ∙ sym (length-append a b) in
       let w = laid-behind 4 (4 + length a * 4) (flatten four a) (flatten four b) run′ run″ run‴ y z (omega (arith, length-four a)) in

@@ -15,7 +15,7 @@ use Rattle.common.specs.EntryLaws.{rows-at, length-rows}
 use Rattle.rules.specs.Records.{noRule, OneMore, AllGathered}
 use Rattle.rules.specs.RecordLaws.{Gathering, gather-again, gather-all}
 use Rattle.rules.specs.declared.records.Gathered.{Gathered}
-use Rattle.cells.specs.ByteRules.{uneven, ruleOf, rulesOf}
+use Rattle.cells.specs.ByteRules.{InlineRuns, fourfold, uneven, fenceRuleOf, fenceRulesOf}
 
 -- ---- four bytes for each number
 module _ (len count : ℕ) where
@@ -29,44 +29,45 @@ module _ (len count : ℕ) where
       by (inl t) = t ∙ sym (eq-eqb len (count * 4) (omega (arith, eqb-true (len % 4) 0 t)))
       by (inr t) = t ∙ sym (ne-eqb len (count * 4) (λ e. eqb-false (len % 4) 0 t (omega arith)))
 
-module _ (y t o k n : List ℕ) where
-  pub uneven-times : (b : Bool) → b ≡ false → Gives (eqb (length t) (length y * 4)) b → true ≡ uneven y t o k n
+module _ (i : InlineRuns) where
+  pub uneven-times : (b : Bool) → b ≡ false → Gives (fourfold (i .symCounts) (i .symBytes)) b → true ≡ uneven i
   unfolding uneven
   uneven-times b e g = rw (sym (g .answer) ∙ e)
 
-  module _ (b : Bool) (e : b ≡ true) (g : Gives (eqb (length t) (length y * 4)) b) where
-    pub uneven-closers : (length o ≡ length k → ⊥) → true ≡ uneven y t o k n
+  module _ (b : Bool) (e : b ≡ true) (g : Gives (fourfold (i .symCounts) (i .symBytes)) b) where
+    pub uneven-closers : (length (i .openers) ≡ length (i .closers) → ⊥) → true ≡ uneven i
     unfolding uneven
-    uneven-closers d = rw (sym (g .answer) ∙ e, ne-eqb (length o) (length k) d)
+    uneven-closers d = rw (sym (g .answer) ∙ e, ne-eqb (length (i .openers)) (length (i .closers)) d)
 
-    pub uneven-counts : (c : Bool) → length o ≡ length k → c ≡ false → Gives (eqb (length n) (length o * 4)) c → true ≡ uneven y t o k n
-    unfolding uneven
-    uneven-counts c s u h = rw (sym (g .answer) ∙ e, eq-eqb (length o) (length k) s, sym (h .answer) ∙ u)
+    module _ (c : Bool) (s : length (i .openers) ≡ length (i .closers)) where
+      pub uneven-counts : c ≡ false → Gives (fourfold (i .openCounts) (i .openers)) c → true ≡ uneven i
+      unfolding uneven
+      uneven-counts u h = rw (sym (g .answer) ∙ e, eq-eqb (length (i .openers)) (length (i .closers)) s, sym (h .answer) ∙ u)
 
-    pub uneven-not : (c : Bool) → length o ≡ length k → c ≡ true → Gives (eqb (length n) (length o * 4)) c → false ≡ uneven y t o k n
-    unfolding uneven
-    uneven-not c s u h = rw (sym (g .answer) ∙ e, eq-eqb (length o) (length k) s, sym (h .answer) ∙ u)
+      pub uneven-not : c ≡ true → Gives (fourfold (i .openCounts) (i .openers)) c → false ≡ uneven i
+      unfolding uneven
+      uneven-not u h = rw (sym (g .answer) ∙ e, eq-eqb (length (i .openers)) (length (i .closers)) s, sym (h .answer) ∙ u)
 
 -- ---- fence rules of two bytes each
-pub length-rules : (l : List ℕ) → length (rulesOf l) ≡ length l / 2
-unfolding rulesOf
-length-rules l = length-map (rows 2 (length l / 2) l) ruleOf ∙ length-rows 2 (length l / 2) l
+pub length-rules : (l : List ℕ) → length (fenceRulesOf l) ≡ length l / 2
+unfolding fenceRulesOf
+length-rules l = length-map (rows 2 (length l / 2) l) fenceRuleOf ∙ length-rows 2 (length l / 2) l
 
-pub rule-at : (l : List ℕ) (i a b : ℕ) → i < length l / 2 → Gives (getD l (i * 2) 0) a → Gives (getD l (i * 2 + 1) 0) b → Gives (getD (rulesOf l) i noRule) (record { byte = a; min = b })
-unfolding rulesOf
+pub rule-at : (l : List ℕ) (i a b : ℕ) → i < length l / 2 → Gives (getD l (i * 2) 0) a → Gives (getD l (i * 2 + 1) 0) b → Gives (getD (fenceRulesOf l) i noRule) (record { byte = a; min = b })
+unfolding fenceRulesOf
 rule-at l i a b h x y =
     let z : i * 2 + 0 ≡ i * 2 = omega arith in
     record {
       answer =
           rw (x .answer, y .answer)
-          (sym (List·getD-map ruleOf (rows 2 (length l / 2) l) i [] ∙ rw (rows-at 2 (length l / 2) i 0 l h (omega arith), rows-at 2 (length l / 2) i 1 l h (omega arith), z)));
+          (sym (List·getD-map fenceRuleOf (rows 2 (length l / 2) l) i [] ∙ rw (rows-at 2 (length l / 2) i 0 l h (omega arith), rows-at 2 (length l / 2) i 1 l h (omega arith), z)));
     }
 
 -- the loop that gathers them, at rule i
-module _ (f : Gathered) (l : List ℕ) (i : ℕ) (so-far : Gathering (rulesOf l) f i) where
+module _ (f : Gathered) (l : List ℕ) (i : ℕ) (so-far : Gathering (fenceRulesOf l) f i) where
   pub rules-again : (a b : ℕ) (f′ : Gathered) → i < length l / 2 → Gives (getD l (i * 2) 0) a → Gives (getD l (i * 2 + 1) 0) b → OneMore f (record { byte = a; min = b }) i f′
-      → Gathering (rulesOf l) f′ (i + 1)
-  rules-again a b f′ h x y g = gather-again f (rulesOf l) i so-far (record { byte = a; min = b }) f′ (omega (arith, length-rules l)) (rule-at l i a b h x y) g
+      → Gathering (fenceRulesOf l) f′ (i + 1)
+  rules-again a b f′ h x y g = gather-again f (fenceRulesOf l) i so-far (record { byte = a; min = b }) f′ (omega (arith, length-rules l)) (rule-at l i a b h x y) g
 
-  pub rules-all : length l / 2 ≤ i → AllGathered (rulesOf l) f
-  rules-all h = gather-all f (rulesOf l) i so-far (omega (arith, length-rules l))
+  pub rules-all : length l / 2 ≤ i → AllGathered (fenceRulesOf l) f
+  rules-all h = gather-all f (fenceRulesOf l) i so-far (omega (arith, length-rules l))

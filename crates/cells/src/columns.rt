@@ -14,10 +14,11 @@ ghost use Prim.Native.Nat.{_*_};
 ghost use lib.Dec.{eqb};
 ghost use Rattle.search.specs.Promise.{Gives};
 ghost use lib.ListN.{getD};
-ghost use Rattle.rules.specs.Rows.{Opened, Laid, twin, Inlined, Folded};
+ghost use Rattle.rules.specs.Columns.{inlineRules};
+ghost use Rattle.rules.specs.Rows.{OpenersLaid, RulesLaid, twin, Inlined, Folded};
 ghost use Rattle.rules.specs.Records.{AllGathered};
 ghost use Rattle.cells.specs.Bytes.{cells};
-ghost use Rattle.cells.specs.ByteRules.{rulesOf, uneven};
+ghost use Rattle.cells.specs.ByteRules.{fenceRulesOf, uneven};
 
 // Whether a run of `len` bytes is four for each of `count` numbers.
 fn is_fourfold(len: usize, count: usize) -> bool
@@ -38,8 +39,13 @@ pub fn is_uneven(
     counts: &[u8],
 ) -> bool
     ensures { λ r. ⌜
-        Gives (uneven (now (symmetric .entry)) (now (times .entry)) (now (openers .entry)) (now (closers .entry))
-        (now (counts .entry))) r
+        Gives (uneven (record {
+          symBytes = now (symmetric .entry);
+          symCounts = now (times .entry);
+          openers = now (openers .entry);
+          closers = now (closers .entry);
+          openCounts = now (counts .entry);
+        })) r
         ⌝ }
 {
     if is_fourfold(times.len(), symmetric.len()) {
@@ -64,7 +70,7 @@ fn count_at(run: &[u8], i: usize) -> usize
 // The asymmetric rules over what stands in the rows.
 fn put_openers(rows: &mut Rows, openers: &[u8], closers: &[u8], counts: &[u8])
     ensures { λ r. ⌜
-        Opened (now (openers .entry)) (now (closers .entry)) (cells (now (counts .entry))) (now (rows .entry)) (now (rows .exit))
+        OpenersLaid (now (openers .entry)) (now (closers .entry)) (cells (now (counts .entry))) (now (rows .entry)) (now (rows .exit))
         ⌝ }
 {
     let mut i = openers.len();
@@ -78,7 +84,7 @@ fn put_openers(rows: &mut Rows, openers: &[u8], closers: &[u8], counts: &[u8])
 
 // The symmetric rules over what stands in the rows.
 fn put_symmetric(rows: &mut Rows, symmetric: &[u8], times: &[u8])
-    ensures { λ r. ⌜ Laid (now (symmetric .entry)) (twin (cells (now (times .entry)))) (now (rows .entry)) (now (rows .exit)) ⌝ }
+    ensures { λ r. ⌜ RulesLaid (now (symmetric .entry)) (twin (cells (now (times .entry)))) (now (rows .entry)) (now (rows .exit)) ⌝ }
 {
     let mut i = symmetric.len();
     while i > 0 {
@@ -97,8 +103,8 @@ fn inline_rows(
     counts: &[u8],
 ) -> Rows
     ensures { λ r. ⌜
-        Inlined (now (symmetric .entry)) (cells (now (times .entry))) (now (openers .entry)) (now (closers .entry))
-        (cells (now (counts .entry))) r
+        Inlined (inlineRules (now (symmetric .entry)) (cells (now (times .entry))) (now (openers .entry))
+        (now (closers .entry)) (cells (now (counts .entry)))) r
         ⌝ }
 {
     let mut rows = no_rows();
@@ -117,8 +123,8 @@ pub fn rule_rows(
     counts: &[u8],
 ) -> Rows
     ensures { λ r. ⌜
-        Folded (now (fences .entry)) (now (symmetric .entry)) (cells (now (times .entry))) (now (openers .entry))
-        (now (closers .entry)) (cells (now (counts .entry))) r
+        Folded (now (fences .entry)) (inlineRules (now (symmetric .entry)) (cells (now (times .entry))) (now (openers .entry))
+        (now (closers .entry)) (cells (now (counts .entry)))) r
         ⌝ }
 {
     let mut rows = inline_rows(symmetric, times, openers, closers, counts);
@@ -128,7 +134,7 @@ pub fn rule_rows(
 
 // Fence rules of two bytes each, gathered by the core, each at its own index.
 pub fn gather_rules(rules: &[u8]) -> Gathered
-    ensures { λ r. ⌜ AllGathered (rulesOf (now (rules .entry))) r ⌝ }
+    ensures { λ r. ⌜ AllGathered (fenceRulesOf (now (rules .entry))) r ⌝ }
 {
     let mut all = Gathered::new();
     let mut i: usize = 0;

@@ -10,12 +10,12 @@ ghost use Rattle.search.specs.Promise.{Gives};
 ghost use Rattle.common.specs.Entry.{flatten};
 ghost use Rattle.common.specs.Refusals.{given, told, toldFound};
 ghost use Rattle.cells.specs.Bytes.{four, asFlag};
-ghost use Rattle.cells.specs.Reply.{Replied, Laid, LaidIf};
+ghost use Rattle.cells.specs.Reply.{Replied, LaidAt, LaidIf};
 
 // Writes a number's four bytes from place `k` on.
 fn lay_number(out: &mut [u8], k: usize, x: usize)
     requires { ⌜ k + 4 ≤ length (now out) ⌝ }
-    ensures { λ r. ⌜ Laid k (four x) (now (out .entry)) (now (out .exit)) ⌝ }
+    ensures { λ r. ⌜ LaidAt k (four x) (now (out .entry)) (now (out .exit)) ⌝ }
 {
     let a = (x % 256) as u8;
     let b = (x / 256 % 256) as u8;
@@ -30,7 +30,7 @@ fn lay_number(out: &mut [u8], k: usize, x: usize)
 // Writes numbers from place `from` on, four bytes each.
 fn lay_numbers(out: &mut [u8], from: usize, all: &[usize])
     requires { ⌜ from + length (now all) * 4 ≤ length (now out) ⌝ }
-    ensures { λ r. ⌜ Laid from (flatten four (now (all .entry))) (now (out .entry)) (now (out .exit)) ⌝ }
+    ensures { λ r. ⌜ LaidAt from (flatten four (now (all .entry))) (now (out .entry)) (now (out .exit)) ⌝ }
 {
     let mut i = 0;
     while i < all.len() {
@@ -42,7 +42,7 @@ fn lay_numbers(out: &mut [u8], from: usize, all: &[usize])
 // Writes bytes as numbers from place `from` on, four bytes each.
 fn lay_bytes(out: &mut [u8], from: usize, all: &[u8])
     requires { ⌜ from + length (now all) * 4 ≤ length (now out) ⌝ }
-    ensures { λ r. ⌜ Laid from (flatten four (now (all .entry))) (now (out .entry)) (now (out .exit)) ⌝ }
+    ensures { λ r. ⌜ LaidAt from (flatten four (now (all .entry))) (now (out .entry)) (now (out .exit)) ⌝ }
 {
     let mut i = 0;
     while i < all.len() {

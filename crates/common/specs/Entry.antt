@@ -1,10 +1,9 @@
 -- Lists of entries as runs of numbers: rows of one width, the test that their places are in order, and numbers written into a run. Assumes nothing.
 -- The page: "A region list is a lent run of 32-bit numbers", "An item is five numbers", "Success writes the regions from place 0,
 -- returns their count and changes nothing beyond them."
-use mathlib.Core.Path.{_≡_}
 use mathlib.Core.Bool.{Bool, true, _&&_}
 use mathlib.Core.List.{List, [], _∷_, _++_}
-use Prim.Native.Nat.{ℕ, zero, suc, _+_, _-_, _*_, _/_, _≤_, _<_}
+use Prim.Native.Nat.{ℕ, zero, suc, _+_, _-_, _/_, _≤_, _<_}
 use lib.Dec.{leb, ltb}
 use lib.ListN.{length, getD, take, drop, set}
 
@@ -52,19 +51,3 @@ over l out = l ++ drop (length l) out
 abbrev pub putAt : {A : Type 0} → ℕ → List A → List A → List A
 putAt k [] out = out
 putAt k (x ∷ l) out = putAt (k + 1) l (set out k x)
-
--- ---- what a loop over entries knows
-
--- a loop that has tested the first k of n rows, the last of which ends at low
-pub record Shaping (w : ℕ) (l : List ℕ) (n len from k low : ℕ) : Type 0 where
-  pub wide : 2 ≤ w
-  pub within : k ≤ n
-  pub same : shaped from len (rows w n l) ≡ shaped low len (rows w (n - k) (drop (k * w) l))
-
--- a run `out` that was `out₀` and has the numbers of `all` before `rest` in its first k places
-pub record Written (all rest out₀ out : List ℕ) (k : ℕ) : Type 0 where
-  pub fits : length all ≤ length out₀
-  pub long : length out ≡ length out₀
-  pub front : all ≡ take k out ++ rest
-  pub back : drop k out ≡ drop k out₀
-  pub within : k ≤ length out

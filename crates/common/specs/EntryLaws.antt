@@ -11,7 +11,23 @@ use borrow.Author.Tests.{leb-true, ltb-true, le-leb, lt-ltb}
 use lib.ListN.{length, getD, take, drop, set, length-append, length-set, take-append-drop}
 use lib.Seq.{take-at, drop-at, getD-take, getD-drop, drop-drop, drop-set-lt, take-suc-set, length-take-le, append-snoc}
 use Rattle.search.specs.SearchLaws.{and-true}
-use Rattle.common.specs.Entry.{flatten, rows, startOf, stopOf, room, shaped, Shaped, over, putAt, Shaping, Written}
+use Rattle.common.specs.Entry.{flatten, rows, startOf, stopOf, room, shaped, Shaped, over, putAt}
+
+-- ---- what a loop over entries knows
+
+-- a loop that has tested the first k of n rows, the last of which ends at low
+pub record Shaping (w : ℕ) (l : List ℕ) (n len from k low : ℕ) : Type 0 where
+  pub wide : 2 ≤ w
+  pub within : k ≤ n
+  pub same : shaped from len (rows w n l) ≡ shaped low len (rows w (n - k) (drop (k * w) l))
+
+-- a run `out` that was `out₀` and has the numbers of `all` before `rest` in its first k places
+pub record Written (all rest out₀ out : List ℕ) (k : ℕ) : Type 0 where
+  pub fits : length all ≤ length out₀
+  pub long : length out ≡ length out₀
+  pub front : all ≡ take k out ++ rest
+  pub back : drop k out ≡ drop k out₀
+  pub within : k ≤ length out
 
 -- ---- entries as rows
 module _ {A : Type 0} (flat : A → List ℕ) (w : ℕ) (wide : (a : A) → length (flat a) ≡ w) where

@@ -6,18 +6,19 @@ use mathlib.Core.Logic.{_⊎_, inl, inr, ⊎-elim}
 use Prim.Native.Nat.{ℕ, zero, suc, _+_, _-_, _≤_, _<_, min}
 use native.Mathlib.Numerals.{add-one}
 use native.Mathlib.Omega.{arith}
-use lib.Dec.{eqb, ltb, leb}
-use lib.ListN.{length, getD, set, replicate, take, drop, length-drop, length-take, drop-of-length-le, List·getD-eq-default}
+use lib.Dec.{eqb, ltb}
+use lib.ListN.{length, getD, take, drop, length-drop, length-take, drop-of-length-le, List·getD-eq-default}
 use lib.Seq.{drop-cons, getD-take, slice, slice-empty, slice-cons, length-slice}
-use borrow.Author.Tests.{eqb-true, eq-eqb, lt-ltb, le-ltb, ltb-true, ltb-false, le-leb, lt-leb, leb-true}
+use borrow.Author.Tests.{eqb-true, eq-eqb, lt-ltb, le-ltb, ltb-true, ltb-false}
 use Rattle.search.specs.Promise.{Gives, Steps}
-use Rattle.search.specs.Search.{is, either, oneOf, other, holds, find, Sought, back, lineStart, lineEnd, nextLine}
-use Rattle.search.specs.SearchLaws.{decide, clash, and-true, is-true, either-true, other-yes, other-no, other-false, holds-in, holds-true, find-ge, find-le, find-max, find-at, find-before, find-is, find-end, find-here, find-next, back-le, back-run, back-stop, start-zero, line-one, line-next, back-suc-true, back-suc-false}
+use Rattle.search.specs.Search.{is, oneOf, other, holds, find, Sought, back, lineStart, lineEnd, nextLine}
+use Rattle.search.specs.SearchLaws.{decide, clash, and-true, is-true, either-true, other-yes, other-no, other-false, holds-in, holds-true, find-ge, find-le, find-at, find-before, find-is, find-end, find-here, find-next, back-run, back-stop, start-zero, line-one, line-next}
 use Rattle.common.specs.Sets.{acceptedFrom, accepted, probeOf, probe}
 use Rattle.common.specs.Refusals.{Outcome, refused}
-use Rattle.common.specs.Turn.{Turn, go, stop, found, allFound, None, Ahead, Adv, Covers, yields, stepOf}
+use Rattle.common.specs.Turn.{Turn, go, stop, found, allFound, None, yields, stepOf}
+use Rattle.common.specs.Turning.{Ahead, Adv, Covers}
 use Rattle.common.specs.TurnLaws.{collect-covers}
-use Rattle.common.specs.Items.{ItemGrammar, blank, has, Apart, lineBytes, leading, beyond, leads, joined, leadsBy, LedBy, Unled, itemFrom, lineFound, itemAt, itemsOf, readTurn, hitTurn, said, placeOf, answerBy, stateBy, stepFor, trailing}
+use Rattle.common.specs.Items.{ItemGrammar, blank, has, Apart, lineBytes, leading, beyond, itemFrom, lineFound, itemAt, itemsOf, readTurn, hitTurn, said, placeOf, answerBy, stateBy, stepFor}
 
 -- a property of what a test picks, by cases
 pub both : {A : Type 0} (P : A → Type 0) (t : Bool) (a b : A) → (t ≡ true → P a) → (t ≡ false → P b) → P (cond t a b)
@@ -115,14 +116,14 @@ module _ (t : ℕ → Bool) where
 -- ---- one accepted byte, one separator or tab
 module _ (g : ItemGrammar) where
   -- whether they stand at p in a text
-  abbrev pub marked : List ℕ → ℕ → Bool
-  marked u p = ltb (p + 1) (length u) && (g .accepts (getD u p 0) && blank g (getD u (p + 1) 0))
+  abbrev pub acceptedAt : List ℕ → ℕ → Bool
+  acceptedAt u p = ltb (p + 1) (length u) && (g .accepts (getD u p 0) && blank g (getD u (p + 1) 0))
 
-  pub from-drop : {A : Type 0} (make : ℕ → ℕ → ℕ → A) (u : List ℕ) (p : ℕ) → itemFrom g make p (drop p u) ≡ cond (marked u p) (make (getD u p 0) (p + 2) (length u) ∷ []) []
+  pub from-drop : {A : Type 0} (make : ℕ → ℕ → ℕ → A) (u : List ℕ) (p : ℕ) → itemFrom g make p (drop p u) ≡ cond (acceptedAt u p) (make (getD u p 0) (p + 2) (length u) ∷ []) []
   from-drop make u p = by (decide (ltb (p + 1) (length u))) (decide (ltb p (length u)))
     where
       by : (ltb (p + 1) (length u) ≡ true) ⊎ (ltb (p + 1) (length u) ≡ false) → (ltb p (length u) ≡ true) ⊎ (ltb p (length u) ≡ false)
-          → itemFrom g make p (drop p u) ≡ cond (marked u p) (make (getD u p 0) (p + 2) (length u) ∷ []) []
+          → itemFrom g make p (drop p u) ≡ cond (acceptedAt u p) (make (getD u p 0) (p + 2) (length u) ∷ []) []
       by (inl x) y =
           let l = ltb-true (p + 1) (length u) x in
           let e : p + 2 + length (drop (suc (p + 1)) u) ≡ length u = omega (arith, length-drop (suc (p + 1)) u) in
@@ -137,7 +138,7 @@ module _ (g : ItemGrammar) where
           ap (itemFrom g make p) z ∙ simp x
 
   -- as the tests of the two bytes tell it
-  pub marked-tests : (u : List ℕ) (p m : ℕ) (y z : Bool) → Gives (getD u p 0) m → Gives (g .accepts m) y → Gives (holds (blank g) u (p + 1)) z → marked u p ≡ (z && y)
+  pub marked-tests : (u : List ℕ) (p m : ℕ) (y z : Bool) → Gives (getD u p 0) m → Gives (g .accepts m) y → Gives (holds (blank g) u (p + 1)) z → acceptedAt u p ≡ (z && y)
   unfolding holds
   marked-tests u p m y z b a k = rw (k .answer, a .answer, b .answer) (by (ltb (p + 1) (length u)) (g .accepts (getD u p 0)) (blank g (getD u (p + 1) 0)))
     where
@@ -154,7 +155,7 @@ module _ (g : ItemGrammar) where
     pub accepted : g .accepts (getD s p 0) ≡ true
     pub parted : blank g (getD s (p + 1) 0) ≡ true
 
-  pub marked-parted : (s : List ℕ) (e p : ℕ) → length (take e s) ≡ e → marked (take e s) p ≡ true → Parted s e p
+  pub marked-parted : (s : List ℕ) (e p : ℕ) → length (take e s) ≡ e → acceptedAt (take e s) p ≡ true → Parted s e p
   marked-parted s e p size y =
       let v = and-true (ltb (p + 1) (length (take e s))) (g .accepts (getD (take e s) p 0) && blank g (getD (take e s) (p + 1) 0)) y in
       let w = and-true (g .accepts (getD (take e s) p 0)) (blank g (getD (take e s) (p + 1) 0)) (v .1) in
@@ -165,7 +166,7 @@ module _ (g : ItemGrammar) where
         parted = sym (ap (blank g) (getD-take e s (p + 1) 0 m)) ∙ w .1;
       }
 
-  pub parted-marked : (s : List ℕ) (e p : ℕ) → length (take e s) ≡ e → Parted s e p → marked (take e s) p ≡ true
+  pub parted-marked : (s : List ℕ) (e p : ℕ) → length (take e s) ≡ e → Parted s e p → acceptedAt (take e s) p ≡ true
   parted-marked s e p size w =
       let m = w .inside in
       let x : getD (take e s) p 0 ≡ getD s p 0 = getD-take e s p 0 (omega arith) in
@@ -212,109 +213,6 @@ start-after eol s (suc i) j e q =
 -- ---- what the tests of a line tell
 pub holds-told : (t : ℕ → Bool) (s : List ℕ) (k : ℕ) (y : Bool) → k < length s → Gives (t (getD s k 0)) y → y ≡ holds t s k
 holds-told t s k y h g = g .answer ∙ sym (holds-in t s k h)
-
-pub back-within : (t : ℕ → Bool) (s : List ℕ) (p n : ℕ) → Gives (back t s p) n → n ≤ p
-back-within t s p n g = omega (arith, g .answer, back-le t s p)
-
-pub leads-told : (eol sep tab : ℕ) (s : List ℕ) (p n : ℕ) (y : Bool) → Gives (back (either sep tab) s p) n → Gives (lineStart eol s (p - n)) y → y ≡ leads eol sep tab s p
-unfolding leads
-leads-told eol sep tab s p n y g h = h .answer ∙ ap (λ (k : ℕ). lineStart eol s (p - k)) (g .answer)
-
--- ---- the same asked of one place after another
--- n bytes from k on that pass a test lengthen the run before them
-back-over : (t : ℕ → Bool) (s : List ℕ) (k n p : ℕ) → p ≡ n + k → ((j : ℕ) → k ≤ j → j < p → holds t s j ≡ true) → p - back t s p ≡ k - back t s k
-unfolding back
-back-over t s k zero p e h = let z : p ≡ k = omega arith in rw z
-back-over t s k (suc n) zero e h = absurd (omega arith)
-back-over t s k (suc n) (suc m) e h =
-    let z : back t s (suc m) ≡ suc (back t s m) = rw (h m (omega arith) (omega arith), back) in
-    omega (arith, back-over t s k n m (omega arith) (λ j a l. h j a (omega arith)))
-
-module _ (eol sep tab : ℕ) (s : List ℕ) where
-  -- a place that only separators and tabs part from k leads its line if k does
-  joined-same : (k p : ℕ) → joined sep tab s k p ≡ true → (0 < k) × (leads eol sep tab s p ≡ leads eol sep tab s k)
-  unfolding joined leads
-  joined-same k p e =
-      let w = and-true (ltb 0 k) (leb k p && leb p (find (other (either sep tab)) s k)) e in
-      let v = and-true (leb k p) (leb p (find (other (either sep tab)) s k)) (w .1) in
-      let low = leb-true k p (v .0) in
-      let high = leb-true p (find (other (either sep tab)) s k) (v .1) in
-      let far = find-max (other (either sep tab)) s k in
-      let x : p - back (either sep tab) s p ≡ k - back (either sep tab) s k
-      = back-over (either sep tab) s k (p - k) p (omega arith) (λ j a l. holds-in (either sep tab) s j (omega arith) ∙ other-false (either sep tab) (getD s j 0) (find-before (other (either sep tab)) s k j a (omega arith))) in
-      (ltb-true 0 k (w .0), ap (lineStart eol s) x)
-
-  -- ways out of the test
-  pub joined-none : (k p : ℕ) → k ≡ 0 → false ≡ joined sep tab s k p
-  unfolding joined
-  joined-none k p e = simp e
-
-  pub joined-before : (k p : ℕ) → p < k → false ≡ joined sep tab s k p
-  unfolding joined
-  joined-before k p l = simp (lt-leb k p l, lt-ltb 0 k (omega arith))
-
-  pub joined-told : (k p : ℕ) (y : Bool) → (k ≡ 0 → ⊥) → k ≤ p → Gives (leb p (find (other (either sep tab)) s k)) y → y ≡ joined sep tab s k p
-  unfolding joined
-  joined-told k p y some l h = simp (lt-ltb 0 k (omega (arith, some)), le-leb k p l, ← (h .answer))
-
-  pub trails-start : (p : ℕ) → p ≡ 0 → false ≡ trailing sep tab s p
-  unfolding trailing back
-  trails-start p e = rw e refl
-
-  pub trails-told : (p : ℕ) (y : Bool) → (p ≡ 0 → ⊥) → Gives (holds (either sep tab) s (p - 1)) y → y ≡ trailing sep tab s p
-  unfolding trailing
-  trails-told p y some h = by (decide (holds (either sep tab) s (p - 1)))
-    where
-      z : suc (p - 1) ≡ p
-      z = omega (arith, some)
-
-      by : (holds (either sep tab) s (p - 1) ≡ true) ⊎ (holds (either sep tab) s (p - 1) ≡ false) → y ≡ ltb 0 (back (either sep tab) s p)
-      by (inl u) = h .answer ∙ u ∙ sym (lt-ltb 0 (back (either sep tab) s p) (omega (arith, back-suc-true (either sep tab) s (p - 1) u, ap (back (either sep tab) s) z)))
-      by (inr u) = h .answer ∙ u ∙ sym (le-ltb 0 (back (either sep tab) s p) (omega (arith, back-suc-false (either sep tab) s (p - 1) u, ap (back (either sep tab) s) z)))
-
-  -- ways out of the question: t says whether a blank stands just before p
-  module _ (p : ℕ) (lost : List ℕ) (t : Bool) (ht : Gives (trailing sep tab s p) t) where
-    pub led-plain : (z : Bool) → t ≡ false → Gives (lineStart eol s p) z → LedBy eol sep tab s p lost z lost
-    unfolding leadsBy
-    led-plain z e hz = record { answer = hz .answer ∙ simp (← (ht .answer), e); kept = simp (← (ht .answer), e) }
-
-    module _ (some : t ≡ true) (y : Bool) (hy : Gives (joined sep tab s (getD lost 0 0) p) y) where
-      pub led-joined : y ≡ true → LedBy eol sep tab s p lost false (set lost 0 p)
-      unfolding leadsBy
-      led-joined e = record { answer = simp (← (ht .answer), some, ← (hy .answer), e); kept = simp (← (ht .answer), some) }
-
-      pub led-told : (z : Bool) → y ≡ false → z ≡ true → Gives (leads eol sep tab s p) z → LedBy eol sep tab s p lost true lost
-      unfolding leadsBy
-      led-told z e f hz = record { answer = simp (← (ht .answer), some, ← (hy .answer), e, ← (hz .answer), f); kept = simp (← (ht .answer), some) }
-
-      pub led-not : (z : Bool) → y ≡ false → z ≡ false → Gives (leads eol sep tab s p) z → LedBy eol sep tab s p lost false (set lost 0 p)
-      unfolding leadsBy
-      led-not z e f hz = record { answer = simp (← (ht .answer), some, ← (hy .answer), e, ← (hz .answer), f); kept = simp (← (ht .answer), some) }
-
-  -- what it is worth where the place that is lent does not lead its line
-  pub unled-first : Unled eol sep tab s (replicate 1 0)
-  unled-first = record { unled = λ l. absurd (omega arith) }
-
-  module _ (p : ℕ) (lost : List ℕ) (y : Bool) (lost′ : List ℕ) (u : Unled eol sep tab s lost) (w : LedBy eol sep tab s p lost y lost′) where
-    pub led-leads : Gives (leads eol sep tab s p) y
-    unfolding leadsBy leads trailing
-    led-leads = record { answer = by (decide (ltb 0 (back (either sep tab) s p))) (decide (joined sep tab s (getD lost 0 0) p)) }
-      where
-        by : (ltb 0 (back (either sep tab) s p) ≡ true) ⊎ (ltb 0 (back (either sep tab) s p) ≡ false) → (joined sep tab s (getD lost 0 0) p ≡ true) ⊎ (joined sep tab s (getD lost 0 0) p ≡ false) → y ≡ leads eol sep tab s p
-        by (inl t) (inl e) = let v = joined-same (getD lost 0 0) p e in w .answer ∙ rw (t, e) (sym (v .1 ∙ u .unled (v .0)))
-        by (inl t) (inr e) = w .answer ∙ rw (t, e)
-        by (inr t) e = let z : p - back (either sep tab) s p ≡ p = omega (arith, ltb-false 0 (back (either sep tab) s p) t) in w .answer ∙ rw t (sym (ap (lineStart eol s) z))
-
-    pub led-unled : Unled eol sep tab s lost′
-    led-unled = by (trailing sep tab s p) y lost refl u (w .kept)
-      where
-        by : (t z : Bool) (l : List ℕ) → y ≡ z → Unled eol sep tab s l → lost′ ≡ cond t (cond z l (set l 0 p)) l → Unled eol sep tab s lost′
-        by false z l e v k = rw k v
-        by true true l e v k = rw k v
-        by true false [] e v k = rw k (record { unled = λ h. absurd (omega arith) })
-        by true false (x ∷ l) e v k = rw k (record { unled = λ h. sym (led-leads .answer) ∙ e })
-
-pub ruleset led-rules = (led-leads, led-unled)
 
 -- a place where a line begins, or the text's end
 abbrev pub AtLine : ℕ → List ℕ → ℕ → Type 0

@@ -3,12 +3,11 @@
 use mathlib.Core.Path.{_≡_}
 use mathlib.Core.Bool.{Bool, true, false, cond, _||_, _&&_}
 use mathlib.Core.List.{List, [], _∷_}
-use Prim.Native.Nat.{ℕ, _+_, _-_, _<_}
-use lib.Dec.{ltb, leb}
-use lib.ListN.{length, getD, set}
+use Prim.Native.Nat.{ℕ, _+_, _-_}
+use lib.Dec.{ltb}
+use lib.ListN.{length}
 use lib.Seq.{slice}
-use Rattle.search.specs.Promise.{Gives}
-use Rattle.search.specs.Search.{either, other, find, back, lineStart, lineEnd, nextLine}
+use Rattle.search.specs.Search.{either, find, back, lineStart, lineEnd, nextLine}
 use Rattle.common.specs.Rules.{entry}
 use Rattle.common.specs.Refusals.{Outcome, given, refuse, unlessNone, tooLong, past}
 use Rattle.common.specs.Turn.{Turn, go, stop, found, between, Step, yields, ends}
@@ -57,34 +56,6 @@ beyond t (x ∷ l) = elim (t x) [ true ↦ beyond t l | false ↦ x ∷ l ]
 -- whether only separators and tabs stand before p on its line
 unfoldable pub leads : ℕ → ℕ → ℕ → List ℕ → ℕ → Bool
 leads eol sep tab s p = lineStart eol s (p - back (either sep tab) s p)
-
--- ---- the same asked of one place after another
--- whether only separators and tabs part p from a place k before it; of place 0 nothing is said
-unfoldable pub joined : ℕ → ℕ → List ℕ → ℕ → ℕ → Bool
-joined sep tab s k p = ltb 0 k && (leb k p && leb p (find (other (either sep tab)) s k))
-
--- whether a separator or a tab stands just before p
-unfoldable pub trailing : ℕ → ℕ → List ℕ → ℕ → Bool
-trailing sep tab s p = ltb 0 (back (either sep tab) s p)
-
--- the answer where k is taken for a place that does not lead its line
-unfoldable pub leadsBy : ℕ → ℕ → ℕ → List ℕ → ℕ → ℕ → Bool
-leadsBy eol sep tab s k p = cond (trailing sep tab s p) (cond (joined sep tab s k p) false (leads eol sep tab s p)) (lineStart eol s p)
-
--- what is promised, for every place that is lent: the answer, and the place that is lent on, which is p where p does not lead its line behind
--- separators or tabs
-pub record LedBy (eol sep tab : ℕ) (s : List ℕ) (p : ℕ) (lost : List ℕ) (r : Bool) (lost′ : List ℕ) : Type 0 where
-  pub answer : r ≡ leadsBy eol sep tab s (getD lost 0 0) p
-  pub kept : lost′ ≡ cond (trailing sep tab s p) (cond r lost (set lost 0 p)) lost
-
--- that the place which is lent, if it isn't 0, does not lead its line
-pub record Unled (eol sep tab : ℕ) (s lost : List ℕ) : Type 0 where
-  pub unled : 0 < getD lost 0 0 → leads eol sep tab s (getD lost 0 0) ≡ false
-
--- an answer r that is to be x, and such a place
-pub record Looked {A : Type 0} (eol sep tab : ℕ) (s : List ℕ) (x r : A) (lost : List ℕ) : Type 0 where
-  pub turn : Gives x r
-  pub left : Unled eol sep tab s lost
 
 -- ---- the item of a line
 module _ {A : Type 0} where

@@ -8,10 +8,16 @@ pub mod TableLaws
 pub mod ContentLaws
 pub mod ClassLaws
 pub mod Turn
+pub mod Turning
 pub mod TurnLaws
+pub mod EachLaws
 pub mod Entry
 pub mod EntryLaws
+pub mod Lists
+pub mod ListLaws
 pub mod Items
+pub mod Later
 pub mod ItemLaws
+pub mod LaterLaws
 pub mod Scanning
 pub mod ScanningLaws

@@ -13,16 +13,16 @@ tabulate f zero a = []
 tabulate f (suc n) a = f a ∷ tabulate f n (suc a)
 
 -- the index of the first rule with a byte, else the number of rules
-abbrev pub row : List ℕ → ℕ → ℕ
-row bytes b = find (is b) bytes 0
+abbrev pub ruleIndex : List ℕ → ℕ → ℕ
+ruleIndex bytes b = find (is b) bytes 0
 
 -- whether a rule has a byte
 abbrev pub hasRule : List ℕ → ℕ → Bool
-hasRule bytes b = ltb (row bytes b) (length bytes)
+hasRule bytes b = ltb (ruleIndex bytes b) (length bytes)
 
 -- the minimum of the first rule with a byte, else 0
 abbrev pub leastOf : List ℕ → List ℕ → ℕ → ℕ
-leastOf bytes mins b = cond (hasRule bytes b) (getD mins (row bytes b) 0) 0
+leastOf bytes mins b = cond (hasRule bytes b) (getD mins (ruleIndex bytes b) 0) 0
 
 -- the entry of a table for a number, else d
 abbrev pub entry : {B : Type 0} → B → List B → ℕ → B

@@ -1,7 +1,6 @@
 -- Scanners of items that lead a line: a state's fields, the turn that they choose, what a step answers and leaves, and the items that a state has before it. Assumes nothing.
 -- The page: "With up to three accepted bytes the streaming scan is used, else the line scan; in a handmade state its flag decides, and a
 -- needle count over 3 acts as 3.", "State fields follow the Rust's.", "For a scanner: 1, 2."
-use mathlib.Core.Path.{_≡_}
 use mathlib.Core.Bool.{Bool, false, cond}
 use mathlib.Core.List.{List, [], _∷_}
 use Prim.Native.Nat.{ℕ, _≤_}
@@ -10,8 +9,8 @@ use Rattle.search.specs.Promise.{Steps}
 use Rattle.search.specs.Search.{oneOf}
 use Rattle.common.specs.Sets.{probe}
 use Rattle.common.specs.Refusals.{Outcome, given, read, unlessNone}
-use Rattle.common.specs.Turn.{Turn, go, stop, found, firstTurn, allFound, Adv, yields}
-use Rattle.common.specs.Items.{ItemGrammar, grammar, has, answerBy, stateBy, stepFor}
+use Rattle.common.specs.Turn.{Turn, go, stop, found, firstTurn, allFound}
+use Rattle.common.specs.Items.{ItemGrammar, grammar, has, answerBy, stateBy}
 use Rattle.common.specs.declared.refusal.Refusal.{Refusal}
 use Rattle.common.specs.declared.sets.Probe.{Probe}
 
@@ -123,11 +122,3 @@ module _ {S A : Type 0} (c : Scanner S A) where
     ofTurn (go n) = onFrom n
     ofTurn (stop v) = (given [], at g v)
     ofTurn (found a n) = (given (c .values a), at g n)
-
--- ---- what the laws ask of a scanner; `Lies q n a` is what holds of an item a found between q and n
-pub record Lawful {S A : Type 0} (c : Scanner S A) (Lies : ℕ → ℕ → A → Type 0) : Type 0 where
-  pub of-made : (f : Fields) → c .fields (c .made f) ≡ f
-  pub made-of : (g : S) → c .made (c .fields g) ≡ g
-  pub reads : (a : A) (n : S) → stepFor (c .back) (c .values a) n ≡ yields a n
-  pub streams-on : (g : ItemGrammar) (s : List ℕ) → Adv Lies (c .streams g s) (length s)
-  pub lines-on : (g : ItemGrammar) (s : List ℕ) → Adv Lies (c .lines g s) (length s)

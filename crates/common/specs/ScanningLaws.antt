@@ -17,12 +17,21 @@ use Rattle.search.specs.SearchLaws.{decide}
 use Rattle.common.specs.Sets.{probe, accepted}
 use Rattle.common.specs.Refusals.{Outcome, given, refused, tooLong, past}
 use Rattle.common.specs.RefusalLaws.{told-unique}
-use Rattle.common.specs.Turn.{Turn, thenScan, thenCollect, firstTurn, allFound, Adv, Leads, Has, stepOf, thenDrain, drain}
+use Rattle.common.specs.Turn.{Turn, thenScan, thenCollect, firstTurn, allFound, stepOf, thenDrain, drain, yields}
+use Rattle.common.specs.Turning.{Adv, Leads, Finds}
 use Rattle.common.specs.TurnLaws.{by-turn, by-last, last-fits, scan-turn, collect-scan, scan-ends, drain-answers, answers-take}
 use Rattle.common.specs.Items.{ItemGrammar, grammar, has, lineBytes, lineFound, readTurn, hitTurn, said, placeOf, stepFor}
 use Rattle.common.specs.ItemLaws.{both, of-cond, needle-set, step-long, step-past, step-served, step-seen, step-taken}
-use Rattle.common.specs.Scanning.{Fields, moved, unflagged, probed, byNeedles, bySet, Scanner, fresh, at, flagOff, turnBy, turn, first, answer, state, Keeps, KeepsFrom, items, result, onFrom, ofLine, ofTurn, Lawful}
+use Rattle.common.specs.Scanning.{Fields, moved, unflagged, probed, byNeedles, bySet, Scanner, fresh, at, flagOff, turnBy, turn, first, answer, state, Keeps, KeepsFrom, items, result, onFrom, ofLine, ofTurn}
 use Rattle.common.specs.declared.sets.Probe.{Probe}
+
+-- ---- what the laws ask of a scanner; `Lies q n a` is what holds of an item a found between q and n
+pub record Lawful {S A : Type 0} (c : Scanner S A) (Lies : ℕ → ℕ → A → Type 0) : Type 0 where
+  pub of-made : (f : Fields) → c .fields (c .made f) ≡ f
+  pub made-of : (g : S) → c .made (c .fields g) ≡ g
+  pub reads : (a : A) (n : S) → stepFor (c .back) (c .values a) n ≡ yields a n
+  pub streams-on : (g : ItemGrammar) (s : List ℕ) → Adv Lies (c .streams g s) (length s)
+  pub lines-on : (g : ItemGrammar) (s : List ℕ) → Adv Lies (c .lines g s) (length s)
 
 -- ---- the ways out of `new`, `first` and `next`
 module _ {S A : Type 0} (c : Scanner S A) where
@@ -84,7 +93,7 @@ module _ {S A : Type 0} {c : Scanner S A} {Lies : ℕ → ℕ → A → Type 0} 
 
   -- so a value of what is found that lies there fits 32 bits
   pub found-fits : {D : Type 0} (view : D → Turn A) (value : A → ℕ) → ((q n : ℕ) (a : A) → Lies q n a → value a ≤ n) → (g : S) (set : List Bool) (s : List ℕ) (d e : D) (x : ℕ)
-      → d ≡ e → Gives (first c g set s) (view d) → c .fields g .pos ≤ length s → length s ≤ 4294967295 → Has (λ a n. value a ≡ x) (view e) → Fits w32 x
+      → d ≡ e → Gives (first c g set s) (view d) → c .fields g .pos ≤ length s → length s ≤ 4294967295 → Finds (λ a n. value a ≡ x) (view e) → Fits w32 x
   unfolding first
   found-fits view value lies g set s d e x f u h l m = last-fits Lies view value (u .answer) f m (turn-adv g set s) lies h l
 

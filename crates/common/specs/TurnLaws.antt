@@ -9,7 +9,7 @@ use mir.Syntax.{w32}
 use lib.ListN.{length, take}
 use lib.Seq.{take-all}
 use Rattle.common.specs.Turn.{Turn, go, stop, found, thenScan, scan, thenCollect, collect, firstTurn, allFound, answers, moveT, Step, thenDrain, drain, stepOf, gather, between, None}
-use Rattle.common.specs.Turn.{Ahead, Last, Adv, Leads, Each, OnFound, Covers, Told, Has, Rests, Stands}
+use Rattle.common.specs.Turning.{Ahead, Last, Adv, Leads, Each, OnFound, Covers, Told, Finds, Rests, Stands}
 
 -- ---- a step that moves on within its text
 module _ {A : Type 0} {Lies : ℕ → ℕ → A → Type 0} {step : ℕ → Turn A} {len : ℕ} (adv : Adv Lies step len) where
@@ -266,7 +266,7 @@ module _ {A : Type 0} {Lies : ℕ → ℕ → A → Type 0} {step : ℕ → Turn
 
 -- a turn that is known by a part of it
 module _ {A : Type 0} where
-  pub has-is : (P : A → ℕ → Type 0) (t : Turn A) → Has P t → (a : A) × (n : ℕ) × (t ≡ found a n) × P a n
+  pub has-is : (P : A → ℕ → Type 0) (t : Turn A) → Finds P t → (a : A) × (n : ℕ) × (t ≡ found a n) × P a n
   has-is P (go n) s = absurd s
   has-is P (stop v) s = absurd s
   has-is P (found a n) s = (a, n, refl, s)
@@ -304,7 +304,7 @@ stands-as view f {step = step} {len = len} {q = q} {e = e} i p r c m =
 
 -- what the code makes of a scan's answer: a value of what is found that lies within the text fits 32 bits
 pub last-fits : {A D : Type 0} (Lies : ℕ → ℕ → A → Type 0) (view : D → Turn A) (value : A → ℕ) {step : ℕ → Turn A} {len q x : ℕ} {d e : D}
-    → view d ≡ firstTurn step len q → d ≡ e → Has (λ a n. value a ≡ x) (view e) → Adv Lies step len → ((q n : ℕ) (a : A) → Lies q n a → value a ≤ n) → q ≤ len → len ≤ 4294967295 → Fits w32 x
+    → view d ≡ firstTurn step len q → d ≡ e → Finds (λ a n. value a ≡ x) (view e) → Adv Lies step len → ((q n : ℕ) (a : A) → Lies q n a → value a ≤ n) → q ≤ len → len ≤ 4294967295 → Fits w32 x
 last-fits Lies view value {step} {len} {q} {x} {e = e} p r c adv g h l =
     let y = has-is (λ a n. value a ≡ x) (view e) c in
     let w : value (y .0) ≤ len = subst (OnFound (λ a. value a ≤ len)) (sym p ∙ ap view r ∙ y .2) (scan-each adv (λ a. value a ≤ len) (λ q n a i w. omega (arith, g q n a w)) (suc len) q h) in

@@ -15,12 +15,12 @@ use borrow.Author.Tests.{lt-ltb, le-ltb, ltb-true}
 use Rattle.search.specs.Promise.{Gives}
 use Rattle.search.specs.Search.{is, either, holds, lineEnd}
 use Rattle.search.specs.SearchLaws.{decide, and-true, holds-in}
-use Rattle.cont.specs.declared.Marks.{Marks}
-use Rattle.cont.specs.Frames.{markAt, afterMark, marksFrom, marks}
+use Rattle.cont.specs.declared.Framing.{Framing}
+use Rattle.cont.specs.Frames.{markAt, afterMark, marksFrom, lineMarks}
 use Rattle.common.specs.Entry.{putAt}
 use Rattle.cont.specs.Steps.{Peels, Opens}
 
-module _ (m : Marks) (s : List ℕ) where
+module _ (m : Framing) (s : List ℕ) where
   -- ---- one marker
   pub mark-in : (e p : ℕ) → markAt m s e p ≡ true → p < e
   unfolding markAt
@@ -99,18 +99,18 @@ module _ (m : Marks) (s : List ℕ) where
       by (inl u) ih = rw (marks-true e n p u) (omega arith)
       by (inr u) ih = rw (marks-false e (suc n) p u) (omega arith)
 
-  pub marks-none : (a : ℕ) → holds (is (m .byte)) s a ≡ false → marks m s a ≡ []
-  unfolding marks
+  pub marks-none : (a : ℕ) → holds (is (m .byte)) s a ≡ false → lineMarks m s a ≡ []
+  unfolding lineMarks
   marks-none a h = marks-false (lineEnd (m .eol) s a) (m .cap) a (mark-none (lineEnd (m .eol) s a) a h)
 
 -- ---- a loop that has passed i of the first n markers from p and stands at q
-pub record Peeling (m : Marks) (s : List ℕ) (e p n i q : ℕ) : Type 0 where
+pub record Peeling (m : Framing) (s : List ℕ) (e p n i q : ℕ) : Type 0 where
   pub few : i ≤ n
   pub front : List ℕ
   pub size : length front ≡ i
   pub same : (k : ℕ) → marksFrom m s e (i + k) p ≡ front ++ marksFrom m s e k q
 
-module _ {m : Marks} {s : List ℕ} {e p n : ℕ} where
+module _ {m : Framing} {s : List ℕ} {e p n : ℕ} where
   pub peeling-first : Peeling m s e p n 0 p
   peeling-first = record { few = omega arith; front = []; size = refl; same = λ k. let z : 0 + k ≡ k = omega arith in rw z }
 
@@ -146,16 +146,16 @@ module _ {m : Marks} {s : List ℕ} {e p n : ℕ} where
         record { count = count (rw x (ap length (marks-zero m s e q))); rest = rest }
 
 -- ---- a loop that stores the markers from p on behind n open frames, up to the cap, and stands at q with k open
-pub record Opening (m : Marks) (s : List ℕ) (e p n : ℕ) (old new : List ℕ) (q k : ℕ) : Type 0 where
+pub record OpeningFrames (m : Framing) (s : List ℕ) (e p n : ℕ) (old new : List ℕ) (q k : ℕ) : Type 0 where
   pub cells : putAt k (marksFrom m s e (m .cap - k) q) new ≡ putAt n (marksFrom m s e (m .cap - n) p) old
   pub count : k + length (marksFrom m s e (m .cap - k) q) ≡ n + length (marksFrom m s e (m .cap - n) p)
 
-module _ {m : Marks} {s : List ℕ} {e p n : ℕ} {old : List ℕ} where
-  pub opening-first : Opening m s e p n old old p n
+module _ {m : Framing} {s : List ℕ} {e p n : ℕ} {old : List ℕ} where
+  pub opening-first : OpeningFrames m s e p n old old p n
   opening-first = record { cells = refl; count = refl }
 
-  module _ {new : List ℕ} {q k : ℕ} (w : Opening m s e p n old new q k) where
-    pub opening-again : {y : Bool} {r : ℕ} → y ≡ true → Gives (markAt m s e q) y → Gives (afterMark m s e q) r → k < m .cap → Opening m s e p n old (set new k q) r (k + 1)
+  module _ {new : List ℕ} {q k : ℕ} (w : OpeningFrames m s e p n old new q k) where
+    pub opening-again : {y : Bool} {r : ℕ} → y ≡ true → Gives (markAt m s e q) y → Gives (afterMark m s e q) r → k < m .cap → OpeningFrames m s e p n old (set new k q) r (k + 1)
     opening-again {y} {r} t g a h =
         let z : m .cap - k ≡ suc (m .cap - (k + 1)) = omega arith in
         let l : marksFrom m s e (m .cap - k) q ≡ q ∷ marksFrom m s e (m .cap - (k + 1)) r = rw (z, marks-true m s e (m .cap - (k + 1)) q (sym (g .answer) ∙ t), a .answer) in

@@ -20,37 +20,44 @@ use Rattle.cont.specs.declared.ContIter.{ContIter}
 use Rattle.cont.specs.declared.ContStep.{ContStep}
 use Rattle.cont.specs.Frames.{frame}
 use Rattle.common.specs.Entry.{putAt}
-use Rattle.cont.specs.Cont.{marksOf, closing, firstShut, standing, moved, drained, firstOf, stepped, spanOf, stateOf, outside, misplaced, answer, state, fresh}
+use Rattle.cont.specs.Cont.{Counts, framingOf, closedFrames, firstShut, standing, changed, drained, drainedOrEnd, stepped, spanOf, stateOf, misplacedBy, misplaced, answer, state, fresh}
 use Rattle.cont.specs.Steps.{Scanned, Served, Kept}
 use Rattle.cont.specs.TurnLaws.{closing-length}
 
 -- ---- the tests of a state
-module _ (len pos cap n k i : ℕ) where
-  pub outside-pos : len < pos → Gives (outside len pos cap n k i) true
-  unfolding outside
-  outside-pos a = record { answer = simp (lt-ltb len pos a) }
+module _ (c : Counts) where
+  pub misplaced-pos : c .len < c .pos → Gives (misplacedBy c) true
+  unfolding misplacedBy
+  misplaced-pos a = record { answer = simp (lt-ltb (c .len) (c .pos) a) }
 
-  pub outside-cap : pos ≤ len → 32 < cap → Gives (outside len pos cap n k i) true
-  unfolding outside
-  outside-cap a b = record { answer = simp (le-ltb len pos a, lt-ltb 32 cap b) }
+  module _ (inside : c .pos ≤ c .len) where
+    pub misplaced-cap : 32 < c .cap → Gives (misplacedBy c) true
+    unfolding misplacedBy
+    misplaced-cap b = record { answer = simp (le-ltb (c .len) (c .pos) inside, lt-ltb 32 (c .cap) b) }
 
-  pub outside-open : pos ≤ len → cap ≤ 32 → 32 < n → Gives (outside len pos cap n k i) true
-  unfolding outside
-  outside-open a b c = record { answer = simp (le-ltb len pos a, le-ltb 32 cap b, lt-ltb 32 n c) }
+    module _ (nests : c .cap ≤ 32) where
+      pub misplaced-open : 32 < c .«open_len» → Gives (misplacedBy c) true
+      unfolding misplacedBy
+      misplaced-open h = record { answer = simp (le-ltb (c .len) (c .pos) inside, le-ltb 32 (c .cap) nests, lt-ltb 32 (c .«open_len») h) }
 
-  pub outside-pending : pos ≤ len → cap ≤ 32 → n ≤ 32 → 32 < k → Gives (outside len pos cap n k i) true
-  unfolding outside
-  outside-pending a b c d = record { answer = simp (le-ltb len pos a, le-ltb 32 cap b, le-ltb 32 n c, lt-ltb 32 k d) }
+      module _ (opens : c .«open_len» ≤ 32) where
+        pub misplaced-pending : 32 < c .«pending_len» → Gives (misplacedBy c) true
+        unfolding misplacedBy
+        misplaced-pending d = record { answer = simp (le-ltb (c .len) (c .pos) inside, le-ltb 32 (c .cap) nests, le-ltb 32 (c .«open_len») opens, lt-ltb 32 (c .«pending_len») d) }
 
-  pub outside-last : pos ≤ len → cap ≤ 32 → n ≤ 32 → k ≤ 32 → Gives (outside len pos cap n k i) (ltb k i)
-  unfolding outside
-  outside-last a b c d = record { answer = simp (le-ltb len pos a, le-ltb 32 cap b, le-ltb 32 n c, le-ltb 32 k d) }
+        pub misplaced-last : c .«pending_len» ≤ 32 → Gives (misplacedBy c) (ltb (c .«pending_len») (c .«pending_idx»))
+        unfolding misplacedBy
+        misplaced-last d = record { answer = simp (le-ltb (c .len) (c .pos) inside, le-ltb 32 (c .cap) nests, le-ltb 32 (c .«open_len») opens, le-ltb 32 (c .«pending_len») d) }
 
-pub ruleset outside-rules = (outside-pos, outside-cap, outside-open, outside-pending, outside-last)
+pub ruleset misplaced-rules = (misplaced-pos, misplaced-cap, misplaced-open, misplaced-pending, misplaced-last)
+
+-- the state that the code has once the closed frames r, which are p, are pending, with the cells o
+abbrev filled : ContIter → Closed → List ℕ → List Span → ContIter
+filled g r o p = changed g (record { pos = r .pos; «open» = o; «open_len» = r .from; pending = p; «pending_len» = r .held - r .from; «pending_idx» = 0 })
 
 module _ (g : ContIter) (s : List ℕ) where
   pub served : {y : Bool} → y ≡ false → Gives (misplaced g s) y → length s ≤ 4294967295 → Served g s
-  unfolding outside
+  unfolding misplacedBy
   served t a h =
       let b = neither _ _ (sym (a .answer) ∙ t) in
       let c = neither _ _ (b .0) in
@@ -67,7 +74,7 @@ module _ (g : ContIter) (s : List ℕ) where
 
   unrefused : Served g s → misplaced g s ≡ false
   unrefused v =
-      sym (outside-last (length s) (g .pos) (g .cap) (g .«open_len») (g .«pending_len») (g .«pending_idx») (v .inside) (v .nests) (v .opens) (v .waits) .answer)
+      sym (misplaced-last _ (v .inside) (v .nests) (v .opens) (v .waits) .answer)
       ∙ le-ltb (g .«pending_len») (g .«pending_idx») (v .drawn)
 
   -- ---- the step, by the ways that it takes
@@ -75,24 +82,20 @@ module _ (g : ContIter) (s : List ℕ) where
   unfolding stepped
   step-drains h w = record { answer = rw (lt-ltb (g .«pending_idx») (g .«pending_len») h) (w .answer); next = rw (lt-ltb (g .«pending_idx») (g .«pending_len») h) (w .next) }
 
-  module _ {o : List ℕ} {r : Closed} {p : List Span} (h : g .«pending_len» ≤ g .«pending_idx») (w : Scanned (firstShut (marksOf g) s (standing g)) (length s) o r) (f : Gives (putAt 0 (closing o (r .end) (r .from) (r .held - r .from)) (g .pending)) p) where
-    -- the state once the closed frames are pending
-    abbrev Refilled : ContIter
-    Refilled = moved g (r .pos) o (r .from) p (r .held - r .from) 0
-
-    refills : stepped g s ≡ firstOf Refilled
+  module _ {o : List ℕ} {r : Closed} {p : List Span} (h : g .«pending_len» ≤ g .«pending_idx») (w : Scanned (firstShut (framingOf g) s (standing g)) (length s) o r) (f : Gives (putAt 0 (closedFrames o (r .end) (r .from) (r .held - r .from)) (g .pending)) p) where
+    refills : stepped g s ≡ drainedOrEnd (filled g r o p)
     unfolding stepped
     refills =
-        rw (le-ltb (g .«pending_idx») (g .«pending_len») h, ← (w .tells), f .answer) (ap (λ (k : ℕ). firstOf (moved g (r .pos) o (r .from) (putAt 0 (closing o (r .end) (r .from) (r .held - r .from)) (g .pending)) k 0)) (closing-length o (r .end) (r .from) (r .held - r .from)))
+        rw (le-ltb (g .«pending_idx») (g .«pending_len») h, ← (w .tells), f .answer) (ap (λ (k : ℕ). drainedOrEnd (changed g (record { pos = r .pos; «open» = o; «open_len» = r .from; pending = putAt 0 (closedFrames o (r .end) (r .from) (r .held - r .from)) (g .pending); «pending_len» = k; «pending_idx» = 0 }))) (closing-length o (r .end) (r .from) (r .held - r .from)))
 
-    pub step-closes : {x : Outcome} {n : ContIter} → 0 < r .held - r .from → Steps (spanOf (drained (moved g (r .pos) o (r .from) p (r .held - r .from) 0))) (stateOf (drained (moved g (r .pos) o (r .from) p (r .held - r .from) 0))) x n → Steps (spanOf (stepped g s)) (stateOf (stepped g s)) x n
+    pub step-closes : {x : Outcome} {n : ContIter} → 0 < r .held - r .from → Steps (spanOf (drained (filled g r o p))) (stateOf (drained (filled g r o p))) x n → Steps (spanOf (stepped g s)) (stateOf (stepped g s)) x n
     step-closes i v =
-        let e : stepped g s ≡ drained Refilled = rw (refills, lt-ltb 0 (r .held - r .from) i) in
+        let e : stepped g s ≡ drained (filled g r o p) = rw (refills, lt-ltb 0 (r .held - r .from) i) in
         record { answer = rw e (v .answer); next = rw e (v .next) }
 
-    pub step-ends : r .held - r .from ≤ 0 → Steps (spanOf (stepped g s)) (stateOf (stepped g s)) (toldSpan spanned.Nothing) (moved g (r .pos) o (r .from) p (r .held - r .from) 0)
+    pub step-ends : r .held - r .from ≤ 0 → Steps (spanOf (stepped g s)) (stateOf (stepped g s)) (toldSpan spanned.Nothing) (filled g r o p)
     step-ends i =
-        let e : stepped g s ≡ ends Refilled = rw (refills, le-ltb 0 (r .held - r .from) i) in
+        let e : stepped g s ≡ ends (filled g r o p) = rw (refills, le-ltb 0 (r .held - r .from) i) in
         record { answer = rw e; next = rw e }
 
   -- ---- the entry

@@ -9,7 +9,7 @@ use Rattle.common.specs.Refusals.{spanBack, toldSpan}
 use Rattle.common.specs.Items.{stepFor}
 use Rattle.common.specs.Turn.{Step}
 use Rattle.common.specs.declared.span.Span.{Span}
-use Rattle.cont.specs.declared.Marks.{Marks}
+use Rattle.cont.specs.declared.Framing.{Framing}
 use Rattle.cont.specs.declared.ContIter.{ContIter}
 use Rattle.cont.specs.declared.ContStep.{ContStep}
 use Rattle.cont.specs.declared.Peeled.{Peeled}
@@ -18,10 +18,10 @@ use Rattle.cont.specs.declared.Turn.{Turn as Told}
 use Rattle.cont.specs.declared.Turn.the-variants.{Go, Close, Stop}
 use Rattle.cont.specs.Frames.{marksFrom}
 use Rattle.common.specs.Entry.{putAt}
-use Rattle.cont.specs.Cont.{stand, closing, Turn, go, close, stop, Shut, shut, answer, state}
+use Rattle.cont.specs.Cont.{stand, closedFrames, FrameTurn, go, close, stop, Shut, shut, answer, state}
 
 -- the markers of n open frames, followed from p: how many there are, and the place that the others follow from
-pub record Peels (m : Marks) (s : List ℕ) (e p n : ℕ) (r : Peeled) : Type 0 where
+pub record Peels (m : Framing) (s : List ℕ) (e p n : ℕ) (r : Peeled) : Type 0 where
   pub count : r .count ≡ length (marksFrom m s e n p)
   pub rest : (k : ℕ) → drop (r .count) (marksFrom m s e (r .count + k) p) ≡ marksFrom m s e k (r .cur)
 
@@ -31,27 +31,27 @@ pub record Opens (l : List ℕ) (n : ℕ) (old new : List ℕ) (r : ℕ) : Type 
   pub count : r ≡ n + length l
 
 -- what a turn says, with n frames open before it and the cells as it leaves them
-abbrev pub view : ℕ → List ℕ → Told → Turn
+abbrev pub view : ℕ → List ℕ → Told → FrameTurn
 view n o (Go p k) = go (stand p o k)
-view n o (Close k e p) = close (closing o e k (n - k)) (stand p o k)
+view n o (Close k e p) = close (closedFrames o e k (n - k)) (stand p o k)
 view n o (Stop p) = stop (stand p o n)
 
 -- its numbers, where it stood at q, within a text of length len
-abbrev pub Within : ℕ → ℕ → ℕ → Told → Type 0
-Within len q n (Go p k) = (q < p) × (p ≤ len) × (k ≤ 32)
-Within len q n (Close k e p) = (k ≤ n) × (e ≤ len)
-Within len q n (Stop p) = p ≤ len
+abbrev pub TurnWithin : ℕ → ℕ → ℕ → Told → Type 0
+TurnWithin len q n (Go p k) = (q < p) × (p ≤ len) × (k ≤ 32)
+TurnWithin len q n (Close k e p) = (k ≤ n) × (e ≤ len)
+TurnWithin len q n (Stop p) = p ≤ len
 
-pub record Turned (t : Turn) (len q n : ℕ) (o : List ℕ) (r : Told) : Type 0 where
+pub record FrameTurned (t : FrameTurn) (len q n : ℕ) (o : List ℕ) (r : Told) : Type 0 where
   pub tells : view n o r ≡ t
-  pub within : Within len q n r
+  pub within : TurnWithin len q n r
 
 -- the frames that a scan closes, with the cells as it leaves them
-abbrev pub shown : List ℕ → Closed → Shut
-shown o r = shut (closing o (r .end) (r .from) (r .held - r .from)) (stand (r .pos) o (r .from))
+abbrev pub closedView : List ℕ → Closed → Shut
+closedView o r = shut (closedFrames o (r .end) (r .from) (r .held - r .from)) (stand (r .pos) o (r .from))
 
 pub record Scanned (x : Shut) (len : ℕ) (o : List ℕ) (r : Closed) : Type 0 where
-  pub tells : shown o r ≡ x
+  pub tells : closedView o r ≡ x
   pub ordered : r .from ≤ r .held
   pub few : r .held ≤ 32
   pub high : r .end ≤ len

@@ -23,11 +23,11 @@ ghost use Rattle.search.specs.Search.{Sought, is};
 ghost use Rattle.common.specs.Refusals.{toldSpan};
 ghost use Rattle.cont.specs.Frames.{markAt, afterMark, marksFrom};
 ghost use Rattle.common.specs.Entry.{putAt};
-ghost use Rattle.cont.specs.Cont.{fresh, stand, closing, lineTurn, nextTurn, firstShut, outside, drained, stepped, spanOf, stateOf, answer, state};
-ghost use Rattle.cont.specs.Steps.{Peels, Opens, Turned, Scanned, Served};
+ghost use Rattle.cont.specs.Cont.{fresh, stand, closedFrames, turnOnLine, nextTurn, firstShut, misplacedBy, drained, stepped, spanOf, stateOf, answer, state};
+ghost use Rattle.cont.specs.Steps.{Peels, Opens, FrameTurned, Scanned, Served};
 
-// What makes a line's depth: the marker byte, the line end, the separator and the tab that a marker may take, and the cap.
-pub struct Marks {
+// What a frame is read by: the marker byte, the line end, the separator and the tab that a marker may take, and the cap.
+pub struct Framing {
     pub byte: u8,
     pub eol: u8,
     pub sep: u8,
@@ -80,7 +80,7 @@ struct Closed {
 }
 
 // Whether a marker stands at `p`, in a line that ends at `le`.
-fn marker_at(src: &[u8], m: Marks, p: usize, le: usize) -> bool
+fn marker_at(src: &[u8], m: Framing, p: usize, le: usize) -> bool
     ensures { λ r. ⌜ Gives (markAt m (now (src .entry)) le p) r ⌝ }
 {
     if p < le {
@@ -90,7 +90,7 @@ fn marker_at(src: &[u8], m: Marks, p: usize, le: usize) -> bool
 }
 
 // The place just past a marker at `p`: the marker byte and one optional separator or tab.
-fn consume_marker(src: &[u8], m: Marks, p: usize, le: usize) -> usize
+fn consume_marker(src: &[u8], m: Framing, p: usize, le: usize) -> usize
     requires { ⌜ p < le ⌝ }
     requires { ⌜ le ≤ length (now src) ⌝ }
     ensures { λ r. ⌜ Gives (afterMark m (now (src .entry)) le p) r ⌝ }
@@ -105,7 +105,7 @@ fn consume_marker(src: &[u8], m: Marks, p: usize, le: usize) -> usize
 }
 
 // How many of the `held` open frames have their marker on the line that begins at `ls`.
-fn peel(src: &[u8], m: Marks, ls: usize, le: usize, held: usize) -> Peeled
+fn peel(src: &[u8], m: Framing, ls: usize, le: usize, held: usize) -> Peeled
     requires { ⌜ le ≤ length (now src) ⌝ }
     ensures { λ r. ⌜ Peels m (now (src .entry)) le ls held r ⌝ }
 {
@@ -126,7 +126,7 @@ fn peel(src: &[u8], m: Marks, ls: usize, le: usize, held: usize) -> Peeled
 // stays below the cap at each store, and the cap is at most 32.
 fn open_from(
     src: &[u8],
-    m: Marks,
+    m: Framing,
     from: usize,
     le: usize,
     open: &mut [u32; ContIter::MAX_DEPTH],
@@ -156,7 +156,7 @@ fn open_from(
 // behind theirs open new ones. The line that closed some has no further marker, so it opens none.
 fn line_turn(
     src: &[u8],
-    m: Marks,
+    m: Framing,
     ls: usize,
     open: &mut [u32; ContIter::MAX_DEPTH],
     held: usize,
@@ -166,7 +166,7 @@ fn line_turn(
     requires { ⌜ ls < length (now src) ⌝ }
     requires { ⌜ length (now src) ≤ 4294967295 ⌝ }
     ensures { λ r. ⌜
-        Turned (lineTurn m (now (src .entry)) ls (now («open» .entry)) held) (length (now (src .entry))) ls held
+        FrameTurned (turnOnLine m (now (src .entry)) ls (now («open» .entry)) held) (length (now (src .entry))) ls held
         (now («open» .exit)) r
         ⌝ }
 {
@@ -194,7 +194,7 @@ fn next_marker(src: &[u8], pos: usize, byte: u8) -> usize
 // them all there, and the text's end flushes them. With none open, a fresh run must begin its line.
 fn next_turn(
     src: &[u8],
-    m: Marks,
+    m: Framing,
     pos: usize,
     open: &mut [u32; ContIter::MAX_DEPTH],
     held: usize,
@@ -204,7 +204,7 @@ fn next_turn(
     requires { ⌜ pos ≤ length (now src) ⌝ }
     requires { ⌜ length (now src) ≤ 4294967295 ⌝ }
     ensures { λ r. ⌜
-        Turned (nextTurn m (now (src .entry)) (stand pos (now («open» .entry)) held)) (length (now (src .entry))) pos held
+        FrameTurned (nextTurn m (now (src .entry)) (stand pos (now («open» .entry)) held)) (length (now (src .entry))) pos held
         (now («open» .exit)) r
         ⌝ }
 {
@@ -231,7 +231,7 @@ fn next_turn(
 // Turns until frames close or nothing is left.
 fn scan(
     src: &[u8],
-    m: Marks,
+    m: Framing,
     from: usize,
     open: &mut [u32; ContIter::MAX_DEPTH],
     held: usize,
@@ -283,7 +283,7 @@ fn close_from(
     pending: [Span; ContIter::MAX_DEPTH],
 ) -> [Span; ContIter::MAX_DEPTH]
     requires { ⌜ held ≤ 32 ⌝ }
-    ensures { λ r. ⌜ Gives (putAt 0 (closing (now («open» .entry)) end from (held - from)) pending) r ⌝ }
+    ensures { λ r. ⌜ Gives (putAt 0 (closedFrames (now («open» .entry)) end from (held - from)) pending) r ⌝ }
 {
     let mut out = pending;
     let mut i = held;
@@ -300,8 +300,17 @@ fn close_from(
 }
 
 // Whether a place is past the text, a cap or a count over 32, or the pending index over the pending count.
-fn outside(len: usize, pos: usize, cap: usize, open: usize, pending: usize, idx: usize) -> bool
-    ensures { λ r. ⌜ Gives (outside len pos cap «open» pending idx) r ⌝ }
+fn is_misplaced(len: usize, pos: usize, cap: usize, open: usize, pending: usize, idx: usize) -> bool
+    ensures { λ r. ⌜
+        Gives (misplacedBy (record {
+          len = len;
+          pos = pos;
+          cap = cap;
+          «open_len» = «open»;
+          «pending_len» = pending;
+          «pending_idx» = idx;
+        })) r
+        ⌝ }
 {
     if len < pos {
         return true;
@@ -366,7 +375,7 @@ impl ContIter {
         if self.pending_idx < self.pending_len {
             return self.drain();
         }
-        let m = Marks {
+        let m = Framing {
             byte: self.byte,
             eol: self.eol,
             sep: self.sep,
@@ -403,7 +412,7 @@ impl ContIter {
                 next: self,
             };
         }
-        if outside(
+        if is_misplaced(
             src.len(),
             self.pos,
             self.cap,

@@ -14,58 +14,36 @@ use Rattle.common.specs.declared.refusal.Answer.{Answer}
 use Rattle.common.specs.declared.grammar.Grammar.{Grammar}
 use Rattle.common.specs.Entry.{room, wide}
 use Rattle.rules.specs.Grammar.{Gram}
-use Rattle.rules.specs.Columns.{Columns, columns, unequal, alphabetOf, gramOf}
+use Rattle.rules.specs.Columns.{Columns, unequal, alphabetOf, gramOf}
 use Rattle.rules.specs.Rows.{gramBy, Folded}
 use Rattle.rules.specs.RowLaws.{gram-same}
 use Rattle.rules.specs.declared.search_bytes.Alphabet.{Alphabet}
-use Rattle.region.specs.Region.{Caused, rowOf}
+use Rattle.region.specs.Region.{rowOf}
 use Rattle.region.specs.Regions.{regions}
+use Rattle.common.specs.Lists.{Wrote, Filled}
+use Rattle.common.specs.ListLaws.{fill-done}
+use Rattle.region.specs.Room.{RowFits}
 use Rattle.region.specs.Ahead.{regions-few}
 use Rattle.region.specs.NextLaws.{next-ahead}
-use Rattle.region.specs.Memory.{Keeps}
-use Rattle.region.specs.LoopLaws.{Pouring, counting-told, counting-end, pouring-room, pouring-next, pouring-end}
+use Rattle.region.specs.Memory.{KeptNext}
+use Rattle.region.specs.LoopLaws.{Pouring, counting-told, pouring-room}
 use Rattle.region.specs.declared.Region.{Region as Told}
 use Rattle.region.specs.declared.Next.{Next}
 use Rattle.region.specs.declared.Next.the-variants as next
-use Rattle.context.specs.Build.{Puts, Put, Wrote, Filled, full, builtAnswer, builtList, Built}
+use Rattle.context.specs.Build.{builtAnswer, builtList, Built}
 
--- ---- the loop that writes
-module _ (g : Gram) (s m out₀ out : List ℕ) (n q : ℕ) (d : Next) (m′ : List ℕ) (i : Pouring rowOf wide g s m out₀ out n q) (kept : Keeps g s m q d m′) where
-  pub writes-end : d ≡ next.Nothing → Wrote (regions g s) out₀ out n
-  writes-end e = record { count = counting-end g s m n q d m′ (i .counting) kept e; list = pouring-end rowOf wide g s m out₀ out n q d m′ i kept e }
-
-  module _ (r : Told) (k : ℕ) (e : d ≡ next.Region r k) where
-    -- a region has room and fits
-    pub writes-puts : length s ≤ 4294967295 → Puts n (r .start) (r .end) out
-    writes-puts h =
-        let w = next-ahead g s q (i .counting .here) d (counting-told g s m n q d m′ (i .counting) kept) r k e in
-        record { room = pouring-room rowOf wide g s m out₀ out n q d m′ i kept r k e; low = omega (arith, w .1, w .2); high = omega (arith, w .1, w .2) }
-
-    pub writes-next : (out′ : List ℕ) (n′ : ℕ) → Put n (r .start) (r .end) out out′ n′ → Pouring rowOf wide g s m′ out₀ out′ n′ k
-    writes-next out′ n′ p = pouring-next rowOf wide g s m out₀ out n q d m′ i kept r k e out′ n′ (p .next) (p .list)
+-- ---- the loop that writes: a region has room and fits
+pub region-fits : (g : Gram) (s m out₀ out : List ℕ) (n q : ℕ) (d : Next) (m′ : List ℕ) → Pouring rowOf wide g s m out₀ out n q → KeptNext g s m q d m′ → (r : Told) (k : ℕ) → d ≡ next.Region r k → length s ≤ 4294967295
+    → RowFits n (r .start) (r .end) out
+region-fits g s m out₀ out n q d m′ i kept r k e h =
+    let w = next-ahead g s q (i .counting .here) d (counting-told g s m n q d m′ (i .counting) kept) r k e in
+    record { room = pouring-room rowOf wide g s m out₀ out n q d m′ i kept r k e; low = omega (arith, w .1, w .2); high = omega (arith, w .1, w .2) }
 
 -- ---- the ways out of filling: `most` is the room
-module _ (l : List Caused) (out : List ℕ) (most : ℕ) (hm : most ≡ length out / wide) where
-  pub fill-full : (found : ℕ) → most < found → Gives (length l) found → Filled l out out (refused 3)
-  fill-full found h g =
-      let t : full l out ≡ true = lt-ltb (length out / wide) (length l) (omega (arith, g .answer)) in
-      record { answer = simp t; list = simp t }
-
-  fill-done : (out′ : List ℕ) (n : ℕ) → length l ≤ most → Wrote l out out′ n → Filled l out out′ (given (n ∷ []))
-  fill-done out′ n h w =
-      let t : full l out ≡ false = le-ltb (length out / wide) (length l) (omega arith) in
-      record { answer = simp (t, w .count); list = w .list ∙ simp t }
-
-  pub fill-counted : (found : ℕ) (out′ : List ℕ) (n : ℕ) → found ≤ most → Gives (length l) found → Wrote l out out′ n → Filled l out out′ (given (n ∷ []))
-  fill-counted found out′ n h g w = fill-done out′ n (omega (arith, g .answer)) w
-
-pub fill-roomy : (g : Gram) (s out out′ : List ℕ) (most n : ℕ) → most ≡ length out / wide → length s / 2 < most → Wrote (regions g s) out out′ n → Filled (regions g s) out out′ (given (n ∷ []))
-fill-roomy g s out out′ most n hm h w = fill-done (regions g s) out most hm out′ n (omega (arith, regions-few g s)) w
+pub fill-roomy : (g : Gram) (s out out′ : List ℕ) (most n : ℕ) → most ≡ length out / wide → length s / 2 < most → Wrote rowOf (regions g s) out out′ n → Filled rowOf wide (regions g s) out out′ (given (n ∷ []))
+fill-roomy g s out out′ most n hm h w = fill-done rowOf wide (regions g s) out most hm out′ n (omega (arith, regions-few g s)) w
 
 -- there is room
-pub room-counted : (l : List Caused) (out : List ℕ) (most found : ℕ) → most ≡ length out / wide → found ≤ most → Gives (length l) found → length l ≤ room wide out
-room-counted l out most found hm h g = omega (arith, g .answer)
-
 pub room-roomy : (g : Gram) (s out : List ℕ) (most : ℕ) → most ≡ length out / wide → length s / 2 < most → length (regions g s) ≤ room wide out
 room-roomy g s out most hm h = omega (arith, regions-few g s)
 
@@ -82,17 +60,20 @@ module _ (g : Grammar) (c : Columns) (s out : List ℕ) where
         let z : unequal c ≡ true = sym (d .answer) ∙ e in
         record { answer = simp (le-ltb 4294967295 (length s) short, z); list = simp (le-ltb 4294967295 (length s) short, z) }
 
-    built-all : (out′ : List ℕ) (a : Outcome) → b ≡ false → Gives (unequal c) b → Filled (regions (gramOf g c) s) out out′ a → Built g c s out out′ a
+    built-all : (out′ : List ℕ) (a : Outcome) → b ≡ false → Gives (unequal c) b → Filled rowOf wide (regions (gramOf g c) s) out out′ a → Built g c s out out′ a
     unfolding builtAnswer builtList
     built-all out′ a e d v =
         let z : unequal c ≡ false = sym (d .answer) ∙ e in
         record { answer = v .answer ∙ simp (le-ltb 4294967295 (length s) short, z); list = v .list ∙ simp (le-ltb 4294967295 (length s) short, z) }
 
 -- by the columns, folded
-pub built-folded : (g : Grammar) (f m y t o k n s out out′ : List ℕ) (b : Bool) (w : Alphabet) (fences : List ℕ) (rows : List (List ℕ)) (a : Outcome) → length s ≤ 4294967295 → b ≡ false → Gives (unequal (columns f m y t o k n)) b
-    → Gives (alphabetOf g f y o) w → Gives (fenceTable f m) fences → Folded f y t o k n rows → Filled (regions (gramBy w fences rows) s) out out′ a → Built g (columns f m y t o k n) s out out′ a
-built-folded g f m y t o k n s out out′ b w fences rows a short e d hw hf hr v =
-    built-all g (columns f m y t o k n) s out b short out′ a e d (subst (λ (x : Gram). Filled (regions x s) out out′ a) (gram-same f y t o k n rows hr g m w fences hw hf) v)
+pub built-folded : (g : Grammar) (c : Columns) (s out out′ : List ℕ) (b : Bool) (w : Alphabet) (fences : List ℕ) (rows : List (List ℕ)) (a : Outcome) → length s ≤ 4294967295 → b ≡ false → Gives (unequal c) b
+    → Gives (alphabetOf g (c .fenceBytes) (c .inline .symBytes) (c .inline .openers)) w → Gives (fenceTable (c .fenceBytes) (c .fenceMins)) fences
+    → Folded (c .fenceBytes) (c .inline) rows → Filled rowOf wide (regions (gramBy w fences rows) s) out out′ a → Built g c s out out′ a
+built-folded g c s out out′ b w fences rows a short e d hw hf hr v =
+    let i = c .inline in
+    let z = gram-same (c .fenceBytes) (i .symBytes) (i .symCounts) (i .openers) (i .closers) (i .openCounts) rows hr g (c .fenceMins) w fences hw hf in
+    built-all g c s out b short out′ a e d (subst (λ (x : Gram). Filled rowOf wide (regions x s) out out′ a) z v)
 
 -- two results of building for the same arguments are one: the answer, and the list that is left
 pub built-unique : {g : Grammar} {c : Columns} {s out out′ out″ : List ℕ} {r r′ : Answer} → Built g c s out out′ (told r) → Built g c s out out″ (told r′) → (r ≡ r′) × (out′ ≡ out″)

@@ -9,7 +9,7 @@ use Rattle.search.specs.Promise.{Gives}
 use Rattle.common.specs.Entry.{flatten, room, over, wide}
 use Rattle.common.specs.Refusals.{Outcome, given, refuse, tooLong}
 use Rattle.common.specs.declared.grammar.Grammar.{Grammar}
-use Rattle.rules.specs.Columns.{columns, unequalInline, unequal, gramOf}
+use Rattle.rules.specs.Columns.{inlineRules, columns, unequalInline, unequal, gramOf}
 use Rattle.rules.specs.DifferLaws.{differ-inline}
 use Rattle.rules.specs.Records.{ruleBytes, ruleMins, keptBytes, keptMins, AllGathered}
 use Rattle.rules.specs.RecordLaws.{rules-even, kept-even, take-front}
@@ -32,8 +32,8 @@ module _ (rules : List FenceRule) {g : Grammar} {f : Gathered} {y t o k n s out 
       list : Bool → ℕ → List ℕ → List ℕ
       list bad m l = cond (tooLong s) out (cond bad out (cond (ltb (room wide out) m) out (over l out)))
 
-      even : (bytes mins : List ℕ) → length bytes ≡ length mins → unequalInline y t o k n ≡ unequal (columns bytes mins y t o k n)
-      even bytes mins e = differ-inline bytes mins y t o k n (unequalInline y t o k n) e (record { answer = refl })
+      even : (bytes mins : List ℕ) → length bytes ≡ length mins → unequalInline (inlineRules y t o k n) ≡ unequal (columns bytes mins y t o k n)
+      even bytes mins e = differ-inline bytes mins y t o k n (unequalInline (inlineRules y t o k n)) e (record { answer = refl })
 
       same : unequal (columns (keptBytes f) (keptMins f) y t o k n) ≡ unequal (columns (ruleBytes rules) (ruleMins rules) y t o k n)
       same = inv (even (keptBytes f) (keptMins f) (kept-even rules f w)) ∙ even (ruleBytes rules) (ruleMins rules) (rules-even rules)

@@ -15,19 +15,22 @@ use rules::columns::columns_differ;
 use rules::rows::Rows;
 use rules::rows::rule_rows;
 use rules::search_bytes::Alphabet;
+ghost use mathlib.Core.List.{[], _∷_};
 ghost use Prim.Native.Nat.{_≤_};
 ghost use lib.ListN.{length};
 ghost use Rattle.common.specs.Refusals.{told};
 ghost use Rattle.common.specs.Entry.{room, wide};
-ghost use Rattle.rules.specs.Columns.{columns};
 ghost use Rattle.rules.specs.Rows.{gramBy};
+ghost use Rattle.region.specs.Region.{rowOf};
 ghost use Rattle.region.specs.Regions.{regions};
-ghost use Rattle.context.specs.Build.{Puts, Put, Wrote, Filled, Built};
+ghost use Rattle.common.specs.Lists.{RowPut, Wrote, Filled};
+ghost use Rattle.region.specs.Room.{RowFits};
+ghost use Rattle.context.specs.Build.{Built};
 
 // Writes region `n`, from `start` up to `end`, to its row, and answers the next region's number.
 fn put_region(out: &mut [u32], n: usize, start: usize, end: usize) -> usize
-    requires { ⌜ Puts n start end (now out) ⌝ }
-    ensures { λ r. ⌜ Put n start end (now (out .entry)) (now (out .exit)) r ⌝ }
+    requires { ⌜ RowFits n start end (now out) ⌝ }
+    ensures { λ r. ⌜ RowPut (start ∷ end ∷ []) n (now (out .entry)) (now (out .exit)) r ⌝ }
 {
     let k = n * WIDE;
     out[k] = start as u32;
@@ -46,7 +49,7 @@ fn write_regions(
     requires { ⌜ length (now src) ≤ 4294967295 ⌝ }
     requires { ⌜ length (regions (gramBy alphabet (now fences) (now rows)) (now src)) ≤ room wide (now out) ⌝ }
     ensures { λ r. ⌜
-        Wrote (regions (gramBy alphabet (now (fences .entry)) (now (rows .entry))) (now (src .entry))) (now (out .entry))
+        Wrote rowOf (regions (gramBy alphabet (now (fences .entry)) (now (rows .entry))) (now (src .entry))) (now (out .entry))
         (now (out .exit)) r
         ⌝ }
 {
@@ -71,7 +74,7 @@ fn write_regions(
 fn fill(src: &[u8], alphabet: Alphabet, fences: &[u16; 256], rows: &Rows, out: &mut [u32]) -> Answer
     requires { ⌜ length (now src) ≤ 4294967295 ⌝ }
     ensures { λ r. ⌜
-        Filled (regions (gramBy alphabet (now (fences .entry)) (now (rows .entry))) (now (src .entry))) (now (out .entry))
+        Filled rowOf wide (regions (gramBy alphabet (now (fences .entry)) (now (rows .entry))) (now (src .entry))) (now (out .entry))
         (now (out .exit)) (told r)
         ⌝ }
 {
@@ -102,9 +105,17 @@ pub fn build(
     out: &mut [u32],
 ) -> Answer
     ensures { λ r. ⌜
-        Built g (columns (now (fences .entry)) (now (mins .entry)) (now (symmetric .entry)) (now (times .entry))
-        (now (openers .entry)) (now (closers .entry)) (now (counts .entry))) (now (src .entry)) (now (out .entry))
-        (now (out .exit)) (told r)
+        Built g (record {
+          fenceBytes = now (fences .entry);
+          fenceMins = now (mins .entry);
+          inline = record {
+            symBytes = now (symmetric .entry);
+            symCounts = now (times .entry);
+            openers = now (openers .entry);
+            closers = now (closers .entry);
+            openCounts = now (counts .entry);
+          };
+        }) (now (src .entry)) (now (out .entry)) (now (out .exit)) (told r)
         ⌝ }
 {
     if src.len() > MAX_INPUT_LEN {

@@ -8,7 +8,6 @@ use rules::records::gather;
 use search::lesser;
 ghost use lib.ListN.{take};
 ghost use Rattle.common.specs.Refusals.{told};
-ghost use Rattle.rules.specs.Columns.{columns};
 ghost use Rattle.rules.specs.Records.{ruleBytes, ruleMins, keptBytes, keptMins};
 ghost use Rattle.context.specs.Build.{Built};
 
@@ -27,9 +26,17 @@ fn build_front(
     out: &mut [u32],
 ) -> Answer
     ensures { λ r. ⌜
-        Built g (columns (take used (now (fences .entry))) (take used (now (mins .entry))) (now (symmetric .entry))
-        (now (times .entry)) (now (openers .entry)) (now (closers .entry)) (now (counts .entry))) (now (src .entry))
-        (now (out .entry)) (now (out .exit)) (told r)
+        Built g (record {
+          fenceBytes = take used (now (fences .entry));
+          fenceMins = take used (now (mins .entry));
+          inline = record {
+            symBytes = now (symmetric .entry);
+            symCounts = now (times .entry);
+            openers = now (openers .entry);
+            closers = now (closers .entry);
+            openCounts = now (counts .entry);
+          };
+        }) (now (src .entry)) (now (out .entry)) (now (out .exit)) (told r)
         ⌝ }
 {
     let n = lesser(used, fences.len());
@@ -61,8 +68,17 @@ fn build_gathered(
     out: &mut [u32],
 ) -> Answer
     ensures { λ r. ⌜
-        Built g (columns (keptBytes fences) (keptMins fences) (now (symmetric .entry)) (now (times .entry)) (now (openers .entry))
-        (now (closers .entry)) (now (counts .entry))) (now (src .entry)) (now (out .entry)) (now (out .exit)) (told r)
+        Built g (record {
+          fenceBytes = keptBytes fences;
+          fenceMins = keptMins fences;
+          inline = record {
+            symBytes = now (symmetric .entry);
+            symCounts = now (times .entry);
+            openers = now (openers .entry);
+            closers = now (closers .entry);
+            openCounts = now (counts .entry);
+          };
+        }) (now (src .entry)) (now (out .entry)) (now (out .exit)) (told r)
         ⌝ }
 {
     let bytes = fences.bytes;
@@ -95,9 +111,17 @@ pub fn build_records(
     out: &mut [u32],
 ) -> Answer
     ensures { λ r. ⌜
-        Built g (columns (ruleBytes (now (rules .entry))) (ruleMins (now (rules .entry))) (now (symmetric .entry))
-        (now (times .entry)) (now (openers .entry)) (now (closers .entry)) (now (counts .entry))) (now (src .entry))
-        (now (out .entry)) (now (out .exit)) (told r)
+        Built g (record {
+          fenceBytes = ruleBytes (now (rules .entry));
+          fenceMins = ruleMins (now (rules .entry));
+          inline = record {
+            symBytes = now (symmetric .entry);
+            symCounts = now (times .entry);
+            openers = now (openers .entry);
+            closers = now (closers .entry);
+            openCounts = now (counts .entry);
+          };
+        }) (now (src .entry)) (now (out .entry)) (now (out .exit)) (told r)
         ⌝ }
 {
     build_gathered(
@@ -127,9 +151,17 @@ pub fn build_few(
     out: &mut [u32],
 ) -> Answer
     ensures { λ r. ⌜
-        Built g (columns (ruleBytes (take used rules)) (ruleMins (take used rules)) (now (symmetric .entry)) (now (times .entry))
-        (now (openers .entry)) (now (closers .entry)) (now (counts .entry))) (now (src .entry)) (now (out .entry))
-        (now (out .exit)) (told r)
+        Built g (record {
+          fenceBytes = ruleBytes (take used rules);
+          fenceMins = ruleMins (take used rules);
+          inline = record {
+            symBytes = now (symmetric .entry);
+            symCounts = now (times .entry);
+            openers = now (openers .entry);
+            closers = now (closers .entry);
+            openCounts = now (counts .entry);
+          };
+        }) (now (src .entry)) (now (out .entry)) (now (out .exit)) (told r)
         ⌝ }
 {
     let n = lesser(used, 16);

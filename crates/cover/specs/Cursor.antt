@@ -21,12 +21,12 @@ abbrev pub stopAt : ℕ → List ℕ → ℕ → ℕ
 stopAt w l k = getD l (k * w + 1) 0
 
 -- whether region k's end is after the place
-abbrev pub after : ℕ → List ℕ → ℕ → ℕ → Bool
-after w l place k = ltb place (stopAt w l k)
+abbrev pub endsAfter : ℕ → List ℕ → ℕ → ℕ → Bool
+endsAfter w l place k = ltb place (stopAt w l k)
 
 -- "The cursor skips regions whose end is at or before the place, never goes back": from an index on, up to the count
 unfoldable pub passed : ℕ → List ℕ → ℕ → ℕ → ℕ → ℕ
-passed w l count index place = firstPlace (after w l place) index count
+passed w l count index place = firstPlace (endsAfter w l place) index count
 
 -- "and gives the next region's end if its start is at or before the place"; "an index past the count gives none"
 unfoldable pub endAt : ℕ → List ℕ → ℕ → ℕ → ℕ → List ℕ

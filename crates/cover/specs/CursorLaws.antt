@@ -16,7 +16,7 @@ use Rattle.common.specs.RefusalLaws.{found-unique}
 use Rattle.common.specs.Entry.{rows, room, wide, startOf, stopOf, Shaped}
 use Rattle.common.specs.EntryLaws.{rows-at, length-rows}
 use Rattle.common.specs.declared.refusal.Found.{Found}
-use Rattle.cover.specs.Cursor.{startAt, stopAt, after, passed, endAt, coverAnswer, coverNext, covers, coverage, coverRun, CoveredBoth, Rising, Ended}
+use Rattle.cover.specs.Cursor.{startAt, stopAt, endsAfter, passed, endAt, coverAnswer, coverNext, covers, coverage, coverRun, CoveredBoth, Rising, Ended}
 use Rattle.cover.specs.declared.cursor.Cover.{Cover}
 use Rattle.cover.specs.declared.cursor.CoverPair.{CoverPair}
 
@@ -31,15 +31,15 @@ module _ (w : ℕ) (l : List ℕ) (count index place : ℕ) where
   module _ (i : ℕ) (k : Passes w l count index place i) where
     pub passes-again : (stop : ℕ) → i < count → Gives (stopAt w l i) stop → stop ≤ place → Passes w l count index place (i + 1)
     unfolding passed
-    passes-again stop h g m = record { same = k .same ∙ first-next (after w l place) i count h (le-ltb place (stopAt w l i) (omega (arith, g .answer))) }
+    passes-again stop h g m = record { same = k .same ∙ first-next (endsAfter w l place) i count h (le-ltb place (stopAt w l i) (omega (arith, g .answer))) }
 
     pub passes-found : (stop : ℕ) → i < count → Gives (stopAt w l i) stop → place < stop → i ≡ passed w l count index place
     unfolding passed
-    passes-found stop h g m = sym (k .same ∙ first-here (after w l place) i count h (lt-ltb place (stopAt w l i) (omega (arith, g .answer))))
+    passes-found stop h g m = sym (k .same ∙ first-here (endsAfter w l place) i count h (lt-ltb place (stopAt w l i) (omega (arith, g .answer))))
 
     pub passes-end : count ≤ i → i ≡ passed w l count index place
     unfolding passed
-    passes-end h = sym (k .same ∙ first-end (after w l place) i count h)
+    passes-end h = sym (k .same ∙ first-end (endsAfter w l place) i count h)
 
 pub ruleset pass-rules = (passes-first, passes-again, passes-found, passes-end)
 
@@ -154,7 +154,7 @@ module _ (w : ℕ) (wide : 2 ≤ w) (l : List ℕ) (count from len : ℕ) (shape
   module _ (index place : ℕ) (low : index ≤ count) (ended : (j : ℕ) → j < index → stopAt w l j ≤ place) where
     passed-within : passed w l count index place ≤ count
     unfolding passed
-    passed-within = first-le (after w l place) index count low
+    passed-within = first-le (endsAfter w l place) index count low
 
     -- so do those that the query skips
     passed-ended : (j : ℕ) → j < passed w l count index place → stopAt w l j ≤ place
@@ -163,11 +163,11 @@ module _ (w : ℕ) (wide : 2 ≤ w) (l : List ℕ) (count from len : ℕ) (shape
       where
         by : (ltb j index ≡ true) ⊎ (ltb j index ≡ false) → stopAt w l j ≤ place
         by (inl u) = ended j (ltb-true j index u)
-        by (inr u) = ltb-false place (stopAt w l j) (first-before (after w l place) index count j (ltb-false j index u) h)
+        by (inr u) = ltb-false place (stopAt w l j) (first-before (endsAfter w l place) index count j (ltb-false j index u) h)
 
     passed-at : passed w l count index place < count → place < stopAt w l (passed w l count index place)
     unfolding passed
-    passed-at h = ltb-true place (stopAt w l (passed w l count index place)) (first-at (after w l place) index count h)
+    passed-at h = ltb-true place (stopAt w l (passed w l count index place)) (first-at (endsAfter w l place) index count h)
 
     query-plain : endAt w l count (passed w l count index place) place ≡ coverage place (rows w count l)
     unfolding endAt

@@ -191,23 +191,23 @@ decimal-digits n =
     by-tenths (λ m l. allDigits l ≡ true) (λ m h. rw (digit-written m h)) (λ m l h w. all-append l ((48 + m % 10) ∷ []) w (rw (digit-written (m % 10) (omega arith)))) n
 
 -- a first digit that is no zero
-abbrev pub Leads : List ℕ → Type 0
-Leads [] = ⊥
-Leads (x ∷ l) = 48 < x
+abbrev pub LeadsNumber : List ℕ → Type 0
+LeadsNumber [] = ⊥
+LeadsNumber (x ∷ l) = 48 < x
 
-leads-append : (a b : List ℕ) → Leads a → Leads (a ++ b)
+leads-append : (a b : List ℕ) → LeadsNumber a → LeadsNumber (a ++ b)
 leads-append [] b h = absurd h
 leads-append (x ∷ a) b h = h
 
 -- of a number that is not 0 the first digit is no zero
-pub decimal-leads : (n : ℕ) → 0 < n → Leads (decimal n)
-decimal-leads n = by-tenths (λ m l. 0 < m → Leads l) (λ m h p. omega arith) (λ m l h w p. leads-append l ((48 + m % 10) ∷ []) (w (omega arith))) n
+pub decimal-leads : (n : ℕ) → 0 < n → LeadsNumber (decimal n)
+decimal-leads n = by-tenths (λ m l. 0 < m → LeadsNumber l) (λ m h p. omega arith) (λ m l h w p. leads-append l ((48 + m % 10) ∷ []) (w (omega arith))) n
 
 -- every number is written without leading zeros
 pub decimal-numeral : (n : ℕ) → numeral (decimal n) ≡ true
 decimal-numeral n = by (decide (ltb 0 n))
   where
-    led : (l : List ℕ) → Leads l → allDigits l ≡ true → numeral l ≡ true
+    led : (l : List ℕ) → LeadsNumber l → allDigits l ≡ true → numeral l ≡ true
     led [] h e = absurd h
     led (x ∷ []) h e = and-true (digit x) true e .0
     led (x ∷ y ∷ l) h e = rw (lt-ltb 48 x h) e

@@ -18,16 +18,16 @@ ten x b = digits-ten x (omega (arith, b .fits))
 
 -- ---- the digits are counted
 -- the digits that are counted and those of what is left are all, and share one
-pub record Counting (x rest count : ℕ) : Type 0 where
+pub record DigitCounting (x rest count : ℕ) : Type 0 where
   pub size : length (decimal rest) + count ≡ length (decimal x) + 1
   pub few : length (decimal x) ≤ 10
 
 module _ (x : ℕ) where
-  pub counting-first : Fits w32 x → Counting x x 1
+  pub counting-first : Fits w32 x → DigitCounting x x 1
   counting-first b = record { size = refl; few = ten x b }
 
-  module _ (rest count : ℕ) (w : Counting x rest count) where
-    pub counting-again : 10 ≤ rest → Counting x (rest / 10) (count + 1)
+  module _ (rest count : ℕ) (w : DigitCounting x rest count) where
+    pub counting-again : 10 ≤ rest → DigitCounting x (rest / 10) (count + 1)
     counting-again h = record { size = omega (arith, decimal-size rest h, w .size); few = w .few }
 
     pub counting-end : rest < 10 → Gives (length (decimal x)) count

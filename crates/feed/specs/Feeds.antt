@@ -16,8 +16,8 @@ use Rattle.feed.specs.declared.Head.{Head}
 use Rattle.feed.specs.declared.Head.the-variants as head
 use Rattle.feed.specs.declared.Pick.{Pick}
 use Rattle.feed.specs.declared.Pick.the-variants as pick
-use Rattle.feed.specs.declared.Marks.{Marks}
-use Rattle.feed.specs.declared.Numbers.{Numbers}
+use Rattle.feed.specs.declared.MarksAhead.{MarksAhead}
+use Rattle.feed.specs.declared.NumbersAhead.{NumbersAhead}
 use Rattle.feed.specs.declared.Feed.{Feed}
 use Rattle.feed.specs.declared.Taken.{Taken}
 
@@ -33,16 +33,16 @@ abbrev pub numberHead : List ℕ → Head
 numberHead = headBy (λ l. counted (numbered.scanner .back l))
 
 -- what a state's step answers as the head, and the state after it
-unfoldable pub marksAfter : List Bool → List ℕ → BlockMarkerIter → Marks
+unfoldable pub marksAfter : List Bool → List ℕ → BlockMarkerIter → MarksAhead
 marksAfter set s g = record { head = markHead (marker.answer g set s .values); rest = marker.state g set s }
 
-unfoldable pub numbersAfter : List Bool → List ℕ → BlockNumberedIter → Numbers
+unfoldable pub numbersAfter : List Bool → List ℕ → BlockNumberedIter → NumbersAhead
 numbersAfter set s g = record { head = numberHead (numbered.answer g set s .values); rest = numbered.state g set s }
 
 -- ---- both
 -- the beginning: "both scanned from place 0", by fresh states
-unfoldable pub begun : Grammar → List Bool → List Bool → List ℕ → Feed
-begun g markers delims s = record {
+unfoldable pub freshFeed : Grammar → List Bool → List Bool → List ℕ → Feed
+freshFeed g markers delims s = record {
   marks = marksAfter markers s (marker.fresh (g .eol) (g .sep) (g .tab) markers);
   numbers = numbersAfter delims s (numbered.fresh (g .eol) (g .sep) (g .tab) delims);
 }

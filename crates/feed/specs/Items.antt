@@ -7,8 +7,10 @@ use Prim.Native.Nat.{ℕ}
 use lib.Dec.{ltb}
 use Rattle.common.specs.declared.grammar.Grammar.{Grammar}
 use Rattle.block_marker.specs.Marker as marker
+use Rattle.block_marker.specs.declared.BlockMarkerIter.{BlockMarkerIter}
 use Rattle.block_marker.specs.declared.MarkerItem.{MarkerItem}
 use Rattle.block_numbered.specs.Numbered as numbered
+use Rattle.block_numbered.specs.declared.BlockNumberedIter.{BlockNumberedIter}
 use Rattle.block_numbered.specs.declared.NumberedItem.{NumberedItem}
 use Rattle.feed.specs.declared.item.SheetItem.{SheetItem}
 
@@ -22,12 +24,19 @@ abbrev pub counted : NumberedItem → SheetItem
 counted i = record { start = i .span .start; end = i .span .end; kind = 1; byte = i .delimiter; number = i .number }
 
 -- ---- all of them
--- "the marker and numbered items, both scanned from place 0": all that a fresh state's scan has before it
-unfoldable pub markItems : Grammar → List Bool → List ℕ → List SheetItem
-markItems g set s = map marked (marker.items (marker.fresh (g .eol) (g .sep) (g .tab) set) set s)
+-- the items that a state's scan has before it
+unfoldable pub markItemsFrom : BlockMarkerIter → List Bool → List ℕ → List SheetItem
+markItemsFrom g set s = map marked (marker.items g set s)
 
-unfoldable pub numberedItems : Grammar → List Bool → List ℕ → List SheetItem
-numberedItems g set s = map counted (numbered.items (numbered.fresh (g .eol) (g .sep) (g .tab) set) set s)
+unfoldable pub numberedItemsFrom : BlockNumberedIter → List Bool → List ℕ → List SheetItem
+numberedItemsFrom g set s = map counted (numbered.items g set s)
+
+-- "the marker and numbered items, both scanned from place 0": those that a fresh state's scan has before it
+abbrev pub markItems : Grammar → List Bool → List ℕ → List SheetItem
+markItems g set s = markItemsFrom (marker.fresh (g .eol) (g .sep) (g .tab) set) set s
+
+abbrev pub numberedItems : Grammar → List Bool → List ℕ → List SheetItem
+numberedItems g set s = numberedItemsFrom (numbered.fresh (g .eol) (g .sep) (g .tab) set) set s
 
 -- marker items and numbered items in one list: "by rising content start, the marker item first where two are equal"
 unfoldable pub merge : List SheetItem → List SheetItem → List SheetItem
@@ -35,6 +44,6 @@ merge [] ys = ys
 merge (x ∷ xs) [] = x ∷ xs
 merge (x ∷ xs) (y ∷ ys) = elim (ltb (y .start) (x .start)) [ true ↦ y ∷ merge (x ∷ xs) ys | false ↦ x ∷ merge xs (y ∷ ys) ]
 
--- the place that decides: the "content start"
-abbrev pub placeOf : SheetItem → ℕ
-placeOf i = i .start
+-- an item's "content start": what the order goes by, and what a region hides it by
+abbrev pub contentStart : SheetItem → ℕ
+contentStart i = i .start

@@ -1,6 +1,6 @@
 // The items of a work sheet, from both scanners.
 ghost use Rattle.search.specs.Promise.{Gives};
-ghost use Rattle.feed.specs.Items.{placeOf};
+ghost use Rattle.feed.specs.Items.{contentStart};
 
 // Where the content starts and ends, the kind (0 marker, 1 numbered), the accepted byte, and the number (0 for a marker).
 pub struct SheetItem {
@@ -11,9 +11,9 @@ pub struct SheetItem {
     pub number: u32,
 }
 
-// The place that a region hides an item by.
-pub fn place_of(item: SheetItem) -> usize
-    ensures { λ r. ⌜ Gives (placeOf item) r ⌝ }
+// Where the item's content starts: a region hides the item if it holds this place, whatever else of the item it holds.
+pub fn content_start(item: SheetItem) -> usize
+    ensures { λ r. ⌜ Gives (contentStart item) r ⌝ }
 {
     item.start as usize
 }

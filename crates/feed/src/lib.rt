@@ -9,7 +9,7 @@ use block_numbered::NumberedFound;
 use common::grammar::Grammar;
 use item::SheetItem;
 ghost use Rattle.search.specs.Promise.{Gives};
-ghost use Rattle.feed.specs.Feeds.{marksAfter, numbersAfter, begun, picked, taken};
+ghost use Rattle.feed.specs.Feeds.{marksAfter, numbersAfter, freshFeed, picked, taken};
 
 // The next item, or the end of the run.
 pub enum Head {
@@ -18,21 +18,21 @@ pub enum Head {
 }
 
 // The marker scanner, one item ahead.
-pub struct Marks {
+pub struct MarksAhead {
     pub head: Head,
     pub rest: BlockMarkerIter,
 }
 
 // The numbered scanner, one item ahead.
-pub struct Numbers {
+pub struct NumbersAhead {
     pub head: Head,
     pub rest: BlockNumberedIter,
 }
 
 // Both.
 pub struct Feed {
-    pub marks: Marks,
-    pub numbers: Numbers,
+    pub marks: MarksAhead,
+    pub numbers: NumbersAhead,
 }
 
 // The next item of both, and what comes after it.
@@ -49,14 +49,14 @@ enum Pick {
 }
 
 // The marker scanner's next item.
-fn next_mark(g: BlockMarkerIter, src: &[u8], set: &[bool; 256]) -> Marks
+fn next_mark(g: BlockMarkerIter, src: &[u8], set: &[bool; 256]) -> MarksAhead
     ensures { λ r. ⌜ Gives (marksAfter (now (set .entry)) (now (src .entry)) g) r ⌝ }
 {
     let step = g.next(src, set);
     let rest = step.next;
     let found = step.found;
     match found {
-        MarkerFound::Item(i) => Marks {
+        MarkerFound::Item(i) => MarksAhead {
             head: Head::Item(SheetItem {
                 start: i.span.start,
                 end: i.span.end,
@@ -66,11 +66,11 @@ fn next_mark(g: BlockMarkerIter, src: &[u8], set: &[bool; 256]) -> Marks
             }),
             rest,
         },
-        MarkerFound::Nothing => Marks {
+        MarkerFound::Nothing => MarksAhead {
             head: Head::End,
             rest,
         },
-        MarkerFound::Refused(_) => Marks {
+        MarkerFound::Refused(_) => MarksAhead {
             head: Head::End,
             rest,
         },
@@ -78,14 +78,14 @@ fn next_mark(g: BlockMarkerIter, src: &[u8], set: &[bool; 256]) -> Marks
 }
 
 // The numbered scanner's next item.
-fn next_number(g: BlockNumberedIter, src: &[u8], set: &[bool; 256]) -> Numbers
+fn next_number(g: BlockNumberedIter, src: &[u8], set: &[bool; 256]) -> NumbersAhead
     ensures { λ r. ⌜ Gives (numbersAfter (now (set .entry)) (now (src .entry)) g) r ⌝ }
 {
     let step = g.next(src, set);
     let rest = step.next;
     let found = step.found;
     match found {
-        NumberedFound::Item(i) => Numbers {
+        NumberedFound::Item(i) => NumbersAhead {
             head: Head::Item(SheetItem {
                 start: i.span.start,
                 end: i.span.end,
@@ -95,11 +95,11 @@ fn next_number(g: BlockNumberedIter, src: &[u8], set: &[bool; 256]) -> Numbers
             }),
             rest,
         },
-        NumberedFound::Nothing => Numbers {
+        NumberedFound::Nothing => NumbersAhead {
             head: Head::End,
             rest,
         },
-        NumberedFound::Refused(_) => Numbers {
+        NumberedFound::Refused(_) => NumbersAhead {
             head: Head::End,
             rest,
         },
@@ -108,7 +108,7 @@ fn next_number(g: BlockNumberedIter, src: &[u8], set: &[bool; 256]) -> Numbers
 
 // Both scanners from the text's start, by fresh states.
 pub fn start(g: Grammar, src: &[u8], markers: &[bool; 256], delims: &[bool; 256]) -> Feed
-    ensures { λ r. ⌜ Gives (begun g (now (markers .entry)) (now (delims .entry)) (now (src .entry))) r ⌝ }
+    ensures { λ r. ⌜ Gives (freshFeed g (now (markers .entry)) (now (delims .entry)) (now (src .entry))) r ⌝ }
 {
     let marks = next_mark(
         BlockMarkerIter::new(g.eol, g.sep, g.tab, markers),

@@ -14,16 +14,17 @@ use Rattle.search.specs.SearchLaws.{decide, clash, and-true, is-yes, either-tru
 use Rattle.lines.specs.Fences.{runCount, opensRun, closesRun}
 use Rattle.common.specs.Refusals.{Outcome, refused, spanValues}
 use Rattle.common.specs.RefusalLaws.{span-unique}
-use Rattle.common.specs.Turn.{Turn, go, stop, found, firstTurn, Ahead, Adv}
+use Rattle.common.specs.Turn.{Turn, go, stop, found, firstTurn}
+use Rattle.common.specs.Turning.{Ahead, Adv}
 use Rattle.common.specs.Items.{said, placeOf}
 use Rattle.common.specs.ItemLaws.{step-long, step-past, step-seen}
-use Rattle.fence.specs.Fence.{Fence, at, runEnd, runLine, after, begins, closes, closedAt, closeEnd, fenceAt, openLine, openTurn, view, firstOpen, answer, state}
+use Rattle.fence.specs.Fence.{Fence, at, wholeRunEnd, runLine, lineAfter, begins, closes, spanEnd, closeEnd, fenceAt, openLine, openTurn, rests, firstOpen, answer, state}
 use Rattle.fence.specs.Steps.{CloseTurned, Kept}
 use Rattle.fence.specs.declared.FenceIter.{FenceIter}
 use Rattle.fence.specs.declared.FenceStep.{FenceStep}
 use Rattle.fence.specs.declared.CloseTurn.{CloseTurn}
 use Rattle.fence.specs.declared.CloseTurn.the-variants as close
-use Rattle.fence.specs.declared.Turn.{Turn as Told}
+use Rattle.fence.specs.declared.Opened.{Opened}
 
 -- ---- a run of the fence byte that begins at q
 module _ (g : FenceIter) (s : List ℕ) where
@@ -45,47 +46,47 @@ module _ (g : FenceIter) (s : List ℕ) where
 
   module _ (q : ℕ) (here : holds (is (g .byte)) s q ≡ true) where
     -- it is not empty
-    pub run-some : q < runEnd g s q
+    pub run-some : q < wholeRunEnd g s q
     run-some =
         let w = holds-true (is (g .byte)) s q here in
         omega (arith, find-next (other (is (g .byte))) s q (w .0) (other-no (is (g .byte)) (getD s q 0) (w .1)), find-ge (other (is (g .byte))) s (q + 1))
 
     -- its parts end where it does
-    run-same : (k : ℕ) → q ≤ k → k ≤ runEnd g s q → runEnd g s k ≡ runEnd g s q
+    run-same : (k : ℕ) → q ≤ k → k ≤ wholeRunEnd g s q → wholeRunEnd g s k ≡ wholeRunEnd g s q
     run-same k h l = sym (find-from (other (is (g .byte))) s q k (let w = holds-true (is (g .byte)) s q here in omega arith) h l)
 
     -- up to its line's end no other run begins a line than a part of it
-    run-only : (k : ℕ) → k ≤ runLine g s q → begins g s k ≡ true → k < runEnd g s q
-    run-only k l b = by (decide (ltb k (runEnd g s q))) (decide (ltb (runEnd g s q) k))
+    run-only : (k : ℕ) → k ≤ runLine g s q → begins g s k ≡ true → k < wholeRunEnd g s q
+    run-only k l b = by (decide (ltb k (wholeRunEnd g s q))) (decide (ltb (wholeRunEnd g s q) k))
       where
-        by : (ltb k (runEnd g s q) ≡ true) ⊎ (ltb k (runEnd g s q) ≡ false) → (ltb (runEnd g s q) k ≡ true) ⊎ (ltb (runEnd g s q) k ≡ false) → k < runEnd g s q
-        by (inl u) v = ltb-true k (runEnd g s q) u
-        by (inr u) (inl v) = absurd (clash (begins-true k b .0) (line-one (g .eol) s (runEnd g s q) k (ltb-true (runEnd g s q) k v) l))
+        by : (ltb k (wholeRunEnd g s q) ≡ true) ⊎ (ltb k (wholeRunEnd g s q) ≡ false) → (ltb (wholeRunEnd g s q) k ≡ true) ⊎ (ltb (wholeRunEnd g s q) k ≡ false) → k < wholeRunEnd g s q
+        by (inl u) v = ltb-true k (wholeRunEnd g s q) u
+        by (inr u) (inl v) = absurd (clash (begins-true k b .0) (line-one (g .eol) s (wholeRunEnd g s q) k (ltb-true (wholeRunEnd g s q) k v) l))
         by (inr u) (inr v) =
-            let z : k ≡ runEnd g s q = omega (arith, ltb-false k (runEnd g s q) u, ltb-false (runEnd g s q) k v) in
+            let z : k ≡ wholeRunEnd g s q = omega (arith, ltb-false k (wholeRunEnd g s q) u, ltb-false (wholeRunEnd g s q) k v) in
             let w = holds-true (is (g .byte)) s k (begins-true k b .1) in
-            absurd (clash (find-at (other (is (g .byte))) s q (omega arith)) (other-no (is (g .byte)) (getD s (runEnd g s q) 0) (rw z at (w .1))))
+            absurd (clash (find-at (other (is (g .byte))) s q (omega arith)) (other-no (is (g .byte)) (getD s (wholeRunEnd g s q) 0) (rw z at (w .1))))
 
 -- ---- places that begin a run which passes a test: `R q j e` is of the run from q up to j, in a line that ends at e
 abbrev pub passes : FenceIter → List ℕ → (ℕ → ℕ → ℕ → Bool) → ℕ → Bool
-passes g s R q = begins g s q && R q (runEnd g s q) (runLine g s q)
+passes g s R q = begins g s q && R q (wholeRunEnd g s q) (runLine g s q)
 
 -- a test that the last part of a run fails if the run does
-abbrev pub Parts : (ℕ → ℕ → ℕ → Bool) → Type 0
-Parts R = (a b j e : ℕ) → a ≤ b → R a j e ≡ false → R b j e ≡ false
+abbrev pub PartsRuns : (ℕ → ℕ → ℕ → Bool) → Type 0
+PartsRuns R = (a b j e : ℕ) → a ≤ b → R a j e ≡ false → R b j e ≡ false
 
-module _ (g : FenceIter) (s : List ℕ) (R : ℕ → ℕ → ℕ → Bool) (parts : Parts R) where
+module _ (g : FenceIter) (s : List ℕ) (R : ℕ → ℕ → ℕ → Bool) (parts : PartsRuns R) where
   passes-not : (k : ℕ) → begins g s k ≡ false → passes g s R k ≡ false
   passes-not k e = rw e
 
   -- after a run that fails no place up to its line's end passes
-  passed : (q : ℕ) → holds (is (g .byte)) s q ≡ true → R q (runEnd g s q) (runLine g s q) ≡ false → (k : ℕ) → q ≤ k → k ≤ runLine g s q → passes g s R k ≡ false
+  passed : (q : ℕ) → holds (is (g .byte)) s q ≡ true → R q (wholeRunEnd g s q) (runLine g s q) ≡ false → (k : ℕ) → q ≤ k → k ≤ runLine g s q → passes g s R k ≡ false
   passed q here e k h l = by (decide (begins g s k))
     where
       by : (begins g s k ≡ true) ⊎ (begins g s k ≡ false) → passes g s R k ≡ false
       by (inl b) =
           let m = run-only g s q here k l b in
-          rw (run-same g s q here k h (omega arith), parts q k (runEnd g s q) (runLine g s q) h e) (and-false (begins g s k))
+          rw (run-same g s q here k h (omega arith), parts q k (wholeRunEnd g s q) (runLine g s q) h e) (and-false (begins g s k))
       by (inr b) = passes-not k b
 
   -- where q is the first fence byte at or after `from`
@@ -109,8 +110,8 @@ module _ (g : FenceIter) (s : List ℕ) (R : ℕ → ℕ → ℕ → Bool) (part
       pub byte-here : holds (is (g .byte)) s q ≡ true
       byte-here = holds-in (is (g .byte)) s q inside ∙ (rw (← (hq .here)) at (find-at (is (g .byte)) s from (omega (arith, hq .here))))
 
-      after-in : (q < after g s q) × (after g s q ≤ length s)
-      after-in = (omega (arith, run-some g s q byte-here, find-ge (is (g .eol)) s (runEnd g s q)), omega arith)
+      after-in : (q < lineAfter g s q) × (lineAfter g s q ≤ length s)
+      after-in = (omega (arith, run-some g s q byte-here, find-ge (is (g .eol)) s (wholeRunEnd g s q)), omega arith)
 
       pub first-skip : lineStart (g .eol) s q ≡ false → firstPlace (passes g s R) from (length s) ≡ firstPlace (passes g s R) (q + 1) (length s)
       first-skip e = first-over (passes g s R) from (q + 1) (length s) (omega (arith, hq .low)) (omega arith) miss
@@ -120,15 +121,15 @@ module _ (g : FenceIter) (s : List ℕ) (R : ℕ → ℕ → ℕ → Bool) (part
               ⊎-elim (λ (u : ltb k q ≡ true). before k h (ltb-true k q u))
               (λ u. let z : k ≡ q = omega (arith, ltb-false k q u) in passes-not k (rw z (begins-start g s q e))) (decide (ltb k q))
 
-      pub first-miss : R q (runEnd g s q) (runLine g s q) ≡ false → firstPlace (passes g s R) from (length s) ≡ firstPlace (passes g s R) (after g s q) (length s)
-      first-miss e = first-over (passes g s R) from (after g s q) (length s) (omega (arith, hq .low, after-in)) (after-in .1) miss
+      pub first-miss : R q (wholeRunEnd g s q) (runLine g s q) ≡ false → firstPlace (passes g s R) from (length s) ≡ firstPlace (passes g s R) (lineAfter g s q) (length s)
+      first-miss e = first-over (passes g s R) from (lineAfter g s q) (length s) (omega (arith, hq .low, after-in)) (after-in .1) miss
         where
-          miss : (k : ℕ) → from ≤ k → k < after g s q → passes g s R k ≡ false
+          miss : (k : ℕ) → from ≤ k → k < lineAfter g s q → passes g s R k ≡ false
           miss k h l =
               ⊎-elim (λ (u : ltb k q ≡ true). before k h (ltb-true k q u))
               (λ u. passed q byte-here e k (ltb-false k q u) (omega arith)) (decide (ltb k q))
 
-      pub first-meet : lineStart (g .eol) s q ≡ true → R q (runEnd g s q) (runLine g s q) ≡ true → firstPlace (passes g s R) from (length s) ≡ q
+      pub first-meet : lineStart (g .eol) s q ≡ true → R q (wholeRunEnd g s q) (runLine g s q) ≡ true → firstPlace (passes g s R) from (length s) ≡ q
       first-meet b e =
           first-over (passes g s R) from q (length s) (hq .low) (omega arith) before
           ∙ first-here (passes g s R) q (length s) inside (rw (begins-yes g s q b byte-here, e))
@@ -145,9 +146,9 @@ short-part least a b j h e = lt-leb least (runCount b j) (omega (arith, leb-fals
 
 -- the test of a closing run
 abbrev shuts : FenceIter → ℕ → List ℕ → ℕ → ℕ → ℕ → Bool
-shuts g count s q j e = closesRun (g .sep) (g .tab) count s q j e
+shuts g count s q j e = closesRun (either (g .sep) (g .tab)) count s q j e
 
-shuts-parts : (g : FenceIter) (count : ℕ) (s : List ℕ) → Parts (shuts g count s)
+shuts-parts : (g : FenceIter) (count : ℕ) (s : List ℕ) → PartsRuns (shuts g count s)
 shuts-parts g count s a b j e h =
     let y = leb e (find (other (either (g .sep) (g .tab))) s j) in
     and-fewer (leb count (runCount a j)) (leb count (runCount b j)) y y (short-part count a b j h) (λ z. z)
@@ -156,7 +157,7 @@ shuts-parts g count s a b j e h =
 abbrev pub unlocks : FenceIter → List ℕ → ℕ → ℕ → ℕ → Bool
 unlocks g s p j e = opensRun (g .byte) (g .min) s p j e
 
-pub unlocks-parts : (g : FenceIter) (s : List ℕ) → Parts (unlocks g s)
+pub unlocks-parts : (g : FenceIter) (s : List ℕ) → PartsRuns (unlocks g s)
 unlocks-parts g s a b j e h =
     let x = leb (g .min) (runCount a j) in
     let x′ = leb (g .min) (runCount b j) in
@@ -168,13 +169,13 @@ module _ (g : FenceIter) (count : ℕ) (s : List ℕ) where
   -- it depends on the place of the closing line alone
   close-at : (q n : ℕ) → firstPlace (closes g count s) q (length s) ≡ firstPlace (closes g count s) n (length s) → closeEnd g count s q ≡ closeEnd g count s n
   unfolding closeEnd
-  close-at q n e = ap (λ (p : ℕ). closedAt g s (ltb p (length s)) p) e
+  close-at q n e = ap (λ (p : ℕ). spanEnd g s (ltb p (length s)) p) e
 
   close-past : (q : ℕ) → length s ≤ firstPlace (closes g count s) q (length s) → length s ≡ closeEnd g count s q
   unfolding closeEnd
   close-past q h = rw (le-ltb (firstPlace (closes g count s) q (length s)) (length s) h)
 
-  close-on : (q p : ℕ) → firstPlace (closes g count s) q (length s) ≡ p → p < length s → after g s p ≡ closeEnd g count s q
+  close-on : (q p : ℕ) → firstPlace (closes g count s) q (length s) ≡ p → p < length s → lineAfter g s p ≡ closeEnd g count s q
   unfolding closeEnd
   close-on q p e h = rw (e, lt-ltb p (length s) h)
 
@@ -187,10 +188,10 @@ module _ (g : FenceIter) (count : ℕ) (s : List ℕ) where
       by : (ltb p (length s) ≡ true) ⊎ (ltb p (length s) ≡ false) → (from ≤ closeEnd g count s from) × (closeEnd g count s from ≤ length s)
       by (inl u) =
           let l = ltb-true p (length s) u in
-          let e : after g s p ≡ closeEnd g count s from = close-on from p refl l in
+          let e : lineAfter g s p ≡ closeEnd g count s from = close-on from p refl l in
           let w = first-ge (closes g count s) from (length s) in
           let r = find-ge (other (is (g .byte))) s p in
-          let t = find-ge (is (g .eol)) s (runEnd g s p) in
+          let t = find-ge (is (g .eol)) s (wholeRunEnd g s p) in
           (omega arith, omega arith)
       by (inr u) = let e : length s ≡ closeEnd g count s from = close-past from (ltb-false p (length s) u) in (omega arith, omega arith)
 
@@ -211,11 +212,11 @@ module _ (g : FenceIter) (count : ℕ) (s : List ℕ) where
 
       -- its run ends at j, its line at e, and n is the place after it
       module _ (start : y ≡ true) (j : ℕ) (hj : Sought (other (is (g .byte))) s q j) (e : ℕ) (he : Sought (is (g .eol)) s j e) (n : ℕ) (hn : Gives (nextLine (length s) e) n) (c : ℕ) (hc : Gives (runCount q j) c) where
-        close-miss : shuts g count s q (runEnd g s q) (runLine g s q) ≡ false → CloseTurned g count s from (close.Go n)
+        close-miss : shuts g count s q (wholeRunEnd g s q) (runLine g s q) ≡ false → CloseTurned g count s from (close.Go n)
         unfolding CloseTurned closes
         close-miss f =
-            let z : n ≡ after g s q = hn .answer ∙ ap (nextLine (length s)) (he .here ∙ ap (lineEnd (g .eol) s) (hj .here)) in
-            (omega (arith, hq .low, hj .low, he .low, hn .answer), omega (arith, hn .answer), rw z (close-at from (after g s q) (first-miss g s (shuts g count s) (shuts-parts g count s) from q hq inside f)))
+            let z : n ≡ lineAfter g s q = hn .answer ∙ ap (nextLine (length s)) (he .here ∙ ap (lineEnd (g .eol) s) (hj .here)) in
+            (omega (arith, hq .low, hj .low, he .low, hn .answer), omega (arith, hn .answer), rw z (close-at from (lineAfter g s q) (first-miss g s (shuts g count s) (shuts-parts g count s) from q hq inside f)))
 
         pub close-short : c < count → CloseTurned g count s from (close.Go n)
         close-short l = close-miss (simp (← (hj .here), ← (hc .answer), lt-leb count c l))
@@ -233,10 +234,10 @@ module _ (g : FenceIter) (count : ℕ) (s : List ℕ) where
 pub ruleset close-turn-rules = (close-none, close-skip, close-short, close-text, close-found)
 
 -- the loop: from the place that it has come to, the search has the same answer
-pub record Closes (g : FenceIter) (count : ℕ) (s : List ℕ) (from q : ℕ) : Type 0 where
+pub record FenceCloses (g : FenceIter) (count : ℕ) (s : List ℕ) (from q : ℕ) : Type 0 where
   pub same : closeEnd g count s from ≡ closeEnd g count s q
 
-pub closes-first : (g : FenceIter) (count : ℕ) (s : List ℕ) (q : ℕ) → Closes g count s q q
+pub closes-first : (g : FenceIter) (count : ℕ) (s : List ℕ) (q : ℕ) → FenceCloses g count s q q
 closes-first g count s q = record { same = refl }
 
 module _ (g : FenceIter) (count : ℕ) (s : List ℕ) (from q : ℕ) (d : CloseTurn) (turned : CloseTurned g count s q d) where
@@ -244,11 +245,11 @@ module _ (g : FenceIter) (count : ℕ) (s : List ℕ) (from q : ℕ) (d : CloseT
   unfolding CloseTurned
   closes-less n e = let w = subst (CloseTurned g count s q) e turned in omega (arith, w)
 
-  pub closes-again : (n : ℕ) → d ≡ close.Go n → Closes g count s from q → Closes g count s from n
+  pub closes-again : (n : ℕ) → d ≡ close.Go n → FenceCloses g count s from q → FenceCloses g count s from n
   unfolding CloseTurned
   closes-again n e w = record { same = w .same ∙ subst (CloseTurned g count s q) e turned .2 }
 
-  pub closes-end : (n : ℕ) → d ≡ close.End n → Closes g count s from q → n ≡ closeEnd g count s from
+  pub closes-end : (n : ℕ) → d ≡ close.End n → FenceCloses g count s from q → n ≡ closeEnd g count s from
   unfolding CloseTurned
   closes-end n e w = subst (CloseTurned g count s q) e turned ∙ sym (w .same)
 
@@ -319,23 +320,23 @@ pub lies-end : (q n : ℕ) (f : Fence) → Lies q n f → f .end ≤ n
 lies-end q n f l = omega arith
 
 -- a fence that opens at p
-pub fence-lies : (g : FenceIter) (s : List ℕ) (p : ℕ) → holds (is (g .byte)) s p ≡ true → (p < after g s p) × (p < fenceAt g s p .end) × (fenceAt g s p .end ≤ length s)
+pub fence-lies : (g : FenceIter) (s : List ℕ) (p : ℕ) → holds (is (g .byte)) s p ≡ true → (p < lineAfter g s p) × (p < fenceAt g s p .end) × (fenceAt g s p .end ≤ length s)
 fence-lies g s p here =
     let w = holds-true (is (g .byte)) s p here in
-    let m : p < after g s p = omega (arith, run-some g s p here, find-ge (is (g .eol)) s (runEnd g s p)) in
-    let c = close-inside g (runCount p (runEnd g s p)) s (after g s p) (omega arith) in
+    let m : p < lineAfter g s p = omega (arith, run-some g s p here, find-ge (is (g .eol)) s (wholeRunEnd g s p)) in
+    let c = close-inside g (runCount p (wholeRunEnd g s p)) s (lineAfter g s p) (omega arith) in
     (m, omega arith, omega arith)
 
 pub turn-adv : (g : FenceIter) (s : List ℕ) → Adv Lies (openTurn g s) (length s)
 unfolding openTurn
 turn-adv g s = record { ahead = λ q h. by q h (find (is (g .byte)) s q) (sought (is (g .byte)) s q (find (is (g .byte)) s q) refl) (ltb (find (is (g .byte)) s q) (length s)) refl }
   where
-    line : (q p : ℕ) → q ≤ p → holds (is (g .byte)) s p ≡ true → (y : Bool) → Ahead Lies q (length s) (cond y (found (fenceAt g s p) (fenceAt g s p .end)) (go (after g s p)))
+    line : (q p : ℕ) → q ≤ p → holds (is (g .byte)) s p ≡ true → (y : Bool) → Ahead Lies q (length s) (cond y (found (fenceAt g s p) (fenceAt g s p .end)) (go (lineAfter g s p)))
     line q p h here true = let w = fence-lies g s p here in (omega arith, omega arith, (omega arith, omega arith, omega arith))
     line q p h here false = let w = fence-lies g s p here in (omega arith, omega arith)
 
     start : (q p : ℕ) → q ≤ p → holds (is (g .byte)) s p ≡ true → (y : Bool) → Ahead Lies q (length s) (cond y (openLine g s p) (go (p + 1)))
-    start q p h here true = line q p h here (unlocks g s p (runEnd g s p) (runLine g s p))
+    start q p h here true = line q p h here (unlocks g s p (wholeRunEnd g s p) (runLine g s p))
     start q p h here false = let w = holds-true (is (g .byte)) s p here in (omega arith, omega arith)
 
     by : (q : ℕ) → q ≤ length s → (p : ℕ) → Sought (is (g .byte)) s q p → (x : Bool) → ltb p (length s) ≡ x → Ahead Lies q (length s) (cond x (cond (lineStart (g .eol) s p) (openLine g s p) (go (p + 1))) (stop q))
@@ -353,11 +354,11 @@ module _ (g : FenceIter) (s : List ℕ) where
     unfolding answer state
     next-outside l = step-past spanValues at g s (g .pos) (firstOpen g s) l fits
 
-    -- d is the code's turn, e what a `match` told that d is, h the state that comes back
-    pub next-told : g .pos ≤ length s → (d e : Told) (h : FenceIter) (o : Outcome) → d ≡ e → Gives (firstTurn (openTurn g s) (length s) (g .pos)) (view d) → o ≡ said spanValues (view e) → Gives (at g (placeOf (view e))) h
+    -- d is what the code's scan came to, e what a `match` told that d is, h the state that comes back
+    pub next-told : g .pos ≤ length s → (d e : Opened) (h : FenceIter) (o : Outcome) → d ≡ e → Gives (firstTurn (openTurn g s) (length s) (g .pos)) (rests d) → o ≡ said spanValues (rests e) → Gives (at g (placeOf (rests e))) h
         → Steps (answer g s) (state g s) o h
     unfolding answer state firstOpen
-    next-told inside d e h o = step-seen spanValues at g s (g .pos) (firstOpen g s) inside fits view d e o h
+    next-told inside d e h o = step-seen spanValues at g s (g .pos) (firstOpen g s) inside fits rests d e o h
 
 -- ---- two results of a step that keep its promise are one
 pub next-unique : (g : FenceIter) (s : List ℕ) (r r′ : FenceStep) → Kept g s r → Kept g s r′ → (r .found ≡ r′ .found) × (r .next ≡ r′ .next)

@@ -16,9 +16,10 @@ use Rattle.lines.specs.Fences.{runCount}
 use Rattle.common.specs.Refusals.{Outcome, spanValues, spanBack, toldSpan}
 use Rattle.common.specs.Items.{stepFor}
 use Rattle.common.specs.ItemLaws.{step-taken}
-use Rattle.common.specs.Turn.{Turn, go, stop, found, thenCollect, firstTurn, allFound, Ahead, Adv, Step, drain, stepOf}
+use Rattle.common.specs.Turn.{Turn, go, stop, found, thenCollect, firstTurn, allFound, Step, drain, stepOf}
+use Rattle.common.specs.Turning.{Ahead, Adv}
 use Rattle.common.specs.TurnLaws.{collect-stop, collect-found, collect-alike, drain-state, all-only}
-use Rattle.fence.specs.Fence.{Fence, fresh, at, runEnd, runLine, after, begins, opens, closes, closedAt, closeEnd, fenceAt, nextAt, nextFence, fences, openTurn, firstOpen, answer, state}
+use Rattle.fence.specs.Fence.{Fence, fresh, at, wholeRunEnd, runLine, lineAfter, begins, opens, closes, spanEnd, closeEnd, fenceAt, nextAt, nextFence, fences, openTurn, firstOpen, answer, state}
 use Rattle.fence.specs.Steps.{Kept, toldStep, stepped}
 use Rattle.fence.specs.Laws.{begins-true, unlocks, unlocks-parts, first-gone, first-skip, first-miss, first-meet, Lies, fence-lies, turn-adv, turn-stop, turn-skip, turn-line}
 use Rattle.fence.specs.declared.FenceIter.{FenceIter}
@@ -45,7 +46,7 @@ module _ (g : FenceIter) (s : List ℕ) where
 
   opens-begins : (p : ℕ) → opens g s p ≡ true → begins g s p ≡ true
   unfolding opens
-  opens-begins p e = and-true (begins g s p) (unlocks g s p (runEnd g s p) (runLine g s p)) e .0
+  opens-begins p e = and-true (begins g s p) (unlocks g s p (wholeRunEnd g s p) (runLine g s p)) e .0
 
   next-adv : Adv Lies (nextFence g s) (length s)
   unfolding nextFence
@@ -68,17 +69,17 @@ module _ (g : FenceIter) (s : List ℕ) where
       All : ℕ → List Fence
       All = allFound (nextFence g s) (length s)
 
-      line : (p : ℕ) → Sought (is (g .byte)) s q p → p < length s → lineStart (g .eol) s p ≡ true → (unlocks g s p (runEnd g s p) (runLine g s p) ≡ true) ⊎ (unlocks g s p (runEnd g s p) (runLine g s p) ≡ false)
+      line : (p : ℕ) → Sought (is (g .byte)) s q p → p < length s → lineStart (g .eol) s p ≡ true → (unlocks g s p (wholeRunEnd g s p) (runLine g s p) ≡ true) ⊎ (unlocks g s p (wholeRunEnd g s p) (runLine g s p) ≡ false)
           → All q ≡ thenCollect All (openTurn g s q)
       line p hp l b (inl u) =
           collect-found next-adv h (next-is q p (first-meet g s (unlocks g s) (unlocks-parts g s) q p hp l b u) l)
           ∙ ap (thenCollect All) (turn-line g s q p hp l true (record { answer = sym b }) refl (found (fenceAt g s p) (fenceAt g s p .end)) (record { answer = rw u }))
       line p hp l b (inr u) =
-          collect-alike next-adv h (omega arith) (next-alike q (after g s p) (first-miss g s (unlocks g s) (unlocks-parts g s) q p hp l u))
-          ∙ ap (thenCollect All) (turn-line g s q p hp l true (record { answer = sym b }) refl (go (after g s p)) (record { answer = rw u }))
+          collect-alike next-adv h (omega arith) (next-alike q (lineAfter g s p) (first-miss g s (unlocks g s) (unlocks-parts g s) q p hp l u))
+          ∙ ap (thenCollect All) (turn-line g s q p hp l true (record { answer = sym b }) refl (go (lineAfter g s p)) (record { answer = rw u }))
 
       start : (p : ℕ) → Sought (is (g .byte)) s q p → p < length s → (lineStart (g .eol) s p ≡ true) ⊎ (lineStart (g .eol) s p ≡ false) → All q ≡ thenCollect All (openTurn g s q)
-      start p hp l (inl b) = line p hp l b (decide (unlocks g s p (runEnd g s p) (runLine g s p)))
+      start p hp l (inl b) = line p hp l b (decide (unlocks g s p (wholeRunEnd g s p) (runLine g s p)))
       start p hp l (inr b) =
           collect-alike next-adv h (omega arith) (next-alike q (p + 1) (first-skip g s (unlocks g s) (unlocks-parts g s) q p hp l b))
           ∙ ap (thenCollect All) (turn-skip g s q p hp l false (record { answer = sym b }) refl)
@@ -107,7 +108,7 @@ module _ (g : FenceIter) (s : List ℕ) (q : ℕ) where
   unfolding closeEnd closes begins
   close-same count from = by (ltb (firstPlace (closes g count s) from (length s)) (length s)) (firstPlace (closes g count s) from (length s))
     where
-      by : (x : Bool) (p : ℕ) → closedAt (at g q) s x p ≡ closedAt g s x p
+      by : (x : Bool) (p : ℕ) → spanEnd (at g q) s x p ≡ spanEnd g s x p
       by true p = refl
       by false p = refl
 
@@ -115,7 +116,7 @@ module _ (g : FenceIter) (s : List ℕ) (q : ℕ) where
   unfolding openTurn
   turn-same n =
       let p = find (is (g .byte)) s n in
-      rw (close-same (runCount p (runEnd g s p)) (after g s p))
+      rw (close-same (runCount p (wholeRunEnd g s p)) (lineAfter g s p))
 
   step-at : stepped (at g q) s ≡ stepOf (at g) (firstTurn (openTurn g s) (length s) q)
   unfolding stepped firstOpen

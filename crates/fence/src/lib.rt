@@ -25,7 +25,7 @@ ghost use Rattle.search.specs.Promise.{Gives, Steps};
 ghost use Rattle.search.specs.Search.{holds, is};
 ghost use Rattle.common.specs.Refusals.{toldSpan};
 ghost use Rattle.common.specs.Turn.{firstTurn};
-ghost use Rattle.fence.specs.Fence.{fresh, at, closeEnd, openLine, openTurn, view, answer, state};
+ghost use Rattle.fence.specs.Fence.{fresh, at, closeEnd, openLine, openTurn, view, rests, answer, state};
 ghost use Rattle.fence.specs.Steps.{CloseTurned};
 
 // The fields of the Rust's iterator; the text is lent beside it.
@@ -55,6 +55,12 @@ enum Turn {
     Go(usize),
     Stop(usize),
     Found(usize, usize),
+}
+
+// What the scan comes to: a fence, from where to where; or none, and the place where it stops.
+enum Opened {
+    Found(usize, usize),
+    Stopped(usize),
 }
 
 impl FenceIter {
@@ -157,9 +163,9 @@ impl FenceIter {
     }
 
     // The first fence at or after `from`, or where the scan stays when there is none.
-    fn first_open(self, src: &[u8], from: usize) -> Turn
+    fn first_open(self, src: &[u8], from: usize) -> Opened
         requires { ⌜ from ≤ length (now src) ⌝ }
-        ensures { λ r. ⌜ Gives (firstTurn (openTurn self (now (src .entry))) (length (now (src .entry))) from) (view r) ⌝ }
+        ensures { λ r. ⌜ Gives (firstTurn (openTurn self (now (src .entry))) (length (now (src .entry))) from) (rests r) ⌝ }
     {
         let mut q = from;
         loop {
@@ -168,10 +174,10 @@ impl FenceIter {
                     q = n;
                 }
                 Turn::Stop(v) => {
-                    return Turn::Stop(v);
+                    return Opened::Stopped(v);
                 }
                 Turn::Found(a, b) => {
-                    return Turn::Found(a, b);
+                    return Opened::Found(a, b);
                 }
             }
         }
@@ -194,20 +200,16 @@ impl FenceIter {
             };
         }
         match self.first_open(src, pos) {
-            Turn::Found(a, b) => FenceStep {
+            Opened::Found(a, b) => FenceStep {
                 found: SpanFound::At(Span {
                     start: a as u32,
                     end: b as u32,
                 }),
                 next: self.at(b),
             },
-            Turn::Stop(v) => FenceStep {
+            Opened::Stopped(v) => FenceStep {
                 found: SpanFound::Nothing,
                 next: self.at(v),
-            },
-            Turn::Go(n) => FenceStep {
-                found: SpanFound::Nothing,
-                next: self.at(n),
             },
         }
     }

@@ -13,16 +13,16 @@ use borrow.Author.Tests.{ltb-true, ltb-false}
 use Rattle.search.specs.Promise.{Gives}
 use Rattle.search.specs.Search.{find, Sought}
 use Rattle.search.specs.SearchLaws.{decide, find-here, find-next, find-end, find-from, sought}
-use Rattle.find.specs.Blocks.{picked, Placed, Clear, Stage, Reaches}
+use Rattle.find.specs.Blocks.{hitPlace, Placed, Clear, Stage, Reaches}
 
 -- ---- the place of a hit
 module _ (hit y : Bool) (j : ℕ) (says : Gives hit y) where
-  pub picked-yes : y ≡ true → j ≡ picked hit j
-  unfolding picked
+  pub picked-yes : y ≡ true → j ≡ hitPlace hit j
+  unfolding hitPlace
   picked-yes e = let z : hit ≡ true = sym (says .answer) ∙ e in rw z
 
-  pub picked-no : y ≡ false → 32 ≡ picked hit j
-  unfolding picked
+  pub picked-no : y ≡ false → 32 ≡ hitPlace hit j
+  unfolding hitPlace
   picked-no e = let z : hit ≡ false = sym (says .answer) ∙ e in rw z
 
 -- ---- the invariant of a loop that keeps the least place of a hit: below j of 32
@@ -57,8 +57,8 @@ module _ (t : ℕ → Bool) (s : List ℕ) where
       record { inside = omega arith; most = omega arith; past = λ l. omega arith; here = λ l. absurd (omega arith); on = λ l. ap (find t s) (sym (add-zero i)) }
 
   -- a hit at j does not move a least that is there, and is the least where there was none
-  least-again : (i j m : ℕ) → i + 32 ≤ length s → j < 32 → Least t s i j m → Least t s i (j + 1) (min (picked (t (getD s (i + j) 0)) j) m)
-  unfolding picked
+  least-again : (i j m : ℕ) → i + 32 ≤ length s → j < 32 → Least t s i j m → Least t s i (j + 1) (min (hitPlace (t (getD s (i + j) 0)) j) m)
+  unfolding hitPlace
   least-again i j m h l w = go (t (getD s (i + j) 0)) refl (ltb m 32) refl
     where
       keep : (n : ℕ) → m < 32 → n ≡ m → Least t s i (j + 1) n
@@ -73,7 +73,7 @@ module _ (t : ℕ → Bool) (s : List ℕ) where
       goes n u e y =
           record { inside = omega arith; most = omega arith; past = λ k. absurd (omega arith); here = λ k. absurd (omega arith); on = λ k. w .on u ∙ find-next t s (i + j) (omega arith) y ∙ further i j }
 
-      go : (y : Bool) → t (getD s (i + j) 0) ≡ y → (u : Bool) → ltb m 32 ≡ u → Least t s i (j + 1) (min (picked y j) m)
+      go : (y : Bool) → t (getD s (i + j) 0) ≡ y → (u : Bool) → ltb m 32 ≡ u → Least t s i (j + 1) (min (hitPlace y j) m)
       go true e true f = keep _ (ltb-true m 32 f) (omega (arith, w .past (ltb-true m 32 f)))
       go true e false f = found _ (ltb-false m 32 f) (omega (arith, ltb-false m 32 f)) e
       go false e true f = keep _ (ltb-true m 32 f) (omega (arith, ltb-true m 32 f))

@@ -22,28 +22,28 @@ ofTwelve k x = ((ofThree (k .first) x || ofThree (k .second) x) || ofThree (k .t
 
 -- ---- needles in places
 -- the number of a list at place j, else its first
-unfoldable pub padded : List ℕ → ℕ → ℕ
-padded l j = getD l j (getD l 0 0)
+unfoldable pub needleAt : List ℕ → ℕ → ℕ
+needleAt l j = getD l j (getD l 0 0)
 
 -- three of them, from place k on
 abbrev pub trioOf : List ℕ → ℕ → Three
-trioOf l k = record { a = padded l k; b = padded l (k + 1); c = padded l (k + 2) }
+trioOf l k = record { a = needleAt l k; b = needleAt l (k + 1); c = needleAt l (k + 2) }
 
 -- the first n numbers of a list are one at the least, and w at the most
-pub record Counted (l : List ℕ) (n w : ℕ) : Type 0 where
+pub record NeedleCount (l : List ℕ) (n w : ℕ) : Type 0 where
   pub some : 0 < n
   pub there : 0 < length l
   pub most : min n (length l) ≤ w
 
 -- the place of a hit within a block of 32, and 32 for a miss
-unfoldable pub picked : Bool → ℕ → ℕ
-picked true j = j
-picked false j = 32
+unfoldable pub hitPlace : Bool → ℕ → ℕ
+hitPlace true j = j
+hitPlace false j = 32
 
 -- what is promised of it: j is a place of the block
 pub record Placed (hit : Bool) (j r : ℕ) : Type 0 where
   pub inside : j < 32
-  pub answer : r ≡ picked hit j
+  pub answer : r ≡ hitPlace hit j
 
 -- ---- what a stage promises
 -- a filter: where it says no, the search from i goes on after w bytes

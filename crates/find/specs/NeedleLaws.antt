@@ -15,7 +15,7 @@ use Rattle.find.specs.declared.blocks.Twelve.{Twelve}
 use Rattle.search.specs.Promise.{Gives}
 use Rattle.search.specs.Search.{is, either, oneOf, find, Sought}
 use Rattle.search.specs.SearchLaws.{decide, one-append, find-end, find-over, sought}
-use Rattle.find.specs.Blocks.{ofThree, ofTwelve, padded, trioOf, Counted, Stage, Reaches}
+use Rattle.find.specs.Blocks.{ofThree, ofTwelve, needleAt, trioOf, NeedleCount, Stage, Reaches}
 use Rattle.find.specs.BlockLaws.{sought-same, stage-same, reaches-same, sought-from}
 
 -- ---- needles that are repeated
@@ -40,7 +40,7 @@ pub twelve-told : (k : Twelve) (x : ℕ) (a b c d : Bool) → Gives (ofThree (k 
 unfolding ofTwelve
 twelve-told k x a b c d ga gb gc gd = rw (ga .answer, gb .answer, gc .answer, gd .answer)
 
-pub trio-told : (l : List ℕ) (k a b c : ℕ) → Gives (padded l k) a → Gives (padded l (k + 1)) b → Gives (padded l (k + 2)) c → record { a = a; b = b; c = c } ≡ trioOf l k
+pub trio-told : (l : List ℕ) (k a b c : ℕ) → Gives (needleAt l k) a → Gives (needleAt l (k + 1)) b → Gives (needleAt l (k + 2)) c → record { a = a; b = b; c = c } ≡ trioOf l k
 trio-told l k a b c ga gb gc = rw (ga .answer, gb .answer, gc .answer)
 
 -- ---- a list's numbers in places
@@ -51,18 +51,18 @@ getD-else (x ∷ xs) (suc j) d d′ h = getD-else xs j d d′ (omega arith)
 
 -- what stands at place j of the first n
 module _ (l : List ℕ) (n j : ℕ) (some : 0 < n) where
-  pub needle-there : j < n → j < length l → getD l j 0 ≡ padded (take n l) j
-  unfolding padded
+  pub needle-there : j < n → j < length l → getD l j 0 ≡ needleAt (take n l) j
+  unfolding needleAt
   needle-there h m = sym (getD-take n l j (getD (take n l) 0 0) h ∙ getD-else l j (getD (take n l) 0 0) 0 m)
 
-  first-else : (r : ℕ) → length (take n l) ≤ j → Gives (getD l 0 0) r → r ≡ padded (take n l) j
-  unfolding padded
+  first-else : (r : ℕ) → length (take n l) ≤ j → Gives (getD l 0 0) r → r ≡ needleAt (take n l) j
+  unfolding needleAt
   first-else r h g = g .answer ∙ sym (List·getD-eq-default (take n l) (getD (take n l) 0 0) h ∙ getD-take n l 0 0 some)
 
-  pub needle-over : (r : ℕ) → n ≤ j → Gives (getD l 0 0) r → r ≡ padded (take n l) j
+  pub needle-over : (r : ℕ) → n ≤ j → Gives (getD l 0 0) r → r ≡ needleAt (take n l) j
   needle-over r h g = first-else r (omega (arith, length-take n l)) g
 
-  pub needle-short : (r : ℕ) → length l ≤ j → Gives (getD l 0 0) r → r ≡ padded (take n l) j
+  pub needle-short : (r : ℕ) → length l ≤ j → Gives (getD l 0 0) r → r ≡ needleAt (take n l) j
   needle-short r h g = first-else r (omega (arith, length-take n l)) g
 
 -- the first of a list is among it
@@ -77,8 +77,8 @@ first-in (y ∷ ys) h x = by (eqb x y) (oneOf ys x)
     by false false = refl
 
 -- one place more
-one-more : (l : List ℕ) → 0 < length l → (x k : ℕ) → oneOf (take (suc k) l) x ≡ (oneOf (take k l) x || eqb x (padded l k))
-unfolding oneOf padded
+one-more : (l : List ℕ) → 0 < length l → (x k : ℕ) → oneOf (take (suc k) l) x ≡ (oneOf (take k l) x || eqb x (needleAt l k))
+unfolding oneOf needleAt
 one-more l h x k = by (decide (ltb k (length l)))
   where
     by : (ltb k (length l) ≡ true) ⊎ (ltb k (length l) ≡ false) → oneOf (take (suc k) l) x ≡ (oneOf (take k l) x || eqb x (getD l k (getD l 0 0)))
@@ -100,12 +100,12 @@ single-of [] h = absurd (not-suc-le-zero h)
 single-of (y ∷ ys) h = fun-ext (λ x. sym (or-false (eqb x y)))
 
 -- three places more
-three-more : (l : List ℕ) → 0 < length l → (x k : ℕ) → oneOf (take (suc (suc (suc k))) l) x ≡ (oneOf (take k l) x || ofThree (record { a = padded l k; b = padded l (suc k); c = padded l (suc (suc k)) }) x)
+three-more : (l : List ℕ) → 0 < length l → (x k : ℕ) → oneOf (take (suc (suc (suc k))) l) x ≡ (oneOf (take k l) x || ofThree (record { a = needleAt l k; b = needleAt l (suc k); c = needleAt l (suc (suc k)) }) x)
 unfolding ofThree
 three-more l h x k =
     one-more l h x (suc (suc k))
-    ∙ ap (λ (y : Bool). y || eqb x (padded l (suc (suc k)))) (one-more l h x (suc k) ∙ ap (λ (y : Bool). y || eqb x (padded l (suc k))) (one-more l h x k))
-    ∙ three (oneOf (take k l) x) (eqb x (padded l k)) (eqb x (padded l (suc k))) (eqb x (padded l (suc (suc k))))
+    ∙ ap (λ (y : Bool). y || eqb x (needleAt l (suc (suc k)))) (one-more l h x (suc k) ∙ ap (λ (y : Bool). y || eqb x (needleAt l (suc k))) (one-more l h x k))
+    ∙ three (oneOf (take k l) x) (eqb x (needleAt l k)) (eqb x (needleAt l (suc k))) (eqb x (needleAt l (suc (suc k))))
   where
     three : (y a b c : Bool) → (((y || a) || b) || c) ≡ (y || ((a || b) || c))
     three true a b c = refl
@@ -178,18 +178,18 @@ module _ (l : List ℕ) (n : ℕ) (s : List ℕ) (i r : ℕ) where
   pub sought-single : n ≡ 1 → 0 < length l → Sought (is (getD l 0 0)) s i r → Sought (oneOf (take n l)) s i r
   sought-single e h w = rw e (sought-same _ _ (single-of l h) s i r w)
 
-  has : (w : ℕ) → Counted l n w → 0 < length (take n l)
+  has : (w : ℕ) → NeedleCount l n w → 0 < length (take n l)
   has w c = omega (arith, length-take n l, c .some, c .there)
 
   within : (w : ℕ) → min n (length l) ≤ w → length (take n l) ≤ w
   within w h = omega (arith, length-take n l)
 
   -- by three places, by six, by twelve
-  pub sought-few : (t : Three) → Counted l n 3 → Gives (trioOf (take n l) 0) t → Sought (ofThree t) s i r → Sought (oneOf (take n l)) s i r
+  pub sought-few : (t : Three) → NeedleCount l n 3 → Gives (trioOf (take n l) 0) t → Sought (ofThree t) s i r → Sought (oneOf (take n l)) s i r
   sought-few t c g w = sought-same _ _ (ap ofThree (g .answer) ∙ three-of (take n l) (has 3 c) (within 3 (c .most))) s i r w
 
   -- by blocks to a place k, and on from there
-  module _ (e k : ℕ) (c : Counted l n 12) (on : Sought (oneOf (take n l)) s k r) where
+  module _ (e k : ℕ) (c : NeedleCount l n 12) (on : Sought (oneOf (take n l)) s k r) where
     pub sought-six : (p q : Three) → n ≤ 6 → Gives (trioOf (take n l) 0) p → Gives (trioOf (take n l) 3) q → Reaches (ofTwelve (record { first = p; second = q; third = p; fourth = q })) s i e k → Sought (oneOf (take n l)) s i r
     sought-six p q h gp gq w = sought-from _ s i e k r (reaches-same _ _ (rw (gp .answer, gq .answer) (six-of (take n l) (has 12 c) (within 6 (omega arith)))) s i e k w) on
 

@@ -10,7 +10,7 @@ ghost use Prim.Native.Nat.{_+_, _<_, max};
 ghost use lib.ListN.{take};
 ghost use Rattle.search.specs.Promise.{Gives};
 ghost use Rattle.search.specs.Search.{Sought, is, either, oneOf};
-ghost use Rattle.find.specs.Blocks.{padded, trioOf, Counted};
+ghost use Rattle.find.specs.Blocks.{needleAt, trioOf, NeedleCount};
 
 // The first byte equal to `b` at or after `from`, else the length.
 pub fn find_byte(src: &[u8], from: usize, b: u8) -> usize
@@ -58,7 +58,7 @@ fn find_one_of(needles: &[u8], n: usize, src: &[u8], from: usize) -> usize
 // The needle at place `j` of the first `n`, else the first of them: so a fixed number of places is filled.
 fn needle(needles: &[u8], n: usize, j: usize) -> u8
     requires { ⌜ 0 < n ⌝ }
-    ensures { λ r. ⌜ Gives (padded (take n (now (needles .entry))) j) r ⌝ }
+    ensures { λ r. ⌜ Gives (needleAt (take n (now (needles .entry))) j) r ⌝ }
 {
     if n <= j {
         return byte_at(needles, 0);
@@ -83,7 +83,7 @@ fn trio(needles: &[u8], n: usize, k: usize) -> Three
 
 // The first of one, two or three needles.
 fn find_few(needles: &[u8], n: usize, src: &[u8], from: usize) -> usize
-    requires { ⌜ Counted (now needles) n 3 ⌝ }
+    requires { ⌜ NeedleCount (now needles) n 3 ⌝ }
     ensures { λ r. ⌜ Sought (oneOf (take n (now (needles .entry)))) (now (src .entry)) from r ⌝ }
 {
     if n == 1 {
@@ -94,7 +94,7 @@ fn find_few(needles: &[u8], n: usize, src: &[u8], from: usize) -> usize
 
 // The first of four to eleven needles: six places where they are enough, twelve else.
 fn find_many(needles: &[u8], n: usize, src: &[u8], from: usize) -> usize
-    requires { ⌜ Counted (now needles) n 12 ⌝ }
+    requires { ⌜ NeedleCount (now needles) n 12 ⌝ }
     ensures { λ r. ⌜ Sought (oneOf (take n (now (needles .entry)))) (now (src .entry)) from r ⌝ }
 {
     let p = trio(needles, n, 0);

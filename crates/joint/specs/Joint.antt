@@ -18,5 +18,5 @@ abbrev pub openEnd : ℕ → Bool → List ℕ → Bool → Bool
 openEnd eol follows r reaching = follows && not (afterEmptyLine eol r (length r) && not reaching)
 
 -- 9: "the escape, a symmetric byte or an asymmetric opener is the line-end byte"
-abbrev pub marks : ℕ → ℕ → List ℕ → List ℕ → Bool
-marks eol escape symmetric openers = is eol escape || (hasRule symmetric eol || hasRule openers eol)
+abbrev pub lineEndIsMark : ℕ → ℕ → List ℕ → List ℕ → Bool
+lineEndIsMark eol escape symmetric openers = is eol escape || (hasRule symmetric eol || hasRule openers eol)

@@ -9,7 +9,7 @@ use borrow.Author.Tests.{eq-eqb, ne-eqb, lt-ltb, le-ltb, lt-leb, le-leb}
 use Rattle.search.specs.Promise.{Gives}
 use Rattle.search.specs.Search.{is, holds, Sought}
 use Rattle.search.specs.SearchLaws.{is-yes, is-no}
-use Rattle.joint.specs.Joint.{afterEmptyLine, openEnd, marks}
+use Rattle.joint.specs.Joint.{afterEmptyLine, openEnd, lineEndIsMark}
 
 -- ---- after an empty line
 module _ (eol : ℕ) (s : List ℕ) (k : ℕ) where
@@ -46,12 +46,12 @@ module _ (eol : ℕ) (follows : Bool) (r : List ℕ) (reaching : Bool) where
 
 -- ---- a line end that escapes or opens
 module _ (eol escape : ℕ) (symmetric openers : List ℕ) where
-  pub marks-escape : escape ≡ eol → true ≡ marks eol escape symmetric openers
+  pub marks-escape : escape ≡ eol → true ≡ lineEndIsMark eol escape symmetric openers
   marks-escape e = rw (is-yes eol escape e)
 
   module _ (d : escape ≡ eol → ⊥) (p : ℕ) (a : Sought (is eol) symmetric 0 p) where
-    pub marks-symmetric : p < length symmetric → true ≡ marks eol escape symmetric openers
+    pub marks-symmetric : p < length symmetric → true ≡ lineEndIsMark eol escape symmetric openers
     marks-symmetric h = rw (is-no eol escape d, ← (a .here), lt-ltb p (length symmetric) h)
 
-    pub marks-openers : (q : ℕ) → length symmetric ≤ p → Sought (is eol) openers 0 q → ltb q (length openers) ≡ marks eol escape symmetric openers
+    pub marks-openers : (q : ℕ) → length symmetric ≤ p → Sought (is eol) openers 0 q → ltb q (length openers) ≡ lineEndIsMark eol escape symmetric openers
     marks-openers q h b = rw (is-no eol escape d, ← (a .here), le-ltb p (length symmetric) h, b .here)

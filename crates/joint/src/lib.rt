@@ -2,7 +2,7 @@
 use find::find_byte;
 use search::is_at;
 ghost use Rattle.search.specs.Promise.{Gives};
-ghost use Rattle.joint.specs.Joint.{afterEmptyLine, openEnd, marks};
+ghost use Rattle.joint.specs.Joint.{afterEmptyLine, openEnd, lineEndIsMark};
 
 // Whether `k` is place 0, or at least 2 with two line ends just before it.
 pub fn after_empty_line(src: &[u8], k: usize, eol: u8) -> bool
@@ -36,7 +36,7 @@ pub fn is_left_open(follows: bool, text: &[u8], reaching: bool, eol: u8) -> bool
 
 // Whether a line end escapes, or opens a pair.
 pub fn marks_line_end(eol: u8, escape: u8, symmetric: &[u8], openers: &[u8]) -> bool
-    ensures { λ r. ⌜ Gives (marks eol escape (now (symmetric .entry)) (now (openers .entry))) r ⌝ }
+    ensures { λ r. ⌜ Gives (lineEndIsMark eol escape (now (symmetric .entry)) (now (openers .entry))) r ⌝ }
 {
     if escape == eol {
         return true;

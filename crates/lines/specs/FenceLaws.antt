@@ -23,12 +23,12 @@ use Rattle.lines.specs.declared.fence_tests.CloseTurn.{CloseTurn}
 use Rattle.lines.specs.declared.fence_tests.CloseTurn.the-variants.{Go, Closed, Unclosed}
 
 -- ---- a line that closes: its run ends at j, within the line, and is c long
-module _ (sep tab b count : ℕ) (s : List ℕ) (q e j c : ℕ) (hj : Gives (min (find (other (is b)) s q) e) j) (hc : Gives (runCount q j) c) where
-  pub closes-short : c < count → false ≡ closesTo sep tab b count s q e
+module _ (g : Grammar) (b count : ℕ) (s : List ℕ) (q e j c : ℕ) (hj : Gives (min (find (other (is b)) s q) e) j) (hc : Gives (runCount q j) c) where
+  pub closes-short : c < count → false ≡ closesTo g b count s q e
   unfolding closesTo
   closes-short l = simp (← (hj .answer), ← (hc .answer), lt-leb count c l)
 
-  pub closes-rest : (y : Bool) → count ≤ c → Gives (leb e (find (other (either sep tab)) s j)) y → y ≡ closesTo sep tab b count s q e
+  pub closes-rest : (y : Bool) → count ≤ c → Gives (leb e (find (other (either (g .sep) (g .tab))) s j)) y → y ≡ closesTo g b count s q e
   unfolding closesTo
   closes-rest y l hy = simp (← (hj .answer), ← (hc .answer), le-leb count c l, ← (hy .answer))
 
@@ -185,11 +185,11 @@ module _ (g : Grammar) (b count : ℕ) (s : List ℕ) where
   unfolding shuts closing
   closing-byte q e = rw e (and-false (lineStart (g .eol) s q))
 
-  closing-line : (q : ℕ) → closesTo (g .sep) (g .tab) b count s q (lineEnd (g .eol) s q) ≡ false → shuts g b count s q ≡ false
+  closing-line : (q : ℕ) → closesTo g b count s q (lineEnd (g .eol) s q) ≡ false → shuts g b count s q ≡ false
   unfolding shuts closing
   closing-line q e = simp (e, and-false)
 
-  closing-yes : (q : ℕ) → lineStart (g .eol) s q ≡ true → holds (is b) s q ≡ true → closesTo (g .sep) (g .tab) b count s q (lineEnd (g .eol) s q) ≡ true → shuts g b count s q ≡ true
+  closing-yes : (q : ℕ) → lineStart (g .eol) s q ≡ true → holds (is b) s q ≡ true → closesTo g b count s q (lineEnd (g .eol) s q) ≡ true → shuts g b count s q ≡ true
   unfolding shuts closing
   closing-yes q e f h = simp (e, f, h)
 
@@ -227,7 +227,7 @@ module _ (g : Grammar) (b count : ℕ) (s : List ℕ) where
               ⊎-elim (λ (u : ltb j q ≡ true). before j h (ltb-true j q u))
               (λ u. let z : j ≡ q = omega (arith, ltb-false j q u) in rw z (closing-start q (sym (hy .answer) ∙ e))) (decide (ltb j q))
 
-      module _ (start : y ≡ true) (e : ℕ) (he : Sought (is (g .eol)) s q e) (x : Bool) (hx : Gives (closesTo (g .sep) (g .tab) b count s q e) x) where
+      module _ (start : y ≡ true) (e : ℕ) (he : Sought (is (g .eol)) s q e) (x : Bool) (hx : Gives (closesTo g b count s q e) x) where
         pub close-hit : x ≡ true → CloseTurned (shuts g b count s) (g .eol) s from (Closed q e)
         unfolding CloseTurned
         close-hit c = (

@@ -9,7 +9,7 @@ use lib.Dec.{ltb, leb}
 use lib.ListN.{getD}
 use Rattle.search.specs.Search.{find, is, either, other, holds, lineStart, lineEnd}
 use Rattle.common.specs.declared.grammar.Grammar.{Grammar}
-use Rattle.common.specs.Rules.{tabulate, entry, row, hasRule}
+use Rattle.common.specs.Rules.{tabulate, entry, ruleIndex, hasRule}
 use Rattle.lines.specs.declared.fence_tests.Opening.{Opening}
 use Rattle.lines.specs.declared.fence_tests.Opening.the-variants.{Opens, Not}
 
@@ -44,22 +44,22 @@ unfoldable pub opening : ℕ → (ℕ → Bool) → (ℕ → ℕ) → List ℕ �
 opening eol has least s p = cond (has (getD s p 0)) (openingOf eol (getD s p 0) (least (getD s p 0)) s p) Not
 
 -- whether a run from q up to j, in a line that ends at e, closes a fence: it is "as long or longer", and the "rest is separators or
--- tabs"
-abbrev pub closesRun : ℕ → ℕ → ℕ → List ℕ → ℕ → ℕ → ℕ → Bool
-closesRun sep tab count s q j e = leb count (runCount q j) && leb e (find (other (either sep tab)) s j)
+-- tabs", which `blank` tells
+abbrev pub closesRun : (ℕ → Bool) → ℕ → List ℕ → ℕ → ℕ → ℕ → Bool
+closesRun blank count s q j e = leb count (runCount q j) && leb e (find (other blank) s j)
 
 -- the same of a line from q up to e, for a fence of byte b
-unfoldable pub closesTo : ℕ → ℕ → ℕ → ℕ → List ℕ → ℕ → ℕ → Bool
-closesTo sep tab b count s q e = closesRun sep tab count s q (runEnd b s q e) e
+unfoldable pub closesTo : Grammar → ℕ → ℕ → List ℕ → ℕ → ℕ → Bool
+closesTo g b count s q e = closesRun (either (g .sep) (g .tab)) count s q (runEnd b s q e) e
 
 -- whether a line begins at q, with the fence byte b, that closes a fence with such an opening run
 unfoldable pub closing : Grammar → ℕ → ℕ → List ℕ → ℕ → Bool
-closing g b count s q = lineStart (g .eol) s q && (holds (is b) s q && closesTo (g .sep) (g .tab) b count s q (lineEnd (g .eol) s q))
+closing g b count s q = lineStart (g .eol) s q && (holds (is b) s q && closesTo g b count s q (lineEnd (g .eol) s q))
 
 -- ---- the rules
 -- "by the first rule with that byte", as a table over the bytes: 0 where there is none, else one more than its minimum
 abbrev pub fenceCell : List ℕ → List ℕ → ℕ → ℕ
-fenceCell bytes mins b = cond (hasRule bytes b) (getD mins (row bytes b) 0 + 1) 0
+fenceCell bytes mins b = cond (hasRule bytes b) (getD mins (ruleIndex bytes b) 0 + 1) 0
 
 unfoldable pub fenceTable : List ℕ → List ℕ → List ℕ
 fenceTable bytes mins = tabulate (fenceCell bytes mins) 256 0

@@ -18,6 +18,7 @@ endsAt eol opens s q = holds (is eol) s q && (leb (length s) (q + 1) || (holds (
 unfoldable pub paragraphEnd : ℕ → (ℕ → Bool) → List ℕ → ℕ → ℕ
 paragraphEnd eol opens s from = firstPlace (endsAt eol opens s) from (length s)
 
+-- found at q, or not before the paragraph's end u
 abbrev pub hitAt : Bool → ℕ → ℕ → Hit
 hitAt true q u = At q
 hitAt false q u = End u

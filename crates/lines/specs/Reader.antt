@@ -24,9 +24,9 @@ pub record Fences : Type 0 where
   -- whether a line begins here that closes a fence of a byte and a length
   pub shuts : ℕ → ℕ → List ℕ → ℕ → Bool
 
--- the page's fences: `has` says whether a byte has a rule, `least` its minimum
-abbrev pub first : Grammar → (ℕ → Bool) → (ℕ → ℕ) → Fences
-first g has least = record {
+-- the page's fences, those of edition 1: `has` says whether a byte has a rule, `least` its minimum
+abbrev pub editionOne : Grammar → (ℕ → Bool) → (ℕ → ℕ) → Fences
+editionOne g has least = record {
   opens = λ s p. lineStart (g .eol) s p && opensLine (g .eol) has least s p;
   enters = opensLine (g .eol) has least;
   size = λ s p. runCount p (runEnd (getD s p 0) s p (lineEnd (g .eol) s p));
@@ -35,7 +35,7 @@ first g has least = record {
 
 -- the fence reader of a grammar; and what closes a fence by it, whatever the rules are
 unfoldable pub reader : Grammar → (ℕ → Bool) → (ℕ → ℕ) → Fences
-reader g has least = first g has least
+reader g has least = editionOne g has least
 
 unfoldable pub shuts : Grammar → ℕ → ℕ → List ℕ → ℕ → Bool
 shuts g = closing g

@@ -39,7 +39,7 @@ pub enum Hit {
 }
 
 // A minimum's entry in the table.
-pub fn one_more(least: u8) -> u16
+fn one_more(least: u8) -> u16
     ensures { λ r. ⌜ Gives (least + 1) r ⌝ }
 {
     least as u16 + 1
@@ -66,7 +66,7 @@ fn number(cell: u16) -> usize
 }
 
 // The table's entry for a byte.
-pub fn fence_of(fences: &[u16; 256], b: u8) -> usize
+fn fence_of(fences: &[u16; 256], b: u8) -> usize
     ensures { λ r. ⌜ Gives (entry 0 (now (fences .entry)) b) r ⌝ }
 {
     number(fences[b as usize])
@@ -142,7 +142,7 @@ pub fn fence_opens_line(src: &[u8], ls: usize, g: Grammar, fences: &[u16; 256]) 
 // Does the line from `pos` up to `end` close a fence of `byte` whose opening run was `count`? Its run is as long or
 // longer, and its rest is separators or tabs.
 pub fn fence_closes(src: &[u8], pos: usize, end: usize, byte: u8, count: usize, g: Grammar) -> bool
-    ensures { λ r. ⌜ Gives (closesTo (g .sep) (g .tab) byte count (now (src .entry)) pos end) r ⌝ }
+    ensures { λ r. ⌜ Gives (closesTo g byte count (now (src .entry)) pos end) r ⌝ }
 {
     let i = run_within(src, pos, end, byte);
     if run_count(pos, i) < count {

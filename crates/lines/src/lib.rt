@@ -25,7 +25,7 @@ pub fn find_line_end(src: &[u8], from: usize, eol: u8) -> Answer
     Answer::Value(find::find_byte(src, from, eol))
 }
 
-// How many escape bytes stand just before `pos`: an odd number takes its meaning from what stands there.
+// How many escape bytes stand just before `pos`. Where the count is odd, the byte at `pos` is an escaped one.
 pub fn count_escape(src: &[u8], pos: usize, escape: u8) -> Answer
     ensures { λ r. ⌜ Gives (countEscape (now (src .entry)) pos escape) (told r) ⌝ }
 {

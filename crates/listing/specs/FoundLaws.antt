@@ -9,7 +9,7 @@ use borrow.Author.Tests.{le-ltb, eq-eqb}
 use Rattle.search.specs.Promise.{Gives}
 use Rattle.search.specs.SearchLaws.{clash}
 use Rattle.common.specs.Grammars.{house}
-use Rattle.common.specs.Entry.{flatten, rows, Shaped, over, wide}
+use Rattle.common.specs.Entry.{flatten, rows, over, wide}
 use Rattle.common.specs.EntryLaws.{length-flatten, rows-flatten, holds-shaped}
 use Rattle.common.specs.Refusals.{Outcome, given, refused, numberOf, told}
 use Rattle.common.specs.RefusalLaws.{number-some}
@@ -17,18 +17,18 @@ use Rattle.common.specs.declared.grammar.Grammar.{Grammar}
 use Rattle.common.specs.declared.refusal.Answer.{Answer}
 use Rattle.common.specs.declared.refusal.Answer.the-variants.{Value, Refused}
 use Rattle.common.specs.declared.refusal.Refusal.{Refusal}
-use Rattle.region.specs.Region.{Caused, InOrder, rowOf}
-use Rattle.region.specs.Regions as context
+use Rattle.region.specs.Region.{rowOf}
+use Rattle.region.specs.Regions as region
 use Rattle.rules.specs.Columns.{gramOf}
 use Rattle.context.specs.Build.{builtAnswer, builtList, Built}
-use Rattle.region.specs.Ahead.{regions-few, regions-in-order}
+use Rattle.region.specs.Ahead.{regions-few, regions-shaped}
 use Rattle.cover.specs.Shape.{misshapen}
 use Rattle.feed.specs.Items.{markItems, numberedItems, merge}
 use Rattle.sheet.specs.Sheet.{five, sheetOf, sheetAnswer, sheetList, Sheeted}
 use Rattle.sheet.specs.SheetLaws.{five-numbers}
 use Rattle.sheet.specs.RunLaws.{items-few, outside-few}
-use Rattle.listing.specs.Listing.{houseRules, houseMarkers, houseDelims, regions, shown}
-use Rattle.listing.specs.Held.{Held, Filed}
+use Rattle.listing.specs.Listing.{houseRules, houseMarkers, houseDelims, houseRegions, houseSheet}
+use Rattle.listing.specs.Held.{RegionsIn, ItemsIn}
 
 -- an answer that says given is no refusal, and its value is the given one
 value-is : (n : ℕ) (l : List ℕ) → given (n ∷ []) ≡ given l → getD l 0 0 ≡ n
@@ -42,73 +42,69 @@ over-length : (l out : List ℕ) → length l ≤ length out → length (over l 
 over-length l out h = omega (arith, length-append l (drop (length l) out), length-drop (length l) out)
 
 -- ---- regions
-pub few-regions : (s : List ℕ) → length s ≤ 8192 → length (regions s) ≤ 4097
-unfolding regions
+pub few-regions : (s : List ℕ) → length s ≤ 8192 → length (houseRegions s) ≤ 4097
+unfolding houseRegions
 few-regions s h = omega (arith, regions-few (gramOf house houseRules) s)
 
 module _ (s list list′ : List ℕ) (g : Grammar) (a : Answer) (e : Gives house g) (h : length s ≤ 8192) (size : length list ≡ wide * 4097) (w : Built g houseRules s list list′ (told a)) where
-  built-is : (told a ≡ given (length (regions s) ∷ [])) × (list′ ≡ over (flatten rowOf (regions s)) list)
-  unfolding builtAnswer builtList regions
+  built-is : (told a ≡ given (length (houseRegions s) ∷ [])) × (list′ ≡ over (flatten rowOf (houseRegions s)) list)
+  unfolding builtAnswer builtList houseRegions
   built-is =
       let short = le-ltb 4294967295 (length s) (omega arith) in
-      let roomy = le-ltb (length list / wide) (length (context.regions (gramOf house houseRules) s)) (omega (arith, few-regions s h)) in
+      let roomy = le-ltb (length list / wide) (length (region.regions (gramOf house houseRules) s)) (omega (arith, few-regions s h)) in
       (w .answer ∙ rw (e .answer, short, roomy), w .list ∙ rw (e .answer, short, roomy))
 
-  pub regions-found : (n : ℕ) → a ≡ Value n → Held s list′ n
+  pub regions-found : (n : ℕ) → a ≡ Value n → RegionsIn s list′ n
   regions-found n v =
       let b = built-is in
-      let z : length (regions s) ≡ n = value-is n (length (regions s) ∷ []) (ap told (sym v) ∙ b .0) in
+      let z : length (houseRegions s) ≡ n = value-is n (length (houseRegions s) ∷ []) (ap told (sym v) ∙ b .0) in
       record {
-        same = rw (b .1, ← z) (rows-flatten rowOf wide (λ r. refl) (regions s) (drop (length (flatten rowOf (regions s))) list));
+        same = rw (b .1, ← z) (rows-flatten rowOf wide (λ r. refl) (houseRegions s) (drop (length (flatten rowOf (houseRegions s))) list));
         few = omega (arith, few-regions s h);
-        long = ap length (b .1) ∙ over-length (flatten rowOf (regions s)) list (omega (arith, few-regions s h, length-flatten rowOf wide (λ r. refl) (regions s))) ∙ size;
+        long = ap length (b .1) ∙ over-length (flatten rowOf (houseRegions s)) list (omega (arith, few-regions s h, length-flatten rowOf wide (λ r. refl) (houseRegions s))) ∙ size;
       }
 
-  pub regions-refused : (x : Refusal) (n : ℕ) → a ≡ Refused x → Held s list′ n
-  regions-refused x n v = never x (length (regions s) ∷ []) (ap told (sym v) ∙ built-is .0)
+  pub regions-refused : (x : Refusal) (n : ℕ) → a ≡ Refused x → RegionsIn s list′ n
+  regions-refused x n v = never x (length (houseRegions s) ∷ []) (ap told (sym v) ∙ built-is .0)
 
 -- ---- the list of a text's regions is in order
-in-order : (from len : ℕ) (l : List Caused) → InOrder from len l → Shaped from len (map rowOf l)
-in-order from len [] w = tt
-in-order from len (r ∷ l) w = (w .0, w .1, w .2, in-order (r .stop) len l (w .3))
-
-module _ {s list : List ℕ} {n : ℕ} (w : Held s list n) where
+module _ {s list : List ℕ} {n : ℕ} (w : RegionsIn s list n) where
   held-shape : misshapen list n (length s) ≡ false
-  unfolding misshapen regions
+  unfolding misshapen houseRegions
   held-shape =
       let fits = le-ltb (length list / wide) n (omega (arith, w .few, w .long)) in
-      rw (fits, w .same, holds-shaped 0 (length s) (map rowOf (regions s)) (in-order 0 (length s) (regions s) (regions-in-order (gramOf house houseRules) s)))
+      rw (fits, w .same, holds-shaped 0 (length s) (map rowOf (houseRegions s)) (regions-shaped (gramOf house houseRules) s))
 
-  held-sheet : sheetOf house houseMarkers houseDelims list n s ≡ shown s
-  unfolding sheetOf shown
+  held-sheet : sheetOf house houseMarkers houseDelims list n s ≡ houseSheet s
+  unfolding sheetOf houseSheet
   held-sheet =
-      let x : rows wide (length (regions s)) (flatten rowOf (regions s)) ≡ map rowOf (regions s) = ap (rows wide (length (regions s))) (sym (append-nil (flatten rowOf (regions s)))) ∙ rows-flatten rowOf wide (λ r. refl) (regions s) [] in
+      let x : rows wide (length (houseRegions s)) (flatten rowOf (houseRegions s)) ≡ map rowOf (houseRegions s) = ap (rows wide (length (houseRegions s))) (sym (append-nil (flatten rowOf (houseRegions s)))) ∙ rows-flatten rowOf wide (λ r. refl) (houseRegions s) [] in
       rw (w .same, x)
 
 -- ---- the work sheet
-pub few-shown : (s : List ℕ) → length (shown s) ≤ length s
-unfolding shown sheetOf
+pub few-shown : (s : List ℕ) → length (houseSheet s) ≤ length s
+unfolding houseSheet sheetOf
 few-shown s =
-    omega (arith, outside-few (rows wide (length (regions s)) (flatten rowOf (regions s))) (merge (markItems house houseMarkers s) (numberedItems house houseDelims s)), items-few house houseMarkers houseDelims s)
+    omega (arith, outside-few (rows wide (length (houseRegions s)) (flatten rowOf (houseRegions s))) (merge (markItems house houseMarkers s) (numberedItems house houseDelims s)), items-few house houseMarkers houseDelims s)
 
 module _ (s list items items′ : List ℕ) (markers delims : List Bool) (count : ℕ) (g : Grammar) (a : Answer) (e : Gives house g) (em : markers ≡ houseMarkers) (ed : delims ≡ houseDelims) (h : length s ≤ 8192)
-    (held : Held s list count) (space : length items ≡ 40965) (w : Sheeted g markers delims list count s items items′ (told a)) where
-  sheeted-is : (told a ≡ given (length (shown s) ∷ [])) × (items′ ≡ over (flatten five (shown s)) items)
+    (held : RegionsIn s list count) (space : length items ≡ 40965) (w : Sheeted g markers delims list count s items items′ (told a)) where
+  sheeted-is : (told a ≡ given (length (houseSheet s) ∷ [])) × (items′ ≡ over (flatten five (houseSheet s)) items)
   unfolding sheetAnswer sheetList
   sheeted-is =
       let short = le-ltb 4294967295 (length s) (omega arith) in
-      let roomy = le-ltb (length items / 5) (length (shown s)) (omega (arith, few-shown s)) in
+      let roomy = le-ltb (length items / 5) (length (houseSheet s)) (omega (arith, few-shown s)) in
       (w .answer ∙ rw (e .answer, em, ed, short, held-shape held, held-sheet held, roomy), w .list ∙ rw (e .answer, em, ed, short, held-shape held, held-sheet held, roomy))
 
-  pub items-found : (n : ℕ) → a ≡ Value n → Filed s items′ n
+  pub items-found : (n : ℕ) → a ≡ Value n → ItemsIn s items′ n
   items-found n v =
       let b = sheeted-is in
-      let z : length (shown s) ≡ n = value-is n (length (shown s) ∷ []) (ap told (sym v) ∙ b .0) in
+      let z : length (houseSheet s) ≡ n = value-is n (length (houseSheet s) ∷ []) (ap told (sym v) ∙ b .0) in
       record {
-        same = rw (b .1, ← z) (rows-flatten five 5 five-numbers (shown s) (drop (length (flatten five (shown s))) items));
+        same = rw (b .1, ← z) (rows-flatten five 5 five-numbers (houseSheet s) (drop (length (flatten five (houseSheet s))) items));
         few = omega (arith, few-shown s);
-        long = ap length (b .1) ∙ over-length (flatten five (shown s)) items (omega (arith, few-shown s, length-flatten five 5 five-numbers (shown s))) ∙ space;
+        long = ap length (b .1) ∙ over-length (flatten five (houseSheet s)) items (omega (arith, few-shown s, length-flatten five 5 five-numbers (houseSheet s))) ∙ space;
       }
 
-  pub items-refused : (x : Refusal) (n : ℕ) → a ≡ Refused x → Filed s items′ n
-  items-refused x n v = never x (length (shown s) ∷ []) (ap told (sym v) ∙ sheeted-is .0)
+  pub items-refused : (x : Refusal) (n : ℕ) → a ≡ Refused x → ItemsIn s items′ n
+  items-refused x n v = never x (length (houseSheet s) ∷ []) (ap told (sym v) ∙ sheeted-is .0)

@@ -1,64 +1,36 @@
 -- The frames of a text lie within it, and there are no more of them than it has bytes. Assumes nothing.
 use mathlib.Core.Path.{_≡_, refl, ap, _∙_}
 use mathlib.Core.Bool.{true, false}
-use mathlib.Core.List.{List, [], _∷_, _++_}
+use mathlib.Core.List.{List}
 use mathlib.Core.Logic.{_⊎_, inl, inr}
 use Prim.Native.Nat.{ℕ, zero, suc, _+_, _-_, _≤_, _<_}
 use native.Mathlib.Nat.{not-suc-le-zero}
 use native.Mathlib.Omega.{arith}
 use lib.Dec.{ltb}
-use lib.ListN.{length, getD, take, drop, length-append}
+use lib.ListN.{length, take, drop, length-append}
 use borrow.Author.Tests.{ltb-true, ltb-false}
 use Rattle.search.specs.Search.{is, lineStart, lineEnd}
 use Rattle.search.specs.SearchLaws.{decide, find-ge, find-le, line-one, line-next}
-use Rattle.common.specs.Turn.{Each, gather, between, None}
+use Rattle.common.specs.Turn.{between, None}
+use Rattle.common.specs.Turning.{Each}
+use Rattle.common.specs.EachLaws.{each-append, each-getD, each-drop, each-take, each-gather, each-as}
 use Rattle.common.specs.declared.span.Span.{Span}
-use Rattle.cont.specs.declared.Marks.{Marks}
-use Rattle.cont.specs.Frames.{markAt, afterMark, marksFrom, marks, depth, frames}
-use Rattle.cont.specs.Cont.{closing, afterLine}
+use Rattle.cont.specs.declared.Framing.{Framing}
+use Rattle.cont.specs.Frames.{markAt, afterMark, marksFrom, lineMarks, depth, frames}
+use Rattle.cont.specs.Cont.{closedFrames, afterLine}
 use Rattle.cont.specs.MarkLaws.{mark-in, after-gt, marks-true, marks-false, marks-zero}
 use Rattle.cont.specs.TurnLaws.{closing-length}
-use Rattle.cont.specs.StackLaws.{opened, deeper, closedAt, Rest, over-length, opened-line, opened-same, opened-stretch, closed-no-line, closed-line, rest-at, rest-end, frames-rest}
-
--- ---- lists all of whose things have P
-module _ {A : Type 0} (P : A → Type 0) where
-  pub each-append : (a b : List A) → Each P a → Each P b → Each P (a ++ b)
-  each-append [] b v w = w
-  each-append (x ∷ a) b v w = (v .0, each-append a b (v .1) w)
-
-  each-take : (n : ℕ) (l : List A) → Each P l → Each P (take n l)
-  each-take zero l w = tt
-  each-take (suc n) [] w = tt
-  each-take (suc n) (x ∷ l) w = (w .0, each-take n l (w .1))
-
-  each-drop : (n : ℕ) (l : List A) → Each P l → Each P (drop n l)
-  each-drop zero l w = w
-  each-drop (suc n) [] w = tt
-  each-drop (suc n) (x ∷ l) w = each-drop n l (w .1)
-
-  each-gather : (at : ℕ → List A) (n a : ℕ) → ((k : ℕ) → k < a + n → Each P (at k)) → Each P (gather at n a)
-  unfolding gather
-  each-gather at zero a w = tt
-  each-gather at (suc n) a w = each-append (at a) (gather at n (suc a)) (w a (omega arith)) (each-gather at n (suc a) (λ k h. w k (omega arith)))
-
-pub each-as : {A : Type 0} (P Q : A → Type 0) → ((a : A) → P a → Q a) → (l : List A) → Each P l → Each Q l
-each-as P Q f [] w = tt
-each-as P Q f (a ∷ l) w = (f a (w .0), each-as P Q f l (w .1))
-
-each-at : (b : ℕ) (l : List ℕ) → Each (λ x. x ≤ b) l → (i : ℕ) → getD l i 0 ≤ b
-each-at b [] w i = omega arith
-each-at b (x ∷ l) w zero = w .0
-each-at b (x ∷ l) w (suc i) = each-at b l (w .1) i
+use Rattle.cont.specs.StackLaws.{opened, deeper, closedAt, Rest, restacked-length, opened-line, opened-same, opened-stretch, closed-no-line, closed-line, rest-at, rest-end, frames-rest}
 
 -- a frame within a text of length len
 abbrev pub Inside : ℕ → Span → Type 0
 Inside len f = (f .start ≤ len) × (f .end ≤ len)
 
-closing-inside : (len : ℕ) (o : List ℕ) (e from k : ℕ) → Each (λ x. x ≤ len) o → e ≤ len → Each (Inside len) (closing o e from k)
+closing-inside : (len : ℕ) (o : List ℕ) (e from k : ℕ) → Each (λ x. x ≤ len) o → e ≤ len → Each (Inside len) (closedFrames o e from k)
 closing-inside len o e from zero w h = tt
-closing-inside len o e from (suc k) w h = ((each-at len o w (from + k), h), closing-inside len o e from k w h)
+closing-inside len o e from (suc k) w h = ((each-getD (λ x. x ≤ len) o 0 w (omega arith) (from + k), h), closing-inside len o e from k w h)
 
-module _ (m : Marks) (s : List ℕ) where
+module _ (m : Framing) (s : List ℕ) where
   -- ---- markers: they lie on their line, and there are no more of them than the line has bytes
   marks-inside : (e n p : ℕ) → Each (λ x. x ≤ e) (marksFrom m s e n p)
   marks-inside e zero p = rw (marks-zero m s e p) tt
@@ -78,15 +50,15 @@ module _ (m : Marks) (s : List ℕ) where
 
   -- ---- frames lie within the text
   opened-inside : (a : ℕ) → a ≤ length s → Each (λ x. x ≤ length s) (opened m s a)
-  unfolding opened marks
+  unfolding opened lineMarks
   opened-inside zero h = tt
   opened-inside (suc a) h = by (opened-inside a (omega arith)) (decide (lineStart (m .eol) s a))
     where
       by : Each (λ x. x ≤ length s) (opened m s a) → (lineStart (m .eol) s a ≡ true) ⊎ (lineStart (m .eol) s a ≡ false) → Each (λ x. x ≤ length s) (opened m s (suc a))
       by ih (inl u) =
           let e = lineEnd (m .eol) s a in
-          let w = each-as (λ x. x ≤ e) (λ x. x ≤ length s) (λ x i. omega (arith, find-le (is (m .eol)) s a (omega arith))) (marks m s a) (marks-inside e (m .cap) a) in
-          rw (opened-line m s a u) (each-append (λ x. x ≤ length s) (take (depth m s a) (opened m s a)) (drop (length (opened m s a)) (marks m s a)) (each-take (λ x. x ≤ length s) (depth m s a) (opened m s a) ih) (each-drop (λ x. x ≤ length s) (length (opened m s a)) (marks m s a) w))
+          let w = each-as (λ x. x ≤ e) (λ x. x ≤ length s) (λ x i. omega (arith, find-le (is (m .eol)) s a (omega arith))) (lineMarks m s a) (marks-inside e (m .cap) a) in
+          rw (opened-line m s a u) (each-append (λ x. x ≤ length s) (take (depth m s a) (opened m s a)) (drop (length (opened m s a)) (lineMarks m s a)) (each-take (λ x. x ≤ length s) (depth m s a) (opened m s a) ih) (each-drop (λ x. x ≤ length s) (length (opened m s a)) (lineMarks m s a) w))
       by ih (inr u) = rw (opened-same m s a u) ih
 
   closed-inside : (a : ℕ) → a ≤ length s → Each (Inside (length s)) (closedAt m s a)
@@ -105,7 +77,7 @@ module _ (m : Marks) (s : List ℕ) where
 
   -- ---- and are few: from a line's start on, no more than are open there and than bytes are left
   rest-few : (f p : ℕ) → p ≤ length s → length s - p < f → (p < length s → lineStart (m .eol) s p ≡ true) → length (Rest m s p) ≤ length (opened m s p) + (length s - p)
-  unfolding marks
+  unfolding lineMarks
   rest-few zero p h l st = absurd (not-suc-le-zero l)
   rest-few (suc f) p h l st = by (rest-few f) (decide (ltb p (length s)))
     where
@@ -123,7 +95,7 @@ module _ (m : Marks) (s : List ℕ) where
 
       later : p < length s → length (opened m s a) ≡ depth m s p
       later i =
-          ap length (opened-stretch m s (a - suc p) (suc p) a (omega (arith, moves i)) (λ k y z. line-one (m .eol) s p k y (omega arith)) ∙ opened-line m s p (st i)) ∙ over-length (opened m s p) (marks m s p)
+          ap length (opened-stretch m s (a - suc p) (suc p) a (omega (arith, moves i)) (λ k y z. line-one (m .eol) s p k y (omega arith)) ∙ opened-line m s p (st i)) ∙ restacked-length (opened m s p) (lineMarks m s p)
 
       short : depth m s p ≤ e - p
       short = marks-short e (m .cap) p

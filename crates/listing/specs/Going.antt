@@ -15,7 +15,7 @@ use Rattle.fence.specs.declared.FenceIter.{FenceIter}
 use Rattle.cont.specs.Cont as cont
 use Rattle.cont.specs.declared.ContIter.{ContIter}
 use Rattle.listing.specs.Lines.{lines}
-use Rattle.listing.specs.Listing.{fencesOf, frameLines}
+use Rattle.listing.specs.Listing.{fenceLinesOf, frameLines}
 
 -- a step with other things
 abbrev pub mapStep : {A B S : Type 0} → (A → B) → Step A S → Step B S
@@ -50,13 +50,13 @@ module _ {S : Type 0} where
 
 -- ---- what the loops over the scanners know
 -- over an item scanner, that puts lines of a letter
-abbrev pub Itemizing : {S A : Type 0} → Scanner S A → List Bool → List ℕ → ℕ → List ℕ → ℕ → List ℕ → S → List ℕ → ℕ → Type 0
-Itemizing c set s letter all = Going (valueStep (λ g. answer c g set s) (λ g. state c g set s)) letter (λ v. v) all
+abbrev pub ItemsGoing : {S A : Type 0} → Scanner S A → List Bool → List ℕ → ℕ → List ℕ → ℕ → List ℕ → S → List ℕ → ℕ → Type 0
+ItemsGoing c set s letter all = Going (valueStep (λ g. answer c g set s) (λ g. state c g set s)) letter (λ v. v) all
 
 -- over the fence scanner, that puts the fences of a byte
-abbrev pub Fencing : ℕ → List ℕ → ℕ → List ℕ → FenceIter → List ℕ → ℕ → Type 0
-Fencing byte s = Going (valueStep (λ g. fence.answer g s) (λ g. fence.state g s)) 70 (λ v. v ++ (byte ∷ [])) (fencesOf byte s)
+abbrev pub FencesGoing : ℕ → List ℕ → ℕ → List ℕ → FenceIter → List ℕ → ℕ → Type 0
+FencesGoing byte s = Going (valueStep (λ g. fence.answer g s) (λ g. fence.state g s)) 70 (λ v. v ++ (byte ∷ [])) (fenceLinesOf byte s)
 
 -- over the scanner of frames
-abbrev pub Framing : List ℕ → ℕ → List ℕ → ContIter → List ℕ → ℕ → Type 0
-Framing s = Going (valueStep (λ g. cont.answer g s) (λ g. cont.state g s)) 67 (λ v. v) (frameLines s)
+abbrev pub FramesGoing : List ℕ → ℕ → List ℕ → ContIter → List ℕ → ℕ → Type 0
+FramesGoing s = Going (valueStep (λ g. cont.answer g s) (λ g. cont.state g s)) 67 (λ v. v) (frameLines s)

@@ -12,7 +12,7 @@ use Rattle.common.specs.Refusals.{Outcome, refuse}
 use Rattle.common.specs.Items.{stepFor}
 use Rattle.common.specs.Turn.{Step, yields, ends, thenDrain, drain}
 use Rattle.listing.specs.Lines.{line, lines}
-use Rattle.listing.specs.Put.{Laid, Put, Room}
+use Rattle.listing.specs.Put.{Laid, LaidWithin, Room}
 use Rattle.listing.specs.Going.{mapStep, valueStep, Reads, Yields, Going}
 
 -- lines of what is made of each thing
@@ -60,7 +60,7 @@ module _ {S : Type 0} {step : S → Step (List ℕ) S} where
       pub going-here : k ≤ 1000000
       going-here = omega (arith, i .here, i .fits, ap length (i .whole), length-append (i .done) (lines letter row (i .rest)))
 
-      module _ {g′ : S} {v : List ℕ} {m k′ : ℕ} {out′ : List ℕ} (e : step g ≡ yields v g′) (p : Put m (line letter (row v)) k out out′ k′) where
+      module _ {g′ : S} {v : List ℕ} {m k′ : ℕ} {out′ : List ℕ} (e : step g ≡ yields v g′) (p : LaidWithin m (line letter (row v)) k out out′ k′) where
         pub going-again : Going step letter row all n₀ out₀ g′ out′ k′
         going-again =
             let y = yields-next (i .left) e in
@@ -70,13 +70,13 @@ module _ {S : Type 0} {step : S → Step (List ℕ) S} where
               left = y .2;
               done = i .done ++ b;
               whole = i .whole ∙ ap (λ (l : List (List ℕ)). i .done ++ lines letter row l) (y .1) ∙ sym (append-assoc (i .done) b (lines letter row (y .0)));
-              here = omega (arith, p .next, i .here, length-append (i .done) b);
-              list = p .list ∙ rw (i .list, i .here) (sym (put-append n₀ (i .done) b out₀));
+              here = omega (arith, p .laid .next, i .here, length-append (i .done) b);
+              list = p .laid .list ∙ rw (i .list, i .here) (sym (put-append n₀ (i .done) b out₀));
               fits = i .fits;
             }
 
         pub going-less : 1000000 - k′ < 1000000 - k
-        going-less = omega (arith, going-size e, p .next)
+        going-less = omega (arith, going-size e, p .laid .next)
 
       pub going-end : {g′ : S} → step g ≡ ends g′ → Laid all n₀ out₀ out k
       going-end e =
@@ -94,10 +94,10 @@ module _ (S : Type 0) {F : Type 0} (told : F → Outcome) (answer : S → Outcom
 
   module _ {letter : ℕ} {row : List ℕ → List ℕ} {all : List ℕ} {n₀ k : ℕ} {out₀ out : List ℕ} {g : S} (i : Going (valueStep answer state) letter row all n₀ out₀ g out k) {f e : F} {n : S} (m : f ≡ e)
       (w : Steps (answer g) (state g) (told f) n) where
-    pub lines-again : stepFor (λ v. v) (told e .values) n ≡ yields (told e .values) n → {b k′ : ℕ} {out′ : List ℕ} → Put b (line letter (row (told e .values))) k out out′ k′ → Going (valueStep answer state) letter row all n₀ out₀ n out′ k′
+    pub lines-again : stepFor (λ v. v) (told e .values) n ≡ yields (told e .values) n → {b k′ : ℕ} {out′ : List ℕ} → LaidWithin b (line letter (row (told e .values))) k out out′ k′ → Going (valueStep answer state) letter row all n₀ out₀ n out′ k′
     lines-again y v = going-again i (value-step g m w ∙ y) v
 
-    pub lines-less : stepFor (λ v. v) (told e .values) n ≡ yields (told e .values) n → {b k′ : ℕ} {out′ : List ℕ} → Put b (line letter (row (told e .values))) k out out′ k′ → 1000000 - k′ < 1000000 - k
+    pub lines-less : stepFor (λ v. v) (told e .values) n ≡ yields (told e .values) n → {b k′ : ℕ} {out′ : List ℕ} → LaidWithin b (line letter (row (told e .values))) k out out′ k′ → 1000000 - k′ < 1000000 - k
     lines-less y v = going-less i (value-step g m w ∙ y) v
 
     pub lines-end : stepFor (λ v. v) (told e .values) n ≡ ends n → Laid all n₀ out₀ out k

@@ -2,19 +2,19 @@
 -- The page: "then `W` for sheet items, with their M or N fields."
 use mathlib.Core.Path.{_≡_}
 use mathlib.Core.Bool.{cond}
-use mathlib.Core.List.{List, [], _∷_, _++_, map}
-use Prim.Native.Nat.{ℕ, _+_, _-_, _*_, _≤_}
+use mathlib.Core.List.{List, [], _∷_, map}
+use Prim.Native.Nat.{ℕ, _*_, _≤_}
 use lib.Dec.{eqb}
-use lib.ListN.{length, getD, drop}
-use Rattle.common.specs.Entry.{rows, putAt, wide}
+use lib.ListN.{length, getD}
+use Rattle.common.specs.Entry.{rows, wide}
 use Rattle.sheet.specs.Sheet.{five}
 use Rattle.listing.specs.Lines.{lines}
-use Rattle.listing.specs.Listing.{regions, shown}
+use Rattle.listing.specs.Listing.{houseRegions, houseSheet}
 use Rattle.region.specs.Region.{rowOf}
 
 -- a run whose first n rows are the text's regions
-pub record Held (s list : List ℕ) (n : ℕ) : Type 0 where
-  pub same : rows wide n list ≡ map rowOf (regions s)
+pub record RegionsIn (s list : List ℕ) (n : ℕ) : Type 0 where
+  pub same : rows wide n list ≡ map rowOf (houseRegions s)
   pub few : n ≤ 4097
   pub long : length list ≡ wide * 4097
 
@@ -23,8 +23,8 @@ unfoldable pub heldLines : List ℕ → ℕ → List ℕ
 heldLines list n = lines 82 (λ r. r) (rows wide n list)
 
 -- a run whose first n rows are the items of the text's work sheet
-pub record Filed (s list : List ℕ) (n : ℕ) : Type 0 where
-  pub same : rows 5 n list ≡ map five (shown s)
+pub record ItemsIn (s list : List ℕ) (n : ℕ) : Type 0 where
+  pub same : rows 5 n list ≡ map five (houseSheet s)
   pub few : n ≤ 8193
   pub long : length list ≡ 40965
 
@@ -34,12 +34,3 @@ rowFields r = cond (eqb (getD r 2 0) 0) (getD r 0 0 ∷ getD r 1 0 ∷ getD r 3 
 
 unfoldable pub filedLines : List ℕ → ℕ → List ℕ
 filedLines list n = lines 87 rowFields (rows 5 n list)
-
--- what a loop knows that has put the lines of the first i of n rows
-pub record Rowing (letter w : ℕ) (row : List ℕ → List ℕ) (l : List ℕ) (n n₀ : ℕ) (out₀ : List ℕ) (i : ℕ) (out : List ℕ) (k : ℕ) : Type 0 where
-  pub within : i ≤ n
-  pub done : List ℕ
-  pub whole : lines letter row (rows w n l) ≡ done ++ lines letter row (rows w (n - i) (drop (i * w) l))
-  pub here : k ≡ n₀ + length done
-  pub list : out ≡ putAt n₀ done out₀
-  pub fits : n₀ + length (lines letter row (rows w n l)) ≤ 1000000

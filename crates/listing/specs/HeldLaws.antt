@@ -12,13 +12,22 @@ use Rattle.common.specs.Entry.{rows, putAt, wide}
 use Rattle.common.specs.EntryLaws.{length-put, put-append}
 use Rattle.sheet.specs.Sheet.{five}
 use Rattle.listing.specs.Lines.{line, lines}
-use Rattle.listing.specs.Put.{Laid, Put, Room}
+use Rattle.listing.specs.Put.{Laid, LaidWithin, Room}
 use Rattle.listing.specs.GoingLaws.{lines-map}
-use Rattle.listing.specs.Listing.{regions, regionLines, shown, sheetLines}
-use Rattle.listing.specs.Held.{Held, heldLines, Filed, rowFields, filedLines, Rowing}
+use Rattle.listing.specs.Listing.{houseRegions, regionLines, houseSheet, sheetLines}
+use Rattle.listing.specs.Held.{RegionsIn, heldLines, ItemsIn, rowFields, filedLines}
 use Rattle.region.specs.Region.{rowOf}
 
 -- ---- the loop over rows
+-- what a loop knows that has put the lines of the first i of n rows
+pub record Rowing (letter w : ℕ) (row : List ℕ → List ℕ) (l : List ℕ) (n n₀ : ℕ) (out₀ : List ℕ) (i : ℕ) (out : List ℕ) (k : ℕ) : Type 0 where
+  pub within : i ≤ n
+  pub done : List ℕ
+  pub whole : lines letter row (rows w n l) ≡ done ++ lines letter row (rows w (n - i) (drop (i * w) l))
+  pub here : k ≡ n₀ + length done
+  pub list : out ≡ putAt n₀ done out₀
+  pub fits : n₀ + length (lines letter row (rows w n l)) ≤ 1000000
+
 module _ (letter w : ℕ) (row : List ℕ → List ℕ) (l : List ℕ) (n : ℕ) where
   pub rowing-first : {n₀ : ℕ} {out : List ℕ} → Room n₀ (lines letter row (rows w n l)) → Rowing letter w row l n n₀ out 0 out n₀
   rowing-first h = record { within = omega arith; done = []; whole = rw (zero-mul w, sub-zero n); here = omega arith; list = refl; fits = h .fits }
@@ -42,7 +51,7 @@ module _ (letter w : ℕ) (row : List ℕ → List ℕ) (l : List ℕ) (n : ℕ)
         let f : (i + 1) * w ≡ i * w + w = omega arith in
         rw (e, f) (ap (λ (r : List ℕ). take w (drop (i * w) l) ∷ rows w (n - (i + 1)) r) (drop-drop w (i * w) l))
 
-    pub rowing-again : {m k′ : ℕ} {out′ : List ℕ} → i < n → Put m (line letter (row (take w (drop (i * w) l)))) k out out′ k′ → Rowing letter w row l n n₀ out₀ (i + 1) out′ k′
+    pub rowing-again : {m k′ : ℕ} {out′ : List ℕ} → i < n → LaidWithin m (line letter (row (take w (drop (i * w) l)))) k out out′ k′ → Rowing letter w row l n n₀ out₀ (i + 1) out′ k′
     rowing-again h p =
         let b = line letter (row (take w (drop (i * w) l))) in
         let rest = lines letter row (rows w (n - (i + 1)) (drop ((i + 1) * w) l)) in
@@ -50,8 +59,8 @@ module _ (letter w : ℕ) (row : List ℕ → List ℕ) (l : List ℕ) (n : ℕ)
           within = omega arith;
           done = g .done ++ b;
           whole = g .whole ∙ ap (λ (r : List (List ℕ)). g .done ++ lines letter row r) (rowing-row h) ∙ sym (append-assoc (g .done) b rest);
-          here = omega (arith, p .next, g .here, length-append (g .done) b);
-          list = p .list ∙ rw (g .list, g .here) (sym (put-append n₀ (g .done) b out₀));
+          here = omega (arith, p .laid .next, g .here, length-append (g .done) b);
+          list = p .laid .list ∙ rw (g .list, g .here) (sym (put-append n₀ (g .done) b out₀));
           fits = g .fits;
         }
 
@@ -79,19 +88,19 @@ module _ (l : List ℕ) (n : ℕ) where
   regions-first h = rowing-first 82 wide (λ r. r) l n h
 
   module _ {n₀ i k : ℕ} {out₀ out : List ℕ} (g : Rowing 82 wide (λ r. r) l n n₀ out₀ i out k) where
-    pub regions-again : {k′ : ℕ} {out′ : List ℕ} → i < n → Put 24 (line 82 (getD l (i * wide) 0 ∷ getD l (i * wide + 1) 0 ∷ [])) k out out′ k′ → n ≤ 4097 → length l ≡ wide * 4097 → Rowing 82 wide (λ r. r) l n n₀ out₀ (i + 1) out′ k′
+    pub regions-again : {k′ : ℕ} {out′ : List ℕ} → i < n → LaidWithin 24 (line 82 (getD l (i * wide) 0 ∷ getD l (i * wide + 1) 0 ∷ [])) k out out′ k′ → n ≤ 4097 → length l ≡ wide * 4097 → Rowing 82 wide (λ r. r) l n n₀ out₀ (i + 1) out′ k′
     regions-again {k′} {out′} h p b e =
-        let q : Put 24 (line 82 (take wide (drop (i * wide) l))) k out out′ k′ = rw (two-row (i * wide) l (omega arith)) p in
+        let q : LaidWithin 24 (line 82 (take wide (drop (i * wide) l))) k out out′ k′ = rw (two-row (i * wide) l (omega arith)) p in
         rowing-again 82 wide (λ r. r) l n g h q
 
     pub regions-end : n ≤ i → Laid (heldLines l n) n₀ out₀ out k
     unfolding heldLines
     regions-end h = rowing-end 82 wide (λ r. r) l n g h
 
-module _ {s list : List ℕ} {n : ℕ} (w : Held s list n) where
+module _ {s list : List ℕ} {n : ℕ} (w : RegionsIn s list n) where
   held-lines : heldLines list n ≡ regionLines s
   unfolding heldLines regionLines
-  held-lines = ap (lines 82 (λ (r : List ℕ). r)) (w .same) ∙ lines-map 82 (λ (r : List ℕ). r) rowOf (regions s)
+  held-lines = ap (lines 82 (λ (r : List ℕ). r)) (w .same) ∙ lines-map 82 (λ (r : List ℕ). r) rowOf (houseRegions s)
 
   pub held-room : {k : ℕ} → Room k (regionLines s) → Room k (heldLines list n)
   held-room h = rw held-lines h
@@ -106,20 +115,20 @@ module _ (l : List ℕ) (n : ℕ) where
   items-first h = rowing-first 87 5 rowFields l n h
 
   module _ {n₀ i k : ℕ} {out₀ out : List ℕ} (g : Rowing 87 5 rowFields l n n₀ out₀ i out k) where
-    pub items-again : {k′ : ℕ} {out′ : List ℕ} → i < n → Put 46 (line 87 (rowFields (getD l (i * 5) 0 ∷ getD l (i * 5 + 1) 0 ∷ getD l (i * 5 + 2) 0 ∷ getD l (i * 5 + 3) 0 ∷ getD l (i * 5 + 4) 0 ∷ []))) k out out′ k′ → n ≤ 8193 → length l ≡ 40965
+    pub items-again : {k′ : ℕ} {out′ : List ℕ} → i < n → LaidWithin 46 (line 87 (rowFields (getD l (i * 5) 0 ∷ getD l (i * 5 + 1) 0 ∷ getD l (i * 5 + 2) 0 ∷ getD l (i * 5 + 3) 0 ∷ getD l (i * 5 + 4) 0 ∷ []))) k out out′ k′ → n ≤ 8193 → length l ≡ 40965
         → Rowing 87 5 rowFields l n n₀ out₀ (i + 1) out′ k′
     items-again {k′} {out′} h p b e =
-        let q : Put 46 (line 87 (rowFields (take 5 (drop (i * 5) l)))) k out out′ k′ = rw (five-row (i * 5) l (omega arith)) p in
+        let q : LaidWithin 46 (line 87 (rowFields (take 5 (drop (i * 5) l)))) k out out′ k′ = rw (five-row (i * 5) l (omega arith)) p in
         rowing-again 87 5 rowFields l n g h q
 
     pub items-end : n ≤ i → Laid (filedLines l n) n₀ out₀ out k
     unfolding filedLines
     items-end h = rowing-end 87 5 rowFields l n g h
 
-module _ {s list : List ℕ} {n : ℕ} (w : Filed s list n) where
+module _ {s list : List ℕ} {n : ℕ} (w : ItemsIn s list n) where
   filed-lines : filedLines list n ≡ sheetLines s
   unfolding filedLines sheetLines
-  filed-lines = ap (lines 87 rowFields) (w .same) ∙ lines-map 87 rowFields five (shown s)
+  filed-lines = ap (lines 87 rowFields) (w .same) ∙ lines-map 87 rowFields five (houseSheet s)
 
   pub filed-room : {k : ℕ} → Room k (sheetLines s) → Room k (filedLines list n)
   filed-room h = rw filed-lines h
@@ -129,8 +138,8 @@ module _ {s list : List ℕ} {n : ℕ} (w : Filed s list n) where
 
 -- ---- an item's line
 module _ (start end kind byte number : ℕ) {n r : ℕ} {out out′ : List ℕ} where
-  pub item-marker : kind ≡ 0 → Put 35 (line 87 (start ∷ end ∷ byte ∷ [])) n out out′ r → Put 46 (line 87 (rowFields (start ∷ end ∷ kind ∷ byte ∷ number ∷ []))) n out out′ r
-  item-marker e p = rw (eq-eqb kind 0 e) (record { next = p .next; list = p .list; short = omega (arith, p .short) })
+  pub item-marker : kind ≡ 0 → LaidWithin 35 (line 87 (start ∷ end ∷ byte ∷ [])) n out out′ r → LaidWithin 46 (line 87 (rowFields (start ∷ end ∷ kind ∷ byte ∷ number ∷ []))) n out out′ r
+  item-marker e p = rw (eq-eqb kind 0 e) (record { laid = p .laid; short = omega (arith, p .short) })
 
-  pub item-numbered : (kind ≡ 0 → ⊥) → Put 46 (line 87 (start ∷ end ∷ byte ∷ number ∷ [])) n out out′ r → Put 46 (line 87 (rowFields (start ∷ end ∷ kind ∷ byte ∷ number ∷ []))) n out out′ r
+  pub item-numbered : (kind ≡ 0 → ⊥) → LaidWithin 46 (line 87 (start ∷ end ∷ byte ∷ number ∷ [])) n out out′ r → LaidWithin 46 (line 87 (rowFields (start ∷ end ∷ kind ∷ byte ∷ number ∷ []))) n out out′ r
   item-numbered e p = rw (ne-eqb kind 0 e) p

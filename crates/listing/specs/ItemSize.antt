@@ -16,12 +16,13 @@ use Rattle.common.specs.Sets.{acceptedFrom}
 use Rattle.common.specs.Items.{ItemGrammar, blank, leads, hitTurn}
 use Rattle.common.specs.Scanning.{Scanner, byNeedles, turn}
 use Rattle.common.specs.ItemLaws.{both}
-use Rattle.common.specs.Turn.{Turn, Each, OnFound}
+use Rattle.common.specs.Turn.{Turn}
+use Rattle.common.specs.Turning.{Each, OnFound}
 use Rattle.block_marker.specs.Marker as marker
 use Rattle.block_marker.specs.declared.MarkerItem.{MarkerItem}
 use Rattle.block_numbered.specs.Numbered as numbered
 use Rattle.block_numbered.specs.declared.NumberedItem.{NumberedItem}
-use Rattle.feed.specs.Items.{merge, placeOf}
+use Rattle.feed.specs.Items.{merge, contentStart}
 use Rattle.sheet.specs.Sheet.{inside, outside}
 use Rattle.feed.specs.declared.item.SheetItem.{SheetItem}
 use Rattle.listing.specs.Listing.{houseMarkers, houseDelims}
@@ -102,8 +103,8 @@ module _ (P : SheetItem → Type 0) where
   pub each-outside : (regions : List (List ℕ)) (l : List SheetItem) → Each P l → Each P (outside regions l)
   unfolding outside
   each-outside regions [] w = tt
-  each-outside regions (i ∷ l) w = by (each-outside regions l (w .1)) (decide (inside regions (placeOf i)))
+  each-outside regions (i ∷ l) w = by (each-outside regions l (w .1)) (decide (inside regions (contentStart i)))
     where
-      by : Each P (outside regions l) → (inside regions (placeOf i) ≡ true) ⊎ (inside regions (placeOf i) ≡ false) → Each P (outside regions (i ∷ l))
+      by : Each P (outside regions l) → (inside regions (contentStart i) ≡ true) ⊎ (inside regions (contentStart i) ≡ false) → Each P (outside regions (i ∷ l))
       by f (inl u) = rw (u, outside) f
       by f (inr u) = rw (u, outside) (w .0, f)

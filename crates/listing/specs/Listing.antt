@@ -20,8 +20,8 @@ use Rattle.common.specs.Scanning.{Scanner, fresh, items}
 use Rattle.block_marker.specs.Marker as marker
 use Rattle.block_numbered.specs.Numbered as numbered
 use Rattle.region.specs.Region.{Caused, rowOf}
-use Rattle.rules.specs.Columns.{Columns, columns, gramOf}
-use Rattle.region.specs.Regions as context
+use Rattle.rules.specs.Columns.{Columns, gramOf}
+use Rattle.region.specs.Regions as region
 use Rattle.sheet.specs.Sheet.{sheetOf}
 use Rattle.feed.specs.declared.item.SheetItem.{SheetItem}
 use Rattle.listing.specs.Lines.{line, lines}
@@ -29,7 +29,17 @@ use Rattle.listing.specs.Lines.{line, lines}
 -- ---- "House grammar: line end 10, escape 92, separator 32, tab 9" (`house`)
 -- "fences backtick and tilde, min 3; symmetric backtick, count 1; asymmetric `<` `>`, count 1"
 abbrev pub houseRules : Columns
-houseRules = columns (96 ∷ 126 ∷ []) (3 ∷ 3 ∷ []) (96 ∷ []) (1 ∷ []) (60 ∷ []) (62 ∷ []) (1 ∷ [])
+houseRules = record {
+  fenceBytes = 96 ∷ 126 ∷ [];
+  fenceMins = 3 ∷ 3 ∷ [];
+  inline = record {
+    symBytes = 96 ∷ [];
+    symCounts = 1 ∷ [];
+    openers = 60 ∷ [];
+    closers = 62 ∷ [];
+    openCounts = 1 ∷ [];
+  };
+}
 
 -- "markers `- * +`; delimiters `. )`"
 abbrev pub houseMarkers : List Bool
@@ -39,67 +49,67 @@ abbrev pub houseDelims : List Bool
 houseDelims = setOf delimiterBytes
 
 -- ---- "`R` start end"
-unfoldable pub regions : List ℕ → List Caused
-regions s = context.regions (gramOf house houseRules) s
+unfoldable pub houseRegions : List ℕ → List Caused
+houseRegions s = region.regions (gramOf house houseRules) s
 
 unfoldable pub regionLines : List ℕ → List ℕ
-regionLines s = lines 82 rowOf (regions s)
+regionLines s = lines 82 rowOf (houseRegions s)
 
 -- ---- "`F` start end fence byte"
-abbrev pub fenceRow : ℕ → fence.Fence → List ℕ
-fenceRow byte f = f .start ∷ f .end ∷ byte ∷ []
+abbrev pub fenceFields : ℕ → fence.Fence → List ℕ
+fenceFields byte f = f .start ∷ f .end ∷ byte ∷ []
 
-unfoldable pub fencesOf : ℕ → List ℕ → List ℕ
-fencesOf byte s = lines 70 (fenceRow byte) (fence.fences (fence.fresh byte 3 10 32 9) s)
+unfoldable pub fenceLinesOf : ℕ → List ℕ → List ℕ
+fenceLinesOf byte s = lines 70 (fenceFields byte) (fence.fences (fence.fresh byte 3 10 32 9) s)
 
 -- ---- "`C` start end": "continuation `>`, nest 8"
 abbrev pub frameRow : Span → List ℕ
 frameRow = spanValues
 
 unfoldable pub frameLines : List ℕ → List ℕ
-frameLines s = lines 67 frameRow (frames (cont.marksOf (cont.fresh 62 10 32 9 8)) s)
+frameLines s = lines 67 frameRow (frames (cont.framingOf (cont.fresh 62 10 32 9 8)) s)
 
 -- ---- items, a line of their values for each: all that a fresh state has before it
-abbrev pub itemsOf : {S A : Type 0} → Scanner S A → ℕ → List Bool → List ℕ → List ℕ
-itemsOf c letter set s = lines letter (c .values) (items c (fresh c 10 32 9 set) set s)
+abbrev pub itemLinesOf : {S A : Type 0} → Scanner S A → ℕ → List Bool → List ℕ → List ℕ
+itemLinesOf c letter set s = lines letter (c .values) (items c (fresh c 10 32 9 set) set s)
 
 -- "`M` start end marker byte"
 unfoldable pub markerLines : List ℕ → List ℕ
-markerLines s = itemsOf marker.scanner 77 houseMarkers s
+markerLines s = itemLinesOf marker.scanner 77 houseMarkers s
 
 -- "`N` start end delimiter number"
 unfoldable pub numberedLines : List ℕ → List ℕ
-numberedLines s = itemsOf numbered.scanner 78 houseDelims s
+numberedLines s = itemLinesOf numbered.scanner 78 houseDelims s
 
 -- ---- "then `W` for sheet items, with their M or N fields": kind 0 is a marker
 abbrev pub sheetRow : SheetItem → List ℕ
 sheetRow i = cond (eqb (i .kind) 0) (i .start ∷ i .end ∷ i .byte ∷ []) (i .start ∷ i .end ∷ i .byte ∷ i .number ∷ [])
 
 -- the work sheet by the list of the text's regions
-unfoldable pub shown : List ℕ → List SheetItem
-shown s = sheetOf house houseMarkers houseDelims (flatten rowOf (regions s)) (length (regions s)) s
+unfoldable pub houseSheet : List ℕ → List SheetItem
+houseSheet s = sheetOf house houseMarkers houseDelims (flatten rowOf (houseRegions s)) (length (houseRegions s)) s
 
 unfoldable pub sheetLines : List ℕ → List ℕ
-sheetLines s = lines 87 sheetRow (shown s)
+sheetLines s = lines 87 sheetRow (houseSheet s)
 
 -- ---- the listing
 -- "`R` …; `F` … (backtick fences first); `C` …; `M` …; `N` …; then `W` …"
 unfoldable pub entries : List ℕ → List ℕ
-entries s = regionLines s ++ (fencesOf 96 s ++ (fencesOf 126 s ++ (frameLines s ++ (markerLines s ++ (numberedLines s ++ sheetLines s)))))
+entries s = regionLines s ++ (fenceLinesOf 96 s ++ (fenceLinesOf 126 s ++ (frameLines s ++ (markerLines s ++ (numberedLines s ++ sheetLines s)))))
 
 -- "more than 8,192 bytes, the program's own limit, prints only `X<TAB>1`"
-unfoldable pub listed : List ℕ → List ℕ
-listed s = cond (ltb 8192 (length s)) (line 88 (1 ∷ [])) (entries s)
+unfoldable pub printed : List ℕ → List ℕ
+printed s = cond (ltb 8192 (length s)) (line 88 (1 ∷ [])) (entries s)
 
 -- ---- what is promised
 -- 3 where the run is too small for the listing; else the number of bytes written
 unfoldable pub listingAnswer : List ℕ → List ℕ → Outcome
-listingAnswer s out = refuse 3 (ltb (length out) (length (listed s))) (given (length (listed s) ∷ []))
+listingAnswer s out = refuse 3 (ltb (length out) (length (printed s))) (given (length (printed s) ∷ []))
 
 -- the listing over the front of the run, and nothing beyond it changed; a refusal changes nothing
 unfoldable pub listingRun : List ℕ → List ℕ → List ℕ
-listingRun s out = cond (ltb (length out) (length (listed s))) out (over (listed s) out)
+listingRun s out = cond (ltb (length out) (length (printed s))) out (over (printed s) out)
 
-pub record Listed (s out out′ : List ℕ) (o : Outcome) : Type 0 where
+pub record Printed (s out out′ : List ℕ) (o : Outcome) : Type 0 where
   pub answer : o ≡ listingAnswer s out
   pub run : out′ ≡ listingRun s out

@@ -18,16 +18,16 @@ use Rattle.common.specs.RefusalLaws.{answer-unique}
 use Rattle.common.specs.declared.refusal.Answer.{Answer}
 use Rattle.common.specs.declared.refusal.Answer.the-variants.{Value}
 use Rattle.listing.specs.Lines.{line}
-use Rattle.listing.specs.Put.{Laid, Put, Room}
+use Rattle.listing.specs.Put.{Laid, LaidWithin, Room}
 use Rattle.listing.specs.PartLaws.{entry-parts, part-first, part-second, part-both}
-use Rattle.listing.specs.Listing.{entries, listed, listingAnswer, listingRun, Listed}
+use Rattle.listing.specs.Listing.{entries, printed, listingAnswer, listingRun, Printed}
 use Rattle.listing.specs.Parts.{laterLines}
-use Rattle.listing.specs.Held.{Held, heldLines}
+use Rattle.listing.specs.Held.{RegionsIn, heldLines}
 use Rattle.listing.specs.HeldLaws.{held-room, held-laid}
-use Rattle.listing.specs.SizeLaws.{entries-room, listed-most}
+use Rattle.listing.specs.SizeLaws.{entries-room, printed-most}
 
 -- ---- the entries: regions first
-module _ {s list : List ℕ} {count : ℕ} (w : Held s list count) where
+module _ {s list : List ℕ} {count : ℕ} (w : RegionsIn s list count) where
   pub regions-room : length s ≤ 8192 → Room 0 (heldLines list count)
   regions-room h = held-room w (part-first entry-parts s (entries-room s h))
 
@@ -40,57 +40,57 @@ module _ {s list : List ℕ} {count : ℕ} (w : Held s list count) where
 
 -- ---- the listing
 module _ (s : List ℕ) {out out′ : List ℕ} {r : ℕ} where
-  pub listed-over : 8192 < length s → Put 13 (line 88 (1 ∷ [])) 0 out out′ r → Laid (listed s) 0 out out′ r
-  unfolding listed
-  listed-over h p = rw (lt-ltb 8192 (length s) h) (record { next = p .next; list = p .list })
+  pub printed-over : 8192 < length s → LaidWithin 13 (line 88 (1 ∷ [])) 0 out out′ r → Laid (printed s) 0 out out′ r
+  unfolding printed
+  printed-over h p = rw (lt-ltb 8192 (length s) h) (p .laid)
 
-  pub listed-entries : length s ≤ 8192 → Laid (entries s) 0 out out′ r → Laid (listed s) 0 out out′ r
-  unfolding listed
-  listed-entries h p = rw (le-ltb 8192 (length s) h) p
+  pub printed-entries : length s ≤ 8192 → Laid (entries s) 0 out out′ r → Laid (printed s) 0 out out′ r
+  unfolding printed
+  printed-entries h p = rw (le-ltb 8192 (length s) h) p
 
 -- ---- the ways out
 module _ (s : List ℕ) {out : List ℕ} where
-  pub listing-refused : {k : ℕ} → length out < k → Gives (length (listed s)) k → Listed s out out (refused 3)
+  pub listing-refused : {k : ℕ} → length out < k → Gives (length (printed s)) k → Printed s out out (refused 3)
   unfolding listingAnswer listingRun
   listing-refused {k} h g =
-      let l = lt-ltb (length out) (length (listed s)) (omega (arith, g .answer)) in
+      let l = lt-ltb (length out) (length (printed s)) (omega (arith, g .answer)) in
       record { answer = rw l; run = rw l }
 
-  served : {out′ : List ℕ} {r : ℕ} → length (listed s) ≤ length out → Laid (listed s) 0 out out′ r → Listed s out out′ (given (r ∷ []))
+  served : {out′ : List ℕ} {r : ℕ} → length (printed s) ≤ length out → Laid (printed s) 0 out out′ r → Printed s out out′ (given (r ∷ []))
   unfolding listingAnswer listingRun
   served {out′} {r} h p =
-      let l = le-ltb (length out) (length (listed s)) h in
-      let e : r ≡ length (listed s) = p .next ∙ omega arith in
-      record { answer = rw (l, e); run = p .list ∙ rw l (put-over (listed s) out h) }
+      let l = le-ltb (length out) (length (printed s)) h in
+      let e : r ≡ length (printed s) = p .next ∙ omega arith in
+      record { answer = rw (l, e); run = p .list ∙ rw l (put-over (printed s) out h) }
 
-  pub listing-fits : {k : ℕ} {out′ : List ℕ} {r : ℕ} → k ≤ length out → Gives (length (listed s)) k → Laid (listed s) 0 out out′ r → Listed s out out′ (given (r ∷ []))
+  pub listing-fits : {k : ℕ} {out′ : List ℕ} {r : ℕ} → k ≤ length out → Gives (length (printed s)) k → Laid (printed s) 0 out out′ r → Printed s out out′ (given (r ∷ []))
   listing-fits h g p = served (omega (arith, g .answer)) p
 
-  pub listing-large : {out′ : List ℕ} {r : ℕ} → 1000000 ≤ length out → Laid (listed s) 0 out out′ r → Listed s out out′ (given (r ∷ []))
-  listing-large h p = served (omega (arith, listed-most s)) p
+  pub listing-large : {out′ : List ℕ} {r : ℕ} → 1000000 ≤ length out → Laid (printed s) 0 out out′ r → Printed s out out′ (given (r ∷ []))
+  listing-large h p = served (omega (arith, printed-most s)) p
 
 -- two results of a listing for the same arguments are one: the answer, and the run that is left
-pub listed-unique : {s out out′ out″ : List ℕ} {a a′ : Answer} → Listed s out out′ (told a) → Listed s out out″ (told a′) → (a ≡ a′) × (out′ ≡ out″)
-listed-unique {s} {out} v w = (answer-unique {o = listingAnswer s out} (record { answer = v .answer }) (record { answer = w .answer }), v .run ∙ sym (w .run))
+pub printed-unique : {s out out′ out″ : List ℕ} {a a′ : Answer} → Printed s out out′ (told a) → Printed s out out″ (told a′) → (a ≡ a′) × (out′ ≡ out″)
+printed-unique {s} {out} v w = (answer-unique {o = listingAnswer s out} (record { answer = v .answer }) (record { answer = w .answer }), v .run ∙ sym (w .run))
 
 -- in a run of 1,000,000 bytes it is never refused
-pub listing-served : (s out out′ : List ℕ) (a : Answer) → 1000000 ≤ length out → Listed s out out′ (told a) → (told a ≡ given (length (listed s) ∷ [])) × (out′ ≡ over (listed s) out)
+pub listing-served : (s out out′ : List ℕ) (a : Answer) → 1000000 ≤ length out → Printed s out out′ (told a) → (told a ≡ given (length (printed s) ∷ [])) × (out′ ≡ over (printed s) out)
 unfolding listingAnswer listingRun
 listing-served s out out′ a h w =
-    let l = le-ltb (length out) (length (listed s)) (omega (arith, listed-most s)) in
+    let l = le-ltb (length out) (length (printed s)) (omega (arith, printed-most s)) in
     (w .answer ∙ rw l, w .run ∙ rw l)
 
 -- what is written lies within the run
-module _ (s : List ℕ) {out out′ : List ℕ} {a : Answer} {k : ℕ} (e : a ≡ Value k) (w : Listed s out out′ (told a)) where
+module _ (s : List ℕ) {out out′ : List ℕ} {a : Answer} {k : ℕ} (e : a ≡ Value k) (w : Printed s out out′ (told a)) where
   said : given (k ∷ []) ≡ listingAnswer s out
   said = ap told (sym e) ∙ w .answer
 
   pub listing-within : k ≤ length out′
   unfolding listingAnswer listingRun
-  listing-within = by (decide (ltb (length out) (length (listed s))))
+  listing-within = by (decide (ltb (length out) (length (printed s))))
     where
       n : ℕ
-      n = length (listed s)
+      n = length (printed s)
 
       by : (ltb (length out) n ≡ true) ⊎ (ltb (length out) n ≡ false) → k ≤ length out′
       by (inl u) =
@@ -98,8 +98,8 @@ module _ (s : List ℕ) {out out′ : List ℕ} {a : Answer} {k : ℕ} (e : a �
           absurd (omega (arith, ap (λ (o : Outcome). o .number) z))
       by (inr u) =
           let z : given (k ∷ []) ≡ given (n ∷ []) = said ∙ rw u in
-          let y : out′ ≡ over (listed s) out = w .run ∙ rw u in
-          omega (arith, ap (λ (o : Outcome). getD (o .values) 0 0) z, ap length y, length-append (listed s) (drop n out))
+          let y : out′ ≡ over (printed s) out = w .run ∙ rw u in
+          omega (arith, ap (λ (o : Outcome). getD (o .values) 0 0) z, ap length y, length-append (printed s) (drop n out))
 
   -- as the part of it that is handed on
   pub listing-part : k ≡ length (take k out′)

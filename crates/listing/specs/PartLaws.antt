@@ -7,14 +7,14 @@ use lib.ListN.{length, length-append}
 use Rattle.common.specs.EntryLaws.{put-append}
 use Rattle.listing.specs.Listing.{regionLines, entries}
 use Rattle.listing.specs.Put.{Laid, Room}
-use Rattle.listing.specs.Parts.{Parts, both, laterLines}
+use Rattle.listing.specs.Parts.{Parts, bothLines, laterLines}
 
-pub both-parts : (first second : List ℕ → List ℕ) → Parts (both first second) first second
-unfolding both
+pub both-parts : (first second : List ℕ → List ℕ) → Parts (bothLines first second) first second
+unfolding bothLines
 both-parts first second = record { same = λ s. refl }
 
 pub entry-parts : Parts entries regionLines laterLines
-unfolding entries both
+unfolding entries bothLines
 entry-parts = record { same = λ s. simp append-assoc }
 
 module _ {whole first second : List ℕ → List ℕ} (p : Parts whole first second) (s : List ℕ) where

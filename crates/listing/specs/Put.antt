@@ -11,10 +11,9 @@ pub record Laid (b : List ℕ) (n : ℕ) (out out′ : List ℕ) (r : ℕ) : Typ
   pub next : r ≡ n + length b
   pub list : out′ ≡ putAt n b out
 
--- the same of few bytes
-pub record Put (most : ℕ) (b : List ℕ) (n : ℕ) (out out′ : List ℕ) (r : ℕ) : Type 0 where
-  pub next : r ≡ n + length b
-  pub list : out′ ≡ putAt n b out
+-- the same of at most so many bytes
+pub record LaidWithin (most : ℕ) (b : List ℕ) (n : ℕ) (out out′ : List ℕ) (r : ℕ) : Type 0 where
+  pub laid : Laid b n out out′ r
   pub short : r ≤ n + most
 
 -- a place from which on the bytes b end at or before 1,000,000

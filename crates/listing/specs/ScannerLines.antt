@@ -9,8 +9,8 @@ use Rattle.search.specs.Promise.{Gives}
 use Rattle.common.specs.Refusals.{refuse, tooLong, past, spanValues, spanBack}
 use Rattle.common.specs.Items.{said, stepFor}
 use Rattle.common.specs.Turn.{Turn, go, stop, found, Step, yields, ends}
-use Rattle.common.specs.Scanning.{Scanner, fresh, first, answer, state, items, Lawful}
-use Rattle.common.specs.ScanningLaws.{run-all, fresh-place}
+use Rattle.common.specs.Scanning.{Scanner, fresh, first, answer, state, items}
+use Rattle.common.specs.ScanningLaws.{Lawful, run-all, fresh-place}
 use Rattle.common.specs.declared.span.Span.{Span}
 use Rattle.fence.specs.Fence as fence
 use Rattle.fence.specs.Run as fenceRun
@@ -20,8 +20,8 @@ use Rattle.cont.specs.Cont as cont
 use Rattle.cont.specs.Run as contRun
 use Rattle.cont.specs.declared.ContIter.{ContIter}
 use Rattle.listing.specs.Put.{Room}
-use Rattle.listing.specs.Listing.{fencesOf, frameRow, frameLines, itemsOf}
-use Rattle.listing.specs.Going.{mapStep, Reads, Itemizing, Fencing, Framing}
+use Rattle.listing.specs.Listing.{fenceLinesOf, frameRow, frameLines, itemLinesOf}
+use Rattle.listing.specs.Going.{mapStep, Reads, ItemsGoing, FencesGoing, FramesGoing}
 use Rattle.listing.specs.GoingLaws.{lines-map, going-first, reads-refuse, yields-values}
 
 -- what a turn's answer says is no values, or those of a thing
@@ -36,13 +36,13 @@ said-reads {S} {A} values back reads (found a m) k = by (values a) refl (reads a
 
 -- ---- an item scanner, by a set of the house
 module _ {S A : Type 0} {c : Scanner S A} {Lies : ℕ → ℕ → A → Type 0} (w : Lawful c Lies) where
-  pub items-first : (letter : ℕ) (house set : List Bool) (s : List ℕ) {out : List ℕ} {n : ℕ} {g : S} → set ≡ house → Gives (fresh c 10 32 9 set) g → length s ≤ 8192 → Room n (itemsOf c letter house s)
-      → Itemizing c set s letter (itemsOf c letter house s) n out g out n
+  pub items-first : (letter : ℕ) (house set : List Bool) (s : List ℕ) {out : List ℕ} {n : ℕ} {g : S} → set ≡ house → Gives (fresh c 10 32 9 set) g → length s ≤ 8192 → Room n (itemLinesOf c letter house s)
+      → ItemsGoing c set s letter (itemLinesOf c letter house s) n out g out n
   unfolding answer
   items-first letter house set s z e h l =
       let g = fresh c 10 32 9 set in
       rw (e .answer)
-      (going-first (ap (λ (x : List Bool). itemsOf c letter x s) (sym z) ∙ sym (lines-map letter (λ (v : List ℕ). v) (c .values) (items c g set s)))
+      (going-first (ap (λ (x : List Bool). itemLinesOf c letter x s) (sym z) ∙ sym (lines-map letter (λ (v : List ℕ). v) (c .values) (items c g set s)))
       (yields-values (c .values) (c .back) (λ k. answer c k set s) (λ k. state c k set s)
       (λ k. reads-refuse (c .values) (c .back) 1 (tooLong s) (refuse 2 (past s (c .fields k .pos)) (said (c .values) (first c k set s)))
       (reads-refuse (c .values) (c .back) 2 (past s (c .fields k .pos)) (said (c .values) (first c k set s)) (said-reads (c .values) (c .back) (w .reads) (first c k set s))))
@@ -50,8 +50,8 @@ module _ {S A : Type 0} {c : Scanner S A} {Lies : ℕ → ℕ → A → Type 0} 
       (λ n i. run-all w set s (omega arith) g (λ k. answer c k set s) (λ k. state c k set s) (λ q j. record { answer = refl; next = refl }) n (omega (arith, fresh-place w 10 32 9 set)) i)) l)
 
 -- ---- the fence scanner, by a byte
-pub fences-first : (byte : ℕ) (s : List ℕ) {out : List ℕ} {n : ℕ} {g : FenceIter} → Gives (fence.fresh byte 3 10 32 9) g → length s ≤ 8192 → Room n (fencesOf byte s) → Fencing byte s n out g out n
-unfolding fencesOf fence.fences fence.answer
+pub fences-first : (byte : ℕ) (s : List ℕ) {out : List ℕ} {n : ℕ} {g : FenceIter} → Gives (fence.fresh byte 3 10 32 9) g → length s ≤ 8192 → Room n (fenceLinesOf byte s) → FencesGoing byte s n out g out n
+unfolding fenceLinesOf fence.fences fence.answer
 fences-first byte s e h l =
     let g = fence.fresh byte 3 10 32 9 in
     rw (e .answer)
@@ -64,16 +64,16 @@ fences-first byte s e h l =
     (λ q j. fenceRun.kept-step (fence.at g q) s (fence.answer (fence.at g q) s) (fence.state (fence.at g q) s) (omega arith) j (record { answer = refl; next = refl })))) l)
 
 -- ---- the scanner of frames
-pub frames-first : (s : List ℕ) {out : List ℕ} {n : ℕ} {g : ContIter} → Gives (cont.fresh 62 10 32 9 8) g → length s ≤ 8192 → Room n (frameLines s) → Framing s n out g out n
+pub frames-first : (s : List ℕ) {out : List ℕ} {n : ℕ} {g : ContIter} → Gives (cont.fresh 62 10 32 9 8) g → length s ≤ 8192 → Room n (frameLines s) → FramesGoing s n out g out n
 unfolding frameLines cont.answer
 frames-first s e h l =
     let g = cont.fresh 62 10 32 9 8 in
     rw (e .answer)
-    (going-first (sym (lines-map 67 (λ (v : List ℕ). v) frameRow (frames (cont.marksOf g) s)))
+    (going-first (sym (lines-map 67 (λ (v : List ℕ). v) frameRow (frames (cont.framingOf g) s)))
     (yields-values spanValues spanBack (λ k. cont.answer k s) (λ k. cont.state k s)
     (λ k. reads-refuse spanValues spanBack 1 (tooLong s) (refuse 2 (cont.misplaced k s) (cont.spanOf (cont.stepped k s)))
     (reads-refuse spanValues spanBack 2 (cont.misplaced k s) (cont.spanOf (cont.stepped k s)) (span-reads (cont.stepped k s))))
-    g (frames (cont.marksOf g) s)
+    g (frames (cont.framingOf g) s)
     (λ n i. contRun.run-said 62 10 32 9 8 s n i (λ k. cont.answer k s) (λ k. cont.state k s) (λ k v. record { answer = refl; next = refl }) (omega arith))) l)
   where
     span-reads : (t : Step Span ContIter) → Reads ContIter spanValues spanBack (cont.spanOf t .values)

@@ -12,7 +12,9 @@ use Rattle.decimal.specs.Decimal.{decimal}
 use Rattle.decimal.specs.DecimalLaws.{decimal-few}
 use Rattle.common.specs.Grammars.{house}
 use Rattle.common.specs.Entry.{flatten, rows, wide}
-use Rattle.common.specs.Turn.{Turn, go, stop, found, thenCollect, collect, Adv, Each, OnFound}
+use Rattle.common.specs.Turn.{Turn, go, stop, found, thenCollect, collect}
+use Rattle.common.specs.Turning.{Adv, Each, OnFound}
+use Rattle.common.specs.EachLaws.{each-as}
 use Rattle.common.specs.TurnLaws.{by-turn, collect-each}
 use Rattle.common.specs.ItemLaws.{both}
 use Rattle.region.specs.Region.{Caused, InOrder, rowOf}
@@ -23,22 +25,22 @@ use Rattle.fence.specs.Laws as fenceLaws
 use Rattle.fence.specs.Run as fenceRun
 use Rattle.cont.specs.Frames.{frames}
 use Rattle.cont.specs.Cont as cont
-use Rattle.common.specs.Scanning.{Scanner, fresh, turn, items, Lawful}
-use Rattle.common.specs.ScanningLaws.{turn-adv, fresh-place}
+use Rattle.common.specs.Scanning.{Scanner, fresh, turn, items}
+use Rattle.common.specs.ScanningLaws.{Lawful, turn-adv, fresh-place}
 use Rattle.block_marker.specs.Marker as marker
 use Rattle.block_marker.specs.MarkerRun as markerRun
 use Rattle.block_marker.specs.declared.MarkerItem.{MarkerItem}
 use Rattle.block_numbered.specs.Numbered as numbered
 use Rattle.block_numbered.specs.NumberedRun as numberedRun
 use Rattle.block_numbered.specs.declared.NumberedItem.{NumberedItem}
-use Rattle.feed.specs.Items.{marked, counted, markItems, numberedItems, merge}
+use Rattle.feed.specs.Items.{marked, counted, markItemsFrom, numberedItemsFrom, merge}
 use Rattle.sheet.specs.Sheet.{sheetOf}
 use Rattle.feed.specs.declared.item.SheetItem.{SheetItem}
 use Rattle.listing.specs.Lines.{field, fields, line, lines}
 use Rattle.listing.specs.Put.{Room}
-use Rattle.listing.specs.Listing.{houseRules, houseMarkers, houseDelims, regions, regionLines, fenceRow, fencesOf, frameRow, frameLines, itemsOf, markerLines, numberedLines, sheetRow, shown, sheetLines, entries, listed}
+use Rattle.listing.specs.Listing.{houseRules, houseMarkers, houseDelims, houseRegions, regionLines, fenceFields, fenceLinesOf, frameRow, frameLines, itemLinesOf, markerLines, numberedLines, sheetRow, houseSheet, sheetLines, entries, printed}
 use Rattle.listing.specs.FoundLaws.{few-regions, few-shown}
-use Rattle.listing.specs.FrameSize.{each-as, Inside, frames-inside, frames-few}
+use Rattle.listing.specs.FrameSize.{Inside, frames-inside, frames-few}
 use Rattle.listing.specs.ItemSize.{Mark, Delimiter, mark-byte, number-byte, each-merge, each-outside}
 
 -- ---- lines
@@ -107,7 +109,7 @@ each-map P f (a ∷ l) w = (w .0, each-map P f l (w .1))
 
 -- the lines of an item scanner's items, where none is longer than m
 items-most : {S A : Type 0} {c : Scanner S A} {Lies : ℕ → ℕ → A → Type 0} (w : Lawful c Lies) (letter m : ℕ) (house : List Bool) (s : List ℕ) (P : A → Type 0)
-    → ((i : A) → P i → length (line letter (c .values i)) ≤ m) → Each P (items c (fresh c 10 32 9 house) house s) → length (itemsOf c letter house s) ≤ length s * m
+    → ((i : A) → P i → length (line letter (c .values i)) ≤ m) → Each P (items c (fresh c 10 32 9 house) house s) → length (itemLinesOf c letter house s) ≤ length s * m
 items-most {c = c} w letter m house s P fits each =
     let g = fresh c 10 32 9 house in
     let l = items c g house s in
@@ -121,24 +123,24 @@ module _ (s : List ℕ) (h : length s ≤ 8192) where
   regions-inside from (r ∷ l) w = (two-most 82 (r .start) (r .stop) (omega arith) (omega arith), regions-inside (r .stop) l (w .3))
 
   region-most : length (regionLines s) ≤ 49164
-  unfolding regionLines regions
-  region-most = omega (arith, few-regions s h, lines-most 82 12 rowOf (regions s) (regions-inside 0 (regions s) (regions-in-order (gramOf house houseRules) s)))
+  unfolding regionLines houseRegions
+  region-most = omega (arith, few-regions s h, lines-most 82 12 rowOf (houseRegions s) (regions-inside 0 (houseRegions s) (regions-in-order (gramOf house houseRules) s)))
 
   -- ---- fences
-  fence-most : (byte : ℕ) → byte < 256 → length (fencesOf byte s) ≤ 131072
-  unfolding fencesOf fence.fences
+  fence-most : (byte : ℕ) → byte < 256 → length (fenceLinesOf byte s) ≤ 131072
+  unfolding fenceLinesOf fence.fences
   fence-most byte k =
       let g = fence.fresh byte 3 10 32 9 in
       let adv = fenceLaws.turn-adv g s in
       let l = collect (fence.openTurn g s) (suc (length s)) 0 in
-      let w : Each (λ f. length (line 70 (fenceRow byte f)) ≤ 16) l = collect-each adv (λ f. length (line 70 (fenceRow byte f)) ≤ 16) (λ q n f i v. three-most 70 (f .start) (f .end) (omega arith) (omega arith) byte k) (suc (length s)) 0 (omega arith) in
-      rw (← (fenceRun.turns-find g s 0 (omega arith))) (omega (arith, found-few adv (suc (length s)) 0 (omega arith), lines-most 70 16 (fenceRow byte) l w))
+      let w : Each (λ f. length (line 70 (fenceFields byte f)) ≤ 16) l = collect-each adv (λ f. length (line 70 (fenceFields byte f)) ≤ 16) (λ q n f i v. three-most 70 (f .start) (f .end) (omega arith) (omega arith) byte k) (suc (length s)) 0 (omega arith) in
+      rw (← (fenceRun.turns-find g s 0 (omega arith))) (omega (arith, found-few adv (suc (length s)) 0 (omega arith), lines-most 70 16 (fenceFields byte) l w))
 
   -- ---- frames
   frame-most : length (frameLines s) ≤ 98304
   unfolding frameLines
   frame-most =
-      let m = cont.marksOf (cont.fresh 62 10 32 9 8) in
+      let m = cont.framingOf (cont.fresh 62 10 32 9 8) in
       omega (arith, frames-few m s, lines-most 67 12 frameRow (frames m s) (each-as (Inside (length s)) (λ f. length (line 67 (frameRow f)) ≤ 12) (λ f w. two-most 67 (f .start) (f .end) (omega arith) (omega arith)) (frames m s) (frames-inside m s)))
 
   -- ---- items
@@ -170,26 +172,26 @@ module _ (s : List ℕ) (h : length s ≤ 8192) where
       omega (arith, items-most numberedRun.lawful 78 26 houseDelims s (λ i. (i .span .start ≤ 8192) × (i .span .end ≤ 8192) × (i .delimiter < 256) × (i .number < 1000000000)) (λ i w. four-most 78 (i .span .start) (i .span .end) (w .0) (w .1) (i .delimiter) (w .2) (i .number) (w .3)) numbers-fit)
 
   -- ---- the work sheet
-  shown-fit : Each (λ i. length (line 87 (sheetRow i)) ≤ 26) (shown s)
-  unfolding shown sheetOf markItems numberedItems
+  shown-fit : Each (λ i. length (line 87 (sheetRow i)) ≤ 26) (houseSheet s)
+  unfolding houseSheet sheetOf markItemsFrom numberedItemsFrom
   shown-fit =
       let P : SheetItem → Type 0 = λ i. length (line 87 (sheetRow i)) ≤ 26 in
       let ms = marker.items (marker.fresh 10 32 9 houseMarkers) houseMarkers s in
       let ns = numbered.items (numbered.fresh 10 32 9 houseDelims) houseDelims s in
       let a : Each P (map marked ms) = each-map P marked ms (each-as (λ i. (i .span .start ≤ 8192) × (i .span .end ≤ 8192) × (i .marker < 256)) (λ i. P (marked i)) (λ i w. omega (arith, three-most 87 (i .span .start) (i .span .end) (w .0) (w .1) (i .marker) (w .2))) ms marks-fit) in
       let b : Each P (map counted ns) = each-map P counted ns (each-as (λ i. (i .span .start ≤ 8192) × (i .span .end ≤ 8192) × (i .delimiter < 256) × (i .number < 1000000000)) (λ i. P (counted i)) (λ i w. four-most 87 (i .span .start) (i .span .end) (w .0) (w .1) (i .delimiter) (w .2) (i .number) (w .3)) ns numbers-fit) in
-      each-outside P (rows wide (length (regions s)) (flatten rowOf (regions s))) (merge (map marked ms) (map counted ns)) (each-merge P (map marked ms) (map counted ns) a b)
+      each-outside P (rows wide (length (houseRegions s)) (flatten rowOf (houseRegions s))) (merge (map marked ms) (map counted ns)) (each-merge P (map marked ms) (map counted ns) a b)
 
   sheet-most : length (sheetLines s) ≤ 212992
   unfolding sheetLines
-  sheet-most = omega (arith, few-shown s, lines-most 87 26 sheetRow (shown s) shown-fit)
+  sheet-most = omega (arith, few-shown s, lines-most 87 26 sheetRow (houseSheet s) shown-fit)
 
   -- ---- all of it
   entries-most : length (entries s) ≤ 1000000
   unfolding entries
   entries-most =
-      let f = fencesOf 96 s in
-      let g = fencesOf 126 s in
+      let f = fenceLinesOf 96 s in
+      let g = fenceLinesOf 126 s in
       let c = frameLines s in
       let m = markerLines s in
       let n = numberedLines s in
@@ -200,6 +202,6 @@ module _ (s : List ℕ) (h : length s ≤ 8192) where
   entries-room = record { fits = omega (arith, entries-most) }
 
 -- a run of 1,000,000 bytes has room for the listing of every text
-pub listed-most : (s : List ℕ) → length (listed s) ≤ 1000000
-unfolding listed
-listed-most s = both (λ (l : List ℕ). length l ≤ 1000000) (ltb 8192 (length s)) (line 88 (1 ∷ [])) (entries s) (λ e. omega (arith, line-size 88 (1 ∷ []), fields-size 1 [], byte-most 1 (omega arith))) (λ e. entries-most s (ltb-false 8192 (length s) e))
+pub printed-most : (s : List ℕ) → length (printed s) ≤ 1000000
+unfolding printed
+printed-most s = both (λ (l : List ℕ). length l ≤ 1000000) (ltb 8192 (length s)) (line 88 (1 ∷ [])) (entries s) (λ e. omega (arith, line-size 88 (1 ∷ []), fields-size 1 [], byte-most 1 (omega arith))) (λ e. entries-most s (ltb-false 8192 (length s) e))

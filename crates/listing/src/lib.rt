@@ -22,8 +22,8 @@ ghost use lib.ListN.{length};
 ghost use Rattle.search.specs.Promise.{Gives};
 ghost use Rattle.common.specs.Refusals.{told};
 ghost use Rattle.listing.specs.Put.{Laid, Room};
-ghost use Rattle.listing.specs.Held.{Held};
-ghost use Rattle.listing.specs.Listing.{houseMarkers, houseDelims, entries, listed, Listed};
+ghost use Rattle.listing.specs.Held.{RegionsIn};
+ghost use Rattle.listing.specs.Listing.{houseMarkers, houseDelims, entries, printed, Printed};
 ghost use Rattle.listing.specs.Parts.{laterLines};
 
 // The most bytes of a text that is listed.
@@ -45,7 +45,7 @@ fn put_later(
     requires { ⌜ now markers ≡ houseMarkers ⌝ }
     requires { ⌜ now delims ≡ houseDelims ⌝ }
     requires { ⌜ length (now text) ≤ 8192 ⌝ }
-    requires { ⌜ Held (now text) (now list) count ⌝ }
+    requires { ⌜ RegionsIn (now text) (now list) count ⌝ }
     requires { ⌜ Room n (laterLines (now text)) ⌝ }
     ensures { λ r. ⌜ Laid (laterLines (now (text .entry))) n (now (out .entry)) (now (out .exit)) r ⌝ }
 {
@@ -68,7 +68,7 @@ fn put_entries(text: &[u8], out: &mut [u8]) -> usize
 
 // The whole listing.
 fn put_listing(text: &[u8], out: &mut [u8]) -> usize
-    ensures { λ r. ⌜ Laid (listed (now (text .entry))) 0 (now (out .entry)) (now (out .exit)) r ⌝ }
+    ensures { λ r. ⌜ Laid (printed (now (text .entry))) 0 (now (out .entry)) (now (out .exit)) r ⌝ }
 {
     if text.len() > MOST_TEXT {
         return put_one(out, 0, b'X', 1);
@@ -78,7 +78,7 @@ fn put_listing(text: &[u8], out: &mut [u8]) -> usize
 
 // How many bytes the listing has.
 fn size(text: &[u8]) -> usize
-    ensures { λ r. ⌜ Gives (length (listed (now (text .entry)))) r ⌝ }
+    ensures { λ r. ⌜ Gives (length (printed (now (text .entry)))) r ⌝ }
 {
     let mut none = [0u8; 1];
     put_listing(text, &mut none)
@@ -87,7 +87,7 @@ fn size(text: &[u8]) -> usize
 // Writes the listing of a text over the front of `out`, answers how many bytes it has, and changes nothing beyond them. Where `out` is too
 // small it refuses, and changes nothing. A run of 1,000,000 bytes is never too small, and its listing is made in one pass.
 pub fn listing(text: &[u8], out: &mut [u8]) -> Answer
-    ensures { λ r. ⌜ Listed (now (text .entry)) (now (out .entry)) (now (out .exit)) (told r) ⌝ }
+    ensures { λ r. ⌜ Printed (now (text .entry)) (now (out .entry)) (now (out .exit)) (told r) ⌝ }
 {
     if out.len() < MOST_LISTED {
         if out.len() < size(text) {

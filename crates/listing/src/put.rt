@@ -5,7 +5,7 @@ ghost use mathlib.Core.List.{[], _∷_};
 ghost use Prim.Native.Nat.{_≤_};
 ghost use Rattle.decimal.specs.Decimal.{decimal};
 ghost use Rattle.listing.specs.Lines.{field, fields, line};
-ghost use Rattle.listing.specs.Put.{Put};
+ghost use Rattle.listing.specs.Put.{LaidWithin};
 
 const TAB: u8 = 9;
 
@@ -14,7 +14,7 @@ const EOL: u8 = 10;
 // Puts one byte at place `n`, and answers the next place.
 fn put_byte(out: &mut [u8], n: usize, b: u8) -> usize
     requires { ⌜ n ≤ 1000100 ⌝ }
-    ensures { λ r. ⌜ Put 1 (b ∷ []) n (now (out .entry)) (now (out .exit)) r ⌝ }
+    ensures { λ r. ⌜ LaidWithin 1 (b ∷ []) n (now (out .entry)) (now (out .exit)) r ⌝ }
 {
     if n < out.len() {
         out[n] = b;
@@ -26,7 +26,7 @@ fn put_byte(out: &mut [u8], n: usize, b: u8) -> usize
 // A number in decimal.
 fn put_number(out: &mut [u8], n: usize, x: u32) -> usize
     requires { ⌜ n ≤ 1000090 ⌝ }
-    ensures { λ r. ⌜ Put 10 (decimal x) n (now (out .entry)) (now (out .exit)) r ⌝ }
+    ensures { λ r. ⌜ LaidWithin 10 (decimal x) n (now (out .entry)) (now (out .exit)) r ⌝ }
 {
     let digits = digits_of(x);
     let bytes = digits.bytes;
@@ -42,7 +42,7 @@ fn put_number(out: &mut [u8], n: usize, x: u32) -> usize
 // A tab and a number.
 fn put_field(out: &mut [u8], n: usize, x: u32) -> usize
     requires { ⌜ n ≤ 1000080 ⌝ }
-    ensures { λ r. ⌜ Put 11 (field x) n (now (out .entry)) (now (out .exit)) r ⌝ }
+    ensures { λ r. ⌜ LaidWithin 11 (field x) n (now (out .entry)) (now (out .exit)) r ⌝ }
 {
     let k = put_byte(out, n, TAB);
     put_number(out, k, x)
@@ -51,7 +51,7 @@ fn put_field(out: &mut [u8], n: usize, x: u32) -> usize
 // A line's letter and its first two fields.
 fn put_head(out: &mut [u8], n: usize, letter: u8, a: u32, b: u32) -> usize
     requires { ⌜ n ≤ 1000000 ⌝ }
-    ensures { λ r. ⌜ Put 23 (letter ∷ fields (a ∷ b ∷ [])) n (now (out .entry)) (now (out .exit)) r ⌝ }
+    ensures { λ r. ⌜ LaidWithin 23 (letter ∷ fields (a ∷ b ∷ [])) n (now (out .entry)) (now (out .exit)) r ⌝ }
 {
     let i = put_byte(out, n, letter);
     let j = put_field(out, i, a);
@@ -61,7 +61,7 @@ fn put_head(out: &mut [u8], n: usize, letter: u8, a: u32, b: u32) -> usize
 // A line's letter and its first three fields.
 fn put_head_three(out: &mut [u8], n: usize, letter: u8, a: u32, b: u32, c: u32) -> usize
     requires { ⌜ n ≤ 1000000 ⌝ }
-    ensures { λ r. ⌜ Put 34 (letter ∷ fields (a ∷ b ∷ c ∷ [])) n (now (out .entry)) (now (out .exit)) r ⌝ }
+    ensures { λ r. ⌜ LaidWithin 34 (letter ∷ fields (a ∷ b ∷ c ∷ [])) n (now (out .entry)) (now (out .exit)) r ⌝ }
 {
     let i = put_head(out, n, letter, a, b);
     put_field(out, i, c)
@@ -70,7 +70,7 @@ fn put_head_three(out: &mut [u8], n: usize, letter: u8, a: u32, b: u32, c: u32) 
 // Lines of one, two, three and four fields.
 pub(crate) fn put_one(out: &mut [u8], n: usize, letter: u8, a: u32) -> usize
     requires { ⌜ n ≤ 1000000 ⌝ }
-    ensures { λ r. ⌜ Put 13 (line letter (a ∷ [])) n (now (out .entry)) (now (out .exit)) r ⌝ }
+    ensures { λ r. ⌜ LaidWithin 13 (line letter (a ∷ [])) n (now (out .entry)) (now (out .exit)) r ⌝ }
 {
     let i = put_byte(out, n, letter);
     let j = put_field(out, i, a);
@@ -79,7 +79,7 @@ pub(crate) fn put_one(out: &mut [u8], n: usize, letter: u8, a: u32) -> usize
 
 pub(crate) fn put_two(out: &mut [u8], n: usize, letter: u8, a: u32, b: u32) -> usize
     requires { ⌜ n ≤ 1000000 ⌝ }
-    ensures { λ r. ⌜ Put 24 (line letter (a ∷ b ∷ [])) n (now (out .entry)) (now (out .exit)) r ⌝ }
+    ensures { λ r. ⌜ LaidWithin 24 (line letter (a ∷ b ∷ [])) n (now (out .entry)) (now (out .exit)) r ⌝ }
 {
     let i = put_head(out, n, letter, a, b);
     put_byte(out, i, EOL)
@@ -87,7 +87,7 @@ pub(crate) fn put_two(out: &mut [u8], n: usize, letter: u8, a: u32, b: u32) -> u
 
 pub(crate) fn put_three(out: &mut [u8], n: usize, letter: u8, a: u32, b: u32, c: u32) -> usize
     requires { ⌜ n ≤ 1000000 ⌝ }
-    ensures { λ r. ⌜ Put 35 (line letter (a ∷ b ∷ c ∷ [])) n (now (out .entry)) (now (out .exit)) r ⌝ }
+    ensures { λ r. ⌜ LaidWithin 35 (line letter (a ∷ b ∷ c ∷ [])) n (now (out .entry)) (now (out .exit)) r ⌝ }
 {
     let i = put_head_three(out, n, letter, a, b, c);
     put_byte(out, i, EOL)
@@ -103,7 +103,7 @@ pub(crate) fn put_four(
     d: u32,
 ) -> usize
     requires { ⌜ n ≤ 1000000 ⌝ }
-    ensures { λ r. ⌜ Put 46 (line letter (a ∷ b ∷ c ∷ d ∷ [])) n (now (out .entry)) (now (out .exit)) r ⌝ }
+    ensures { λ r. ⌜ LaidWithin 46 (line letter (a ∷ b ∷ c ∷ d ∷ [])) n (now (out .entry)) (now (out .exit)) r ⌝ }
 {
     let i = put_head_three(out, n, letter, a, b, c);
     let j = put_field(out, i, d);

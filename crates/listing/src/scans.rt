@@ -14,14 +14,14 @@ ghost use mathlib.Core.Path.{_≡_};
 ghost use Prim.Native.Nat.{_≤_};
 ghost use lib.ListN.{length};
 ghost use Rattle.listing.specs.Put.{Laid, Room};
-ghost use Rattle.listing.specs.Listing.{houseMarkers, houseDelims, fencesOf, frameLines, markerLines, numberedLines};
+ghost use Rattle.listing.specs.Listing.{houseMarkers, houseDelims, fenceLinesOf, frameLines, markerLines, numberedLines};
 ghost use Rattle.listing.specs.Parts.{fenceLines, spanLines, itemLines, scanLines};
 
 // The fences of one byte.
 fn put_fences_of(text: &[u8], byte: u8, out: &mut [u8], n: usize) -> usize
     requires { ⌜ length (now text) ≤ 8192 ⌝ }
-    requires { ⌜ Room n (fencesOf byte (now text)) ⌝ }
-    ensures { λ r. ⌜ Laid (fencesOf byte (now (text .entry))) n (now (out .entry)) (now (out .exit)) r ⌝ }
+    requires { ⌜ Room n (fenceLinesOf byte (now text)) ⌝ }
+    ensures { λ r. ⌜ Laid (fenceLinesOf byte (now (text .entry))) n (now (out .entry)) (now (out .exit)) r ⌝ }
 {
     let mut state = FenceIter::new(
         byte,

@@ -13,9 +13,9 @@ ghost use mathlib.Core.List.{[], _∷_};
 ghost use Prim.Native.Nat.{_≤_, _*_};
 ghost use lib.ListN.{length};
 ghost use Rattle.listing.specs.Lines.{line};
-ghost use Rattle.listing.specs.Put.{Put, Laid, Room};
+ghost use Rattle.listing.specs.Put.{LaidWithin, Laid, Room};
 ghost use Rattle.listing.specs.Listing.{houseMarkers, houseDelims, sheetLines};
-ghost use Rattle.listing.specs.Held.{Held, heldLines, Filed, rowFields, filedLines};
+ghost use Rattle.listing.specs.Held.{RegionsIn, heldLines, ItemsIn, rowFields, filedLines};
 ghost use Rattle.common.specs.Entry.{wide};
 
 // Numbers for the regions of 8,192 bytes: there are at most half as many as bytes, and one more.
@@ -27,7 +27,7 @@ const ITEM_ROOM: usize = 40965;
 // The text's regions, and how many there are.
 pub(crate) fn find_regions(text: &[u8], list: &mut [u32; REGION_ROOM]) -> usize
     requires { ⌜ length (now text) ≤ 8192 ⌝ }
-    ensures { λ r. ⌜ Held (now (text .entry)) (now (list .exit)) r ⌝ }
+    ensures { λ r. ⌜ RegionsIn (now (text .entry)) (now (list .exit)) r ⌝ }
 {
     let fences = [Grammar::BACKTICK, Grammar::TILDE];
     let mins = [Grammar::FENCE_MIN, Grammar::FENCE_MIN];
@@ -86,8 +86,8 @@ fn find_items(
     requires { ⌜ now markers ≡ houseMarkers ⌝ }
     requires { ⌜ now delims ≡ houseDelims ⌝ }
     requires { ⌜ length (now text) ≤ 8192 ⌝ }
-    requires { ⌜ Held (now text) (now list) count ⌝ }
-    ensures { λ r. ⌜ Filed (now (text .entry)) (now (items .exit)) r ⌝ }
+    requires { ⌜ RegionsIn (now text) (now list) count ⌝ }
+    ensures { λ r. ⌜ ItemsIn (now (text .entry)) (now (items .exit)) r ⌝ }
 {
     match sheet(text, Grammar::house(), markers, delims, list, count, items) {
         Answer::Value(n) => n,
@@ -106,7 +106,7 @@ fn put_item(
     number: u32,
 ) -> usize
     requires { ⌜ n ≤ 1000000 ⌝ }
-    ensures { λ r. ⌜ Put 46 (line 87 (rowFields (start ∷ end ∷ kind ∷ byte ∷ number ∷ []))) n (now (out .entry)) (now (out .exit)) r ⌝ }
+    ensures { λ r. ⌜ LaidWithin 46 (line 87 (rowFields (start ∷ end ∷ kind ∷ byte ∷ number ∷ []))) n (now (out .entry)) (now (out .exit)) r ⌝ }
 {
     if kind == 0 {
         return put_three(out, n, b'W', start, end, byte);
@@ -152,7 +152,7 @@ pub(crate) fn put_sheet(
     requires { ⌜ now markers ≡ houseMarkers ⌝ }
     requires { ⌜ now delims ≡ houseDelims ⌝ }
     requires { ⌜ length (now text) ≤ 8192 ⌝ }
-    requires { ⌜ Held (now text) (now list) count ⌝ }
+    requires { ⌜ RegionsIn (now text) (now list) count ⌝ }
     requires { ⌜ Room n (sheetLines (now text)) ⌝ }
     ensures { λ r. ⌜ Laid (sheetLines (now (text .entry))) n (now (out .entry)) (now (out .exit)) r ⌝ }
 {

@@ -10,7 +10,7 @@ use Rattle.rules.specs.Columns.{gramOf}
 use Rattle.listing.specs.Listing.{houseRules}
 use Rattle.fence.specs.Fence.{fresh}
 use Rattle.fence.specs.declared.FenceIter.{FenceIter}
-use Rattle.cont.specs.declared.Marks.{Marks}
+use Rattle.cont.specs.declared.Framing.{Framing}
 use Rattle.common.specs.Sets.{delimiterBytes}
 
 -- "fences backtick and tilde, min 3; symmetric backtick, count 1; asymmetric `<` `>`, count 1"
@@ -26,5 +26,5 @@ abbrev pub delimiters : ItemGrammar
 delimiters = grammar (house .eol) (house .sep) (house .tab) (oneOf delimiterBytes)
 
 -- "continuation `>`", to a depth
-abbrev pub quotes : ℕ → Marks
+abbrev pub quotes : ℕ → Framing
 quotes nest = record { byte = 62; eol = house .eol; sep = house .sep; tab = house .tab; cap = nest }

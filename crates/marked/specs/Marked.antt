@@ -12,13 +12,13 @@ use Rattle.fence.specs.Fence.{begins, opens, closes, closeEnd, nextFence, fence
 use Rattle.common.specs.Items.{leading, beyond, itemAt, itemsOf}
 use Rattle.decimal.specs.Decimal.{digit, valuedFrom}
 use Rattle.block_numbered.specs.Numbered.{numberLine}
-use Rattle.cont.specs.Frames.{markAt, afterMark, marksFrom, marks, begun, ending, frames}
+use Rattle.cont.specs.Frames.{markAt, afterMark, marksFrom, lineMarks, openStart, ending, frames}
 use Rattle.region.specs.Region.{reaches, keepBefore, keepFrom}
 use Rattle.cover.specs.Shape.{misshapen}
 use Rattle.amend.specs.Amend.{joint}
-use Rattle.amend.specs.Amended.{listed, amendedRegions, offJoint, leftOpen, amendedAnswer}
+use Rattle.amend.specs.Amended.{regionsIn, amendedRegions, offJoint, leftOpen, amendedAnswer}
 use Rattle.marked.specs.Page.{All, page}
 
 pub marked : All page
-unfolding is either oneOf other holds firstOf firstPlace find back lineStart opensLine closesTo closing reader endsAt paragraphEnd nextIn scan collect shutPlace oddBefore symTurn asymTurn inline regionTurn regions searched openRule symRule begins opens closes closeEnd nextFence fences leading beyond itemAt itemsOf digit valuedFrom numberLine markAt afterMark marksFrom marks begun ending frames gather reaches keepBefore keepFrom joint listed amendedRegions misshapen offJoint leftOpen amendedAnswer
+unfolding is either oneOf other holds firstOf firstPlace find back lineStart opensLine closesTo closing reader endsAt paragraphEnd nextIn scan collect shutPlace oddBefore symTurn asymTurn inline regionTurn regions searched openRule symRule begins opens closes closeEnd nextFence fences leading beyond itemAt itemsOf digit valuedFrom numberLine markAt afterMark marksFrom lineMarks openStart ending frames gather reaches keepBefore keepFrom joint regionsIn amendedRegions misshapen offJoint leftOpen amendedAnswer
 marked = (refl, (refl, (refl, (refl, (refl, (refl, (refl, (refl, (refl, (refl, (refl, (refl, (refl, (refl, (refl, (refl, (refl, (refl, (record { answer = refl; list = refl }, (record { answer = refl; list = refl }, (record { answer = refl; list = refl }, (record { answer = refl; list = refl }, (refl, (record { answer = refl; list = refl }, tt))))))))))))))))))))))))

@@ -32,8 +32,8 @@ abbrev pub own : List ℕ → List ℕ
 own s = flatten rowOf (regions gram s)
 
 -- a run with room for four regions
-abbrev pub blank : List ℕ
-blank = 0 ∷ 0 ∷ 0 ∷ 0 ∷ 0 ∷ 0 ∷ 0 ∷ 0 ∷ []
+abbrev pub zeros : List ℕ
+zeros = 0 ∷ 0 ∷ 0 ∷ 0 ∷ 0 ∷ 0 ∷ 0 ∷ 0 ∷ []
 
 -- what a row says
 abbrev pub Says : Row → Type 0
@@ -41,8 +41,8 @@ Says (listed s l) = flatten rowOf (regions gram s) ≡ l
 Says (fenced byte s l) = flatten (λ f. f .start ∷ f .end ∷ []) (fences (fence byte) s) ≡ l
 Says (counted s l) = flatten values (numbers delimiters s) ≡ l
 Says (framed nest s l) = flatten (λ f. f .start ∷ f .end ∷ []) (frames (quotes nest) s) ≡ l
-Says (mended s a b r l) = Amended house houseRules s (own s) (length (own s) / wide) (edit a b r) blank (over l blank) (given (length l / wide ∷ []))
-Says (refusing s a b r n) = Amended house houseRules s (own s) (length (own s) / wide) (edit a b r) blank blank (refused n)
+Says (mended s a b r l) = Amended house houseRules s (own s) (length (own s) / wide) (edit a b r) zeros (over l zeros) (given (length l / wide ∷ []))
+Says (refusing s a b r n) = Amended house houseRules s (own s) (length (own s) / wide) (edit a b r) zeros zeros (refused n)
 
 -- what all rows of a table say
 abbrev pub All : List Row → Type 0

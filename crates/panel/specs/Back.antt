@@ -6,7 +6,7 @@ use mathlib.Core.List.{List}
 use Prim.Native.Nat.{ℕ, _≤_}
 use lib.ListN.{length, getD, take, drop, replicate}
 use Rattle.common.specs.Entry.{flatten}
-use Rattle.common.specs.Turn.{Each}
+use Rattle.common.specs.Turning.{Each}
 use Rattle.common.specs.declared.span.Span.{Span}
 use Rattle.cont.specs.declared.ContIter.{ContIter}
 use Rattle.cells.specs.Bytes.{four, cells, within, readable}

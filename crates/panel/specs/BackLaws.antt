@@ -13,12 +13,13 @@ use borrow.Author.Tests.{le-leb, leb-true, eq-eqb, ltb-false}
 use Rattle.search.specs.SearchLaws.{decide, and-true}
 use Rattle.common.specs.Entry.{flatten}
 use Rattle.common.specs.Rules.{tabulate}
-use Rattle.common.specs.Refusals.{Outcome, tooLong, past}
-use Rattle.common.specs.Turn.{Turn, firstTurn, Adv, Leads}
+use Rattle.common.specs.Refusals.{tooLong, past}
+use Rattle.common.specs.Turn.{Turn, firstTurn}
+use Rattle.common.specs.Turning.{Adv, Leads}
 use Rattle.common.specs.TurnLaws.{by-turn, scan-ends}
 use Rattle.common.specs.Items.{placeOf, stateBy}
-use Rattle.common.specs.Scanning.{Fields, Scanner, Lawful, moved, probed, fresh, at, first, state}
-use Rattle.common.specs.ScanningLaws.{turn-adv}
+use Rattle.common.specs.Scanning.{Fields, Scanner, moved, probed, fresh, at, first, state}
+use Rattle.common.specs.ScanningLaws.{Lawful, turn-adv}
 use Rattle.common.specs.Sets.{acceptedFrom, accepted, padded, probe}
 use Rattle.fence.specs.declared.FenceIter.{FenceIter}
 use Rattle.fence.specs.Fence as fence
@@ -33,7 +34,7 @@ use Rattle.cells.specs.Bytes.{four, cells, asFlag, within, readable}
 use Rattle.cells.specs.ByteLaws.{length-four}
 use Rattle.cells.specs.BackLaws.{Narrow, cells-four, reply-served}
 use Rattle.cells.specs.CellLaws.{within-at}
-use Rattle.panel.specs.State.{sized, Made, stepAnswer, Stepped, fenceLimits, fenceCells, fenceFrom, markerLimits, itemCells, itemFields, markerCells, markerFrom, numberedCells, numberedFrom}
+use Rattle.panel.specs.State.{sized, Made, StateRuns, Stepper, stepAnswer, Stepped, fenceLimits, fenceCells, fenceFrom, itemLimits, itemCells, itemFields, markerCells, markerFrom, numberedCells, numberedFrom}
 use Rattle.panel.specs.Back.{Small, Held, Holds}
 
 -- ---- cells within limits
@@ -99,12 +100,13 @@ module _ {G : Type 0} (from : List ℕ → G) (show : G → List ℕ) (limits : 
             let z : _≡_ {A = ℕ} 0 2 = d .number ∙ rw u in
             absurd (omega arith)
 
-  -- what a step wrote
-  pub stepped-back : Small limits → (answer : G → List ℕ → Outcome) (next : G → List ℕ → G) (s state state′ run run′ : List ℕ) → Held from show limits (next (from (cells state)) s) → Stepped from show limits answer next s state state′ run run′ 0
-      → Holds from show limits state′ (next (from (cells state)) s)
-  stepped-back small answer next s state state′ run run′ w d =
-      let v = reply-served (stepAnswer from limits answer s state) run (sym (d .reply .number)) in
-      subst (λ (x : List ℕ). Holds from show limits x (next (from (cells state)) s)) (sym (d .left ∙ rw (v .0))) (held-back small (next (from (cells state)) s) w)
+-- what a step wrote
+pub stepped-back : {G : Type 0} (c : Stepper G) → Small (c .limits) → (s : List ℕ) (before after : StateRuns) → Held (c .read) (c .show) (c .limits) (c .next (c .read (cells (before .state))) s) → Stepped c s before after 0
+    → Holds (c .read) (c .show) (c .limits) (after .state) (c .next (c .read (cells (before .state))) s)
+stepped-back c small s before after w d =
+    let v = reply-served (stepAnswer c s before) (before .answer) (sym (d .reply .number)) in
+    let g = c .next (c .read (cells (before .state))) s in
+    subst (λ (x : List ℕ). Holds (c .read) (c .show) (c .limits) x g) (sym (d .left ∙ rw (v .0))) (held-back (c .read) (c .show) (c .limits) small g w)
 
 -- a scan's place is within the text
 pub place-inside : {A : Type 0} {Lies : ℕ → ℕ → A → Type 0} {step : ℕ → Turn A} {len : ℕ} → Adv Lies step len → (q : ℕ) → q ≤ len → placeOf (firstTurn step len q) ≤ len
@@ -165,11 +167,11 @@ fields-back f h =
     let n : getD (f .needles) 0 0 ∷ getD (f .needles) 1 0 ∷ getD (f .needles) 2 0 ∷ [] ≡ f .needles = tabulate-drop (f .needles) 0 3 0 (sym h) in
     rw (n, flag-back (f .streaming))
 
-cells-fields : (l : List ℕ) → within markerLimits l ≡ true → itemCells (itemFields l) ≡ l
+cells-fields : (l : List ℕ) → within itemLimits l ≡ true → itemCells (itemFields l) ≡ l
 unfolding tabulate
 cells-fields l e =
-    let f = flag-cell (getD l 8 0) (within-at markerLimits l 8 e) in
-    rw f (tabulate-drop l 0 9 0 (sym (within-size markerLimits l e)))
+    let f = flag-cell (getD l 8 0) (within-at itemLimits l 8 e) in
+    rw f (tabulate-drop l 0 9 0 (sym (within-size itemLimits l e)))
 
 padded-at : (n k : ℕ) (l : List ℕ) → k < n → getD (padded n l) k 0 ≡ getD l k 0
 padded-at zero k l h = absurd (omega arith)
@@ -194,7 +196,7 @@ accepted-byte set (suc n) b k h = by k (getD set b false) (accepted-byte set n (
     by (suc k) true ih = ih k (omega arith)
     by k false ih = ih k (omega arith)
 
-pub item-small : Small markerLimits
+pub item-small : Small itemLimits
 unfolding within
 item-small = refl
 
@@ -206,10 +208,10 @@ module _ {S A : Type 0} {c : Scanner S A} {Lies : ℕ → ℕ → A → Type 0} 
   show g = itemCells (c .fields g)
 
   abbrev pub ItemHeld : S → Type 0
-  ItemHeld = Held from show markerLimits
+  ItemHeld = Held from show itemLimits
 
-  fields-held : (f : Fields) → length (f .needles) ≡ 3 → within markerLimits (itemCells f) ≡ true → ItemHeld (c .made f)
-  fields-held f h e = record { fits = ap (λ (x : Fields). within markerLimits (itemCells x)) (w .of-made f) ∙ e; same = ap (λ (x : Fields). c .made (itemFields (itemCells x))) (w .of-made f) ∙ ap (c .made) (fields-back f h) }
+  fields-held : (f : Fields) → length (f .needles) ≡ 3 → within itemLimits (itemCells f) ≡ true → ItemHeld (c .made f)
+  fields-held f h e = record { fits = ap (λ (x : Fields). within itemLimits (itemCells x)) (w .of-made f) ∙ e; same = ap (λ (x : Fields). c .made (itemFields (itemCells x))) (w .of-made f) ∙ ap (c .made) (fields-back f h) }
 
   pub item-fresh : (eol sep tab : ℕ) (set : List Bool) → eol ≤ 255 → sep ≤ 255 → tab ≤ 255 → ItemHeld (fresh c eol sep tab set)
   unfolding within
@@ -232,8 +234,8 @@ module _ {S A : Type 0} {c : Scanner S A} {Lies : ℕ → ℕ → A → Type 0} 
           by true = refl
           by false = refl
 
-  pub item-read : (run : List ℕ) → readable markerLimits run ≡ true → ItemHeld (from (cells run))
-  item-read run r = let e = readable-within markerLimits run r in fields-held (itemFields (cells run)) refl (rw (cells-fields (cells run) e) e)
+  pub item-read : (run : List ℕ) → readable itemLimits run ≡ true → ItemHeld (from (cells run))
+  item-read run r = let e = readable-within itemLimits run r in fields-held (itemFields (cells run)) refl (rw (cells-fields (cells run) e) e)
 
   three : (g : S) → ItemHeld g → length (c .fields g .needles) ≡ 3
   three g h = ap (λ (x : S). length (c .fields x .needles)) (sym (h .same)) ∙ ap (λ (x : Fields). length (x .needles)) (w .of-made (itemFields (show g)))
@@ -241,30 +243,30 @@ module _ {S A : Type 0} {c : Scanner S A} {Lies : ℕ → ℕ → A → Type 0} 
   pub item-next : (g : S) (set : List Bool) (s : List ℕ) → ItemHeld g → ItemHeld (state c g set s)
   unfolding state first
   item-next g set s h =
-      state-held ItemHeld (at c) g s (c .fields g .pos) (first c g set s) h (λ q i. fields-held (moved (c .fields g) q) (three g h) (within-set markerLimits (itemCells (c .fields g)) 3 q (h .fits) i))
+      state-held ItemHeld (at c) g s (c .fields g .pos) (first c g set s) h (λ q i. fields-held (moved (c .fields g) q) (three g h) (within-set itemLimits (itemCells (c .fields g)) 3 q (h .fits) i))
       (λ i. place-inside (turn-adv w g set s) (c .fields g .pos) i)
 
 -- of each of them, as the panel reads and shows it
-pub marker-fresh : (eol sep tab : ℕ) (set : List Bool) → eol ≤ 255 → sep ≤ 255 → tab ≤ 255 → Held markerFrom markerCells markerLimits (marker.fresh eol sep tab set)
+pub marker-fresh : (eol sep tab : ℕ) (set : List Bool) → eol ≤ 255 → sep ≤ 255 → tab ≤ 255 → Held markerFrom markerCells itemLimits (marker.fresh eol sep tab set)
 unfolding markerFrom
 marker-fresh = item-fresh marker-lawful
 
-pub marker-read : (run : List ℕ) → readable markerLimits run ≡ true → Held markerFrom markerCells markerLimits (markerFrom (cells run))
+pub marker-read : (run : List ℕ) → readable itemLimits run ≡ true → Held markerFrom markerCells itemLimits (markerFrom (cells run))
 unfolding markerFrom
 marker-read = item-read marker-lawful
 
-pub marker-next : (g : BlockMarkerIter) (set : List Bool) (s : List ℕ) → Held markerFrom markerCells markerLimits g → Held markerFrom markerCells markerLimits (marker.state g set s)
+pub marker-next : (g : BlockMarkerIter) (set : List Bool) (s : List ℕ) → Held markerFrom markerCells itemLimits g → Held markerFrom markerCells itemLimits (marker.state g set s)
 unfolding markerFrom
 marker-next g set s h = item-next marker-lawful g set s h
 
-pub numbered-fresh : (eol sep tab : ℕ) (set : List Bool) → eol ≤ 255 → sep ≤ 255 → tab ≤ 255 → Held numberedFrom numberedCells markerLimits (numbered.fresh eol sep tab set)
+pub numbered-fresh : (eol sep tab : ℕ) (set : List Bool) → eol ≤ 255 → sep ≤ 255 → tab ≤ 255 → Held numberedFrom numberedCells itemLimits (numbered.fresh eol sep tab set)
 unfolding numberedFrom
 numbered-fresh = item-fresh numbered-lawful
 
-pub numbered-read : (run : List ℕ) → readable markerLimits run ≡ true → Held numberedFrom numberedCells markerLimits (numberedFrom (cells run))
+pub numbered-read : (run : List ℕ) → readable itemLimits run ≡ true → Held numberedFrom numberedCells itemLimits (numberedFrom (cells run))
 unfolding numberedFrom
 numbered-read = item-read numbered-lawful
 
-pub numbered-next : (g : BlockNumberedIter) (set : List Bool) (s : List ℕ) → Held numberedFrom numberedCells markerLimits g → Held numberedFrom numberedCells markerLimits (numbered.state g set s)
+pub numbered-next : (g : BlockNumberedIter) (set : List Bool) (s : List ℕ) → Held numberedFrom numberedCells itemLimits g → Held numberedFrom numberedCells itemLimits (numbered.state g set s)
 unfolding numberedFrom
 numbered-next g set s h = item-next numbered-lawful g set s h

@@ -16,24 +16,25 @@ use Rattle.common.specs.Entry.{flatten}
 use Rattle.common.specs.EntryLaws.{length-flatten, length-put}
 use Rattle.common.specs.Rules.{tabulate}
 use Rattle.common.specs.TableLaws.{length-tabulate}
-use Rattle.common.specs.Turn.{Each, Step, yields, ends}
+use Rattle.common.specs.Turn.{Step, yields, ends}
+use Rattle.common.specs.Turning.{Each}
 use Rattle.common.specs.ItemLaws.{both}
-use Rattle.common.specs.Refusals.{tooLong}
+use Rattle.common.specs.Refusals.{tooLong, spanValues}
 use Rattle.common.specs.declared.span.Span.{Span}
 use Rattle.cont.specs.declared.ContIter.{ContIter}
-use Rattle.cont.specs.declared.Marks.{Marks}
-use Rattle.cont.specs.Frames.{frame, markAt, afterMark, marksFrom, marks}
+use Rattle.cont.specs.declared.Framing.{Framing}
+use Rattle.cont.specs.Frames.{frame, markAt, afterMark, marksFrom, lineMarks}
 use Rattle.cont.specs.Cont as cont
-use Rattle.cont.specs.Cont.{Stand, Turn, go, close, stop, marksOf, standing, kept, opening, closing}
+use Rattle.cont.specs.Cont.{Stand, FrameTurn, go, close, stop, framingOf, standing, kept, newMarks, closedFrames}
 use Rattle.cont.specs.MarkLaws.{mark-in, marks-few}
 use Rattle.cont.specs.Steps.{Served}
 use Rattle.cont.specs.StepLaws.{served}
 use Rattle.cont.specs.TurnLaws.{closing-length}
 use Rattle.cells.specs.Bytes.{cells, within, readable}
 use Rattle.cells.specs.CellLaws.{within-at}
-use Rattle.panel.specs.ContState.{contLimits, single, spanPair, contCells, openFrom, pendingFrom, contFrom}
+use Rattle.panel.specs.ContState.{contLimits, single, contCells, openCells, pendingFrom, contFrom}
 use Rattle.panel.specs.Back.{Small, Held, Few, FewSpan, Bounded}
-use Rattle.panel.specs.EachLaws.{each-append, each-getD, each-put, each-drop, each-same, each-table}
+use Rattle.common.specs.EachLaws.{each-append, each-getD, each-put, each-drop, each-same, each-table}
 use Rattle.panel.specs.BackLaws.{within-narrow, readable-within, tabulate-drop}
 
 -- ---- the cells of a state
@@ -46,23 +47,23 @@ each-single : (l : List ℕ) → flatten single l ≡ l
 each-single [] = refl
 each-single (x ∷ l) = ap (λ (r : List ℕ). x ∷ r) (each-single l)
 
-each-spans : (l : List Span) → Each FewSpan l → Each Few (flatten spanPair l)
+each-spans : (l : List Span) → Each FewSpan l → Each Few (flatten spanValues l)
 each-spans [] v = tt
 each-spans (p ∷ l) v = (v .0 .0, (v .0 .1, each-spans l (v .1)))
 
-span-start : (l : List Span) (i : ℕ) → getD (flatten spanPair l) (i * 2) 0 ≡ getD l i (frame 0 0) .start
+span-start : (l : List Span) (i : ℕ) → getD (flatten spanValues l) (i * 2) 0 ≡ getD l i (frame 0 0) .start
 span-start [] i = refl
 span-start (p ∷ l) zero = refl
 span-start (p ∷ l) (suc i) =
     let e : suc i * 2 ≡ suc (suc (i * 2)) = omega arith in
-    ap (λ (k : ℕ). getD (flatten spanPair (p ∷ l)) k 0) e ∙ span-start l i
+    ap (λ (k : ℕ). getD (flatten spanValues (p ∷ l)) k 0) e ∙ span-start l i
 
-span-end : (l : List Span) (i : ℕ) → getD (flatten spanPair l) (i * 2 + 1) 0 ≡ getD l i (frame 0 0) .end
+span-end : (l : List Span) (i : ℕ) → getD (flatten spanValues l) (i * 2 + 1) 0 ≡ getD l i (frame 0 0) .end
 span-end [] i = refl
 span-end (p ∷ l) zero = refl
 span-end (p ∷ l) (suc i) =
     let e : suc i * 2 + 1 ≡ suc (suc (i * 2 + 1)) = omega arith in
-    ap (λ (k : ℕ). getD (flatten spanPair (p ∷ l)) k 0) e ∙ span-end l i
+    ap (λ (k : ℕ). getD (flatten spanValues (p ∷ l)) k 0) e ∙ span-end l i
 
 table-same : {B : Type 0} (f h : ℕ → B) (n a : ℕ) → ((i : ℕ) → i < a + n → f i ≡ h i) → tabulate f n a ≡ tabulate h n a
 unfolding tabulate
@@ -77,7 +78,7 @@ module _ (g : ContIter) (w : Bounded g) where
   o = flatten single (g .«open»)
 
   p : List ℕ
-  p = flatten spanPair (g .pending)
+  p = flatten spanValues (g .pending)
 
   upto : List ℕ
   upto = (six ++ o) ++ (g .«open_len» ∷ [])
@@ -88,7 +89,7 @@ module _ (g : ContIter) (w : Bounded g) where
 
   size-p : length p ≡ 64
   unfolding p
-  size-p = length-flatten spanPair 2 (λ n. refl) (g .pending) ∙ omega (arith, w .waits-long)
+  size-p = length-flatten spanValues 2 (λ n. refl) (g .pending) ∙ omega (arith, w .waits-long)
 
   size-six : length (six ++ o) ≡ 38
   unfolding six
@@ -149,8 +150,8 @@ module _ (g : ContIter) (w : Bounded g) where
   unfolding contCells upto six o p last
   all-cells = refl
 
-  open-back : openFrom ((upto ++ p) ++ last) ≡ g .«open»
-  unfolding openFrom
+  open-back : openCells ((upto ++ p) ++ last) ≡ g .«open»
+  unfolding openCells
   open-back =
       table-same (λ i. getD ((upto ++ p) ++ last) (i + 6) 0) (λ i. getD (g .«open») i 0) 32 0 (λ i h. at-open i h) ∙ tabulate-drop (g .«open») 0 32 0 (sym (w .opens-long))
 
@@ -170,11 +171,11 @@ module _ (g : ContIter) (w : Bounded g) where
   cont-fits : within contLimits (contCells g) ≡ true
   unfolding within contLimits contCells
   cont-fits =
-      let l : List ℕ = ((((g .cap ∷ g .pos ∷ []) ++ flatten single (g .«open»)) ++ (g .«open_len» ∷ [])) ++ flatten spanPair (g .pending)) ++ (g .«pending_len» ∷ g .«pending_idx» ∷ []) in
+      let l : List ℕ = ((((g .cap ∷ g .pos ∷ []) ++ flatten single (g .«open»)) ++ (g .«open_len» ∷ [])) ++ flatten spanValues (g .pending)) ++ (g .«pending_len» ∷ g .«pending_idx» ∷ []) in
       let x : suc (suc (suc (suc (length l)))) ≡ 105 = ap length all-cells ∙ length-append (upto ++ p) last ∙ omega (arith, size-all, size-last) in
       let n : length l ≡ 101 = omega arith in
-      let v : Each Few l = each-append Few ((((g .cap ∷ g .pos ∷ []) ++ flatten single (g .«open»)) ++ (g .«open_len» ∷ [])) ++ flatten spanPair (g .pending)) (g .«pending_len» ∷ g .«pending_idx» ∷ [])
-      (each-append Few (((g .cap ∷ g .pos ∷ []) ++ flatten single (g .«open»)) ++ (g .«open_len» ∷ [])) (flatten spanPair (g .pending))
+      let v : Each Few l = each-append Few ((((g .cap ∷ g .pos ∷ []) ++ flatten single (g .«open»)) ++ (g .«open_len» ∷ [])) ++ flatten spanValues (g .pending)) (g .«pending_len» ∷ g .«pending_idx» ∷ [])
+      (each-append Few (((g .cap ∷ g .pos ∷ []) ++ flatten single (g .«open»)) ++ (g .«open_len» ∷ [])) (flatten spanValues (g .pending))
       (each-append Few ((g .cap ∷ g .pos ∷ []) ++ flatten single (g .«open»)) (g .«open_len» ∷ []) (each-append Few (g .cap ∷ g .pos ∷ []) (flatten single (g .«open»)) (w .cap, (w .pos, tt)) (rw (each-single (g .«open»)) (w .opens))) (w .held, tt))
       (each-spans (g .pending) (w .waits))) (w .waiting, (w .drawn, tt)) in
       rw (le-leb (g .byte) 255 (w .byte), le-leb (g .eol) 255 (w .eol), le-leb (g .sep) 255 (w .sep), le-leb (g .tab) 255 (w .tab))
@@ -216,7 +217,7 @@ unfolding within contLimits
 cont-small = refl
 
 pub cont-read : (run : List ℕ) → readable contLimits run ≡ true → Bounded (contFrom (cells run))
-unfolding contFrom contLimits openFrom pendingFrom
+unfolding contFrom contLimits openCells pendingFrom
 cont-read run r =
     let e = readable-within contLimits run r in
     let few : (k : ℕ) → Few (getD (cells run) k 0) = λ k. within-few contLimits (cells run) cont-small e k in
@@ -245,16 +246,16 @@ record Stood (s : List ℕ) (t : Stand) : Type 0 where
   few : t .count ≤ 32
 
 -- a turn that leads there, with frames of 32 bits closed, 32 at the most
-abbrev Goes : List ℕ → Turn → Type 0
+abbrev Goes : List ℕ → FrameTurn → Type 0
 Goes s (go t) = Stood s t
 Goes s (close l t) = Stood s t × Each FewSpan l × (length l ≤ 32)
 Goes s (stop t) = Stood s t
 
-closing-few : (o : List ℕ) (e from k : ℕ) → Each Few o → Few e → Each FewSpan (closing o e from k)
+closing-few : (o : List ℕ) (e from k : ℕ) → Each Few o → Few e → Each FewSpan (closedFrames o e from k)
 closing-few o e from zero v h = tt
 closing-few o e from (suc k) v h = ((each-getD Few o 0 v (omega arith) (from + k), h), closing-few o e from k v h)
 
-module _ (m : Marks) (s : List ℕ) (short : length s ≤ 4294967295) (nests : m .cap ≤ 32) where
+module _ (m : Framing) (s : List ℕ) (short : length s ≤ 4294967295) (nests : m .cap ≤ 32) where
   marks-few-bits : (e n p : ℕ) → e ≤ length s → Each Few (marksFrom m s e n p)
   unfolding marksFrom
   marks-few-bits e zero p h = tt
@@ -264,11 +265,11 @@ module _ (m : Marks) (s : List ℕ) (short : length s ≤ 4294967295) (nests : m
       by (inl u) v = rw u (omega (arith, mark-in m s e p u), v)
       by (inr u) v = rw u tt
 
-  line-goes : (p : ℕ) (o : List ℕ) (n : ℕ) → p ≤ length s → Each Few o → length o ≡ 32 → n ≤ 32 → Goes s (cont.lineTurn m s p o n)
-  unfolding cont.lineTurn marks
+  line-goes : (p : ℕ) (o : List ℕ) (n : ℕ) → p ≤ length s → Each Few o → length o ≡ 32 → n ≤ 32 → Goes s (cont.turnOnLine m s p o n)
+  unfolding cont.turnOnLine lineMarks
   line-goes p o n h v l k = by (decide (ltb (kept m s p n) n))
     where
-      by : (ltb (kept m s p n) n ≡ true) ⊎ (ltb (kept m s p n) n ≡ false) → Goes s (cond (ltb (kept m s p n) n) (cont.closeFrom m s p o n (kept m s p n)) (cont.openWith m s p o n (opening m s p n)))
+      by : (ltb (kept m s p n) n ≡ true) ⊎ (ltb (kept m s p n) n ≡ false) → Goes s (cond (ltb (kept m s p n) n) (cont.closeFrom m s p o n (kept m s p n)) (cont.openWith m s p o n (newMarks m s p n)))
       by (inl u) =
           rw u
           (record { inside = omega arith; opens = v; long = l; few = omega (arith, ltb-true (kept m s p n) n u) }, closing-few o p (kept m s p n) (n - kept m s p n) v (omega arith), omega (arith, closing-length o p (kept m s p n) (n - kept m s p n)))
@@ -278,9 +279,9 @@ module _ (m : Marks) (s : List ℕ) (short : length s ≤ 4294967295) (nests : m
           rw u
           (record {
             inside = omega arith;
-            opens = each-put Few n (opening m s p n) o (each-drop Few n (marks m s p) (marks-few-bits (lineEnd (m .eol) s p) (m .cap) p e)) v;
-            long = length-put n (opening m s p n) o ∙ l;
-            few = omega (arith, length-drop n (marks m s p));
+            opens = each-put Few n (newMarks m s p n) o (each-drop Few n (lineMarks m s p) (marks-few-bits (lineEnd (m .eol) s p) (m .cap) p e)) v;
+            long = length-put n (newMarks m s p n) o ∙ l;
+            few = omega (arith, length-drop n (lineMarks m s p));
           })
 
   turn-goes : (t : Stand) → Stood s t → Goes s (cont.nextTurn m s t)
@@ -306,18 +307,18 @@ module _ (m : Marks) (s : List ℕ) (short : length s ≤ 4294967295) (nests : m
       (λ b. record { inside = w .inside; opens = w .opens; long = w .long; few = w .few }))
 
   -- what a scan closes, and where it then stands
-  scan-goes : (f : ℕ) (t : Stand) → Stood s t → Goes s (close (cont.scan m s f t .closed) (cont.scan m s f t .left))
-  unfolding cont.scan
+  scan-goes : (f : ℕ) (t : Stand) → Stood s t → Goes s (close (cont.shutWithin m s f t .closed) (cont.shutWithin m s f t .left))
+  unfolding cont.shutWithin
   scan-goes zero t w = (w, tt, omega arith)
   scan-goes (suc f) t w = by (scan-goes f) (cont.nextTurn m s t) (turn-goes t w)
     where
-      by : ((u : Stand) → Stood s u → Goes s (close (cont.scan m s f u .closed) (cont.scan m s f u .left))) → (c : Turn) → Goes s c → Goes s (close (cont.thenShut (cont.scan m s f) c .closed) (cont.thenShut (cont.scan m s f) c .left))
+      by : ((u : Stand) → Stood s u → Goes s (close (cont.shutWithin m s f u .closed) (cont.shutWithin m s f u .left))) → (c : FrameTurn) → Goes s c → Goes s (close (cont.thenShut (cont.shutWithin m s f) c .closed) (cont.thenShut (cont.shutWithin m s f) c .left))
       by ih (go u) a = ih u a
       by ih (close l u) a = a
       by ih (stop u) a = (a, tt, omega arith)
 
 -- a pending frame taken
-taken-bounded : (g : ContIter) → Bounded g → g .«pending_idx» < g .«pending_len» → Bounded (cont.taken g)
+taken-bounded : (g : ContIter) → Bounded g → g .«pending_idx» < g .«pending_len» → Bounded (cont.frameTaken g)
 taken-bounded g v l =
     record {
       byte = v .byte;
@@ -335,7 +336,7 @@ taken-bounded g v l =
       drawn = omega (arith, v .waiting);
     }
 
-taken-served : (g : ContIter) (s : List ℕ) → Served g s → g .«pending_idx» < g .«pending_len» → Served (cont.taken g) s
+taken-served : (g : ContIter) (s : List ℕ) → Served g s → g .«pending_idx» < g .«pending_len» → Served (cont.frameTaken g) s
 taken-served g s v l = record { short = v .short; inside = v .inside; nests = v .nests; opens = v .opens; waits = v .waits; drawn = omega arith }
 
 -- a bounded state that is served
@@ -343,23 +344,23 @@ abbrev pub Good : List ℕ → ContIter → Type 0
 Good s g = Bounded g × Served g s
 
 -- what a step says: a frame of 32 bits, or none
-abbrev pub Says : Step Span ContIter → Type 0
-Says (yields f g) = FewSpan f
-Says (ends g) = Unit {0}
+abbrev pub SaysPending : Step Span ContIter → Type 0
+SaysPending (yields f g) = FewSpan f
+SaysPending (ends g) = Unit {0}
 
-drained-good : (s : List ℕ) (g : ContIter) (e : Step Span ContIter) → Good s g → Good s (cont.stateOf e) → Says e → Good s (cont.stateOf (cont.drainedOr g e)) × Says (cont.drainedOr g e)
+drained-good : (s : List ℕ) (g : ContIter) (e : Step Span ContIter) → Good s g → Good s (cont.stateOf e) → SaysPending e → Good s (cont.stateOf (cont.drainedOr g e)) × SaysPending (cont.drainedOr g e)
 drained-good s g e v u x =
-    both (λ y. Good s (cont.stateOf y) × Says y) (ltb (g .«pending_idx») (g .«pending_len»)) _ _
+    both (λ y. Good s (cont.stateOf y) × SaysPending y) (ltb (g .«pending_idx») (g .«pending_len»)) _ _
     (λ d. let l = ltb-true (g .«pending_idx») (g .«pending_len») d in ((taken-bounded g (v .0) l, taken-served g s (v .1) l), each-getD FewSpan (g .pending) (frame 0 0) (v .0 .waits) (omega arith, omega arith) (g .«pending_idx»)))
     (λ d. (u, x))
 
 -- a step of a served state leaves such a state, and says such a frame
 module _ (g : ContIter) (s : List ℕ) (w : Bounded g) (z : Served g s) where
-  pub cont-steps : Good s (cont.stateOf (cont.stepped g s)) × Says (cont.stepped g s)
+  pub cont-steps : Good s (cont.stateOf (cont.stepped g s)) × SaysPending (cont.stepped g s)
   unfolding cont.stepped
   cont-steps =
-      let r = cont.firstShut (marksOf g) s (standing g) in
-      let a = scan-goes (marksOf g) s (z .short) (z .nests) (suc (length s)) (standing g) (record { inside = z .inside; opens = w .opens; long = w .opens-long; few = z .opens }) in
+      let r = cont.firstShut (framingOf g) s (standing g) in
+      let a = scan-goes (framingOf g) s (z .short) (z .nests) (suc (length s)) (standing g) (record { inside = z .inside; opens = w .opens; long = w .opens-long; few = z .opens }) in
       let f : Bounded (cont.refilled g r) =
       record {
         byte = w .byte;
@@ -378,7 +379,7 @@ module _ (g : ContIter) (s : List ℕ) (w : Bounded g) (z : Served g s) where
       } in
       let h : Served (cont.refilled g r) s = record { short = z .short; inside = a .0 .inside; nests = z .nests; opens = a .0 .few; waits = a .2; drawn = omega arith } in
       let v = drained-good s (cont.refilled g r) (ends (cont.refilled g r)) (f, h) (f, h) tt in
-      drained-good s g (cont.firstOf (cont.refilled g r)) (w, z) (v .0) (v .1)
+      drained-good s g (cont.drainedOrEnd (cont.refilled g r)) (w, z) (v .0) (v .1)
 
 -- the state after a step
 pub cont-next : (g : ContIter) (s : List ℕ) → Bounded g → Bounded (cont.state g s)

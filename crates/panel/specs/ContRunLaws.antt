@@ -17,15 +17,15 @@ use Rattle.cont.specs.Frames as frames
 use Rattle.cont.specs.Steps.{Served}
 use Rattle.cont.specs.Run.{run-said}
 use Rattle.panel.specs.State.{Made, Stepped}
-use Rattle.panel.specs.ContState.{contLimits, contCells, contFrom}
+use Rattle.panel.specs.ContState.{contLimits, contCells, contFrom, contStepper}
 use Rattle.panel.specs.Back.{valuesIn}
 use Rattle.panel.specs.BackLaws.{made-back}
-use Rattle.panel.specs.ContBackLaws.{Good, Says, cont-held, cont-small, cont-fresh, cont-steps}
-use Rattle.panel.specs.RunLaws.{Ready, Fit, fit-each, hosted-run}
+use Rattle.panel.specs.ContBackLaws.{Good, SaysPending, cont-held, cont-small, cont-fresh, cont-steps}
+use Rattle.panel.specs.RunLaws.{StepReady, Fit, fit-each, hosted-run}
 
 -- a served state is not misplaced
 placed : (g : ContIter) (s : List ℕ) → Served g s → cont.misplaced g s ≡ false
-unfolding cont.outside
+unfolding cont.misplacedBy
 placed g s v = rw (le-ltb (length s) (g .pos) (v .inside), le-ltb 32 (g .cap) (v .nests), le-ltb 32 (g .«open_len») (v .opens), le-ltb 32 (g .«pending_len») (v .waits), le-ltb (g .«pending_len») (g .«pending_idx») (v .drawn)) refl
 
 answer-is : (g : ContIter) (s : List ℕ) → Served g s → cont.answer g s ≡ cont.spanOf (cont.stepped g s)
@@ -37,11 +37,11 @@ unfolding cont.state
 state-is g s v = rw (le-ltb 4294967295 (length s) (v .short), placed g s v) refl
 
 module _ (byte eol sep tab nest : ℕ) (s run : List ℕ) (short : length s ≤ 4294967295) (room : 12 ≤ length run) where
-  says-fit : (e : Step Span ContIter) → Says e → (cont.spanOf e .number ≡ 0) × Fit run (cont.spanOf e .values)
+  says-fit : (e : Step Span ContIter) → SaysPending e → (cont.spanOf e .number ≡ 0) × Fit run (cont.spanOf e .values)
   says-fit (yields f g) v = (refl, fit-each run (spanValues f) room (omega arith) (v .0, (v .1, tt)))
   says-fit (ends g) v = (refl, fit-each run [] (omega arith) (omega arith) tt)
 
-  cont-ready : (g : ContIter) → Good s g → Ready contFrom contCells contLimits cont-small cont.answer cont.state spanBack s run short g
+  cont-ready : (g : ContIter) → Good s g → StepReady contStepper cont-small spanBack s run short g
   cont-ready g p =
       let e = answer-is g s (p .1) in
       let v = says-fit (cont.stepped g s) (cont-steps g s (p .0) (p .1) .1) in
@@ -52,11 +52,11 @@ module _ (byte eol sep tab nest : ℕ) (s run : List ℕ) (short : length s ≤ 
 
   -- a state run that `new` wrote, stepped by an entry that keeps its promise, gives the frames of the text
   pub cont-run : byte ≤ 255 → eol ≤ 255 → sep ≤ 255 → tab ≤ 255 → (first state : List ℕ) → Made (contCells (cont.fresh byte eol sep tab nest)) first state 0
-      → (after reply : List ℕ → List ℕ) (number : List ℕ → ℕ) → ((state : List ℕ) → Stepped contFrom contCells contLimits cont.answer cont.state s state (after state) run (reply state) (number state))
-      → (n : ℕ) → length (frames.frames (cont.marksOf (cont.fresh byte eol sep tab nest)) s) ≤ n → drain (λ r. stepFor spanBack (valuesIn (reply r)) (after r)) n state ≡ frames.frames (cont.marksOf (cont.fresh byte eol sep tab nest)) s
+      → (after reply : List ℕ → List ℕ) (number : List ℕ → ℕ) → ((state : List ℕ) → Stepped contStepper s (record { state = state; answer = run }) (record { state = after state; answer = reply state }) (number state))
+      → (n : ℕ) → length (frames.frames (cont.framingOf (cont.fresh byte eol sep tab nest)) s) ≤ n → drain (λ r. stepFor spanBack (valuesIn (reply r)) (after r)) n state ≡ frames.frames (cont.framingOf (cont.fresh byte eol sep tab nest)) s
   cont-run a b c d first state made after reply number keeps n enough =
       let g = cont.fresh byte eol sep tab nest in
       let h = cont-fresh byte eol sep tab nest a b c d in
       let v : Served g s = record { short = short; inside = omega arith; nests = omega arith; opens = omega arith; waits = omega arith; drawn = omega arith } in
-      hosted-run contFrom contCells contLimits cont-small cont.answer cont.state spanBack s run short (Good s) cont-ready cont-on after reply number keeps n g (h, v) state (made-back contFrom contCells contLimits cont-small g (cont-held g h) first state made)
+      hosted-run contStepper cont-small spanBack s run short (Good s) cont-ready cont-on after reply number keeps n g (h, v) state (made-back contFrom contCells contLimits cont-small g (cont-held g h) first state made)
       ∙ run-said byte eol sep tab nest s n enough (λ k. cont.answer k s) (λ k. cont.state k s) (λ k u. record { answer = refl; next = refl }) short

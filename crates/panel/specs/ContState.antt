@@ -5,11 +5,14 @@ use mathlib.Core.List.{List, [], _∷_, _++_}
 use Prim.Native.Nat.{ℕ, _+_, _*_}
 use lib.ListN.{length, getD, replicate}
 use Rattle.common.specs.Entry.{flatten}
+use Rattle.common.specs.Refusals.{spanValues}
 use Rattle.common.specs.Rules.{tabulate}
 use Rattle.common.specs.declared.span.Span.{Span}
 use Rattle.cont.specs.declared.ContIter.{ContIter}
+use Rattle.cont.specs.Cont as cont
 use Rattle.cont.specs.Frames.{frame}
-use Rattle.cells.specs.Reply.{Laid}
+use Rattle.cells.specs.Reply.{LaidAt}
+use Rattle.panel.specs.State.{Stepper}
 
 -- the first four fields are bytes
 unfoldable pub contLimits : List ℕ
@@ -18,22 +21,19 @@ contLimits = 255 ∷ 255 ∷ 255 ∷ 255 ∷ replicate 101 4294967295
 abbrev pub single : ℕ → List ℕ
 single n = n ∷ []
 
-abbrev pub spanPair : Span → List ℕ
-spanPair p = p .start ∷ p .end ∷ []
-
 -- an array of 32 laid from cell k on
 pub record Spread {A : Type 0} (flat : A → List ℕ) (k : ℕ) (all : List A) (out out′ : List ℕ) : Type 0 where
   pub long : length all ≡ 32
-  pub laid : Laid k (flatten flat all) out out′
+  pub laid : LaidAt k (flatten flat all) out out′
 
 -- the cells of a state, in the order of its fields: a span's start and then its end
 unfoldable pub contCells : ContIter → List ℕ
 contCells g =
-    ((((g .byte ∷ g .eol ∷ g .sep ∷ g .tab ∷ g .cap ∷ g .pos ∷ []) ++ flatten single (g .«open»)) ++ (g .«open_len» ∷ [])) ++ flatten spanPair (g .pending)) ++ (g .«pending_len» ∷ g .«pending_idx» ∷ [])
+    ((((g .byte ∷ g .eol ∷ g .sep ∷ g .tab ∷ g .cap ∷ g .pos ∷ []) ++ flatten single (g .«open»)) ++ (g .«open_len» ∷ [])) ++ flatten spanValues (g .pending)) ++ (g .«pending_len» ∷ g .«pending_idx» ∷ [])
 
 -- 32 cells from the seventh on
-unfoldable pub openFrom : List ℕ → List ℕ
-openFrom l = tabulate (λ i. getD l (i + 6) 0) 32 0
+unfoldable pub openCells : List ℕ → List ℕ
+openCells l = tabulate (λ i. getD l (i + 6) 0) 32 0
 
 -- 32 spans from the fortieth cell on
 unfoldable pub pendingFrom : List ℕ → List Span
@@ -48,9 +48,12 @@ contFrom l = record {
   tab = getD l 3 0;
   cap = getD l 4 0;
   pos = getD l 5 0;
-  «open» = openFrom l;
+  «open» = openCells l;
   «open_len» = getD l 38 0;
   pending = pendingFrom l;
   «pending_len» = getD l 103 0;
   «pending_idx» = getD l 104 0;
 }
+
+abbrev pub contStepper : Stepper ContIter
+contStepper = record { read = contFrom; show = contCells; limits = contLimits; answer = cont.answer; next = cont.state }

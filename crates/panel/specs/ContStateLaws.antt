@@ -6,13 +6,14 @@ use Prim.Native.Nat.{ℕ, _+_, _*_, _≤_, _<_}
 use native.Mathlib.Omega.{arith}
 use lib.ListN.{length, getD, set, replicate, length-append}
 use Rattle.search.specs.Promise.{Gives}
+use Rattle.common.specs.Refusals.{spanValues}
 use Rattle.common.specs.Entry.{flatten, putAt}
 use Rattle.common.specs.EntryLaws.{length-flatten}
 use Rattle.common.specs.declared.span.Span.{Span}
 use Rattle.cont.specs.declared.ContIter.{ContIter}
 use Rattle.cont.specs.Frames.{frame}
 use Rattle.cells.specs.Bytes.{cells, readable}
-use Rattle.panel.specs.ContState.{contLimits, single, spanPair, Spread, contCells, openFrom, pendingFrom, contFrom}
+use Rattle.panel.specs.ContState.{contLimits, single, Spread, contCells, openCells, pendingFrom, contFrom}
 use Rattle.cells.specs.ByteLaws.{put-all, Lays, lays-first, lays-next, lays-all, Fills, fills-again, fills-all}
 use Rattle.cells.specs.ReplyLaws.{laid-behind}
 use Rattle.cells.specs.CellLaws.{readable-long, byte-field}
@@ -31,32 +32,32 @@ module _ {o out₀ : List ℕ} where
   open-all l h k = record { long = h; laid = lays-all l (omega arith) }
 
 module _ {p : List Span} {out₀ : List ℕ} where
-  pub pending-first : length p ≡ 32 → length out₀ ≡ 105 → Lays spanPair 2 p 39 0 out₀ out₀
+  pub pending-first : length p ≡ 32 → length out₀ ≡ 105 → Lays spanValues 2 p 39 0 out₀ out₀
   pending-first h k = lays-first (omega arith)
 
-  pub pending-again : {i : ℕ} {out : List ℕ} → Lays spanPair 2 p 39 i out₀ out → i < length p
-      → Lays spanPair 2 p 39 (i + 1) out₀ (set (set out (i * 2 + 39) (getD p i (frame 0 0) .start)) (i * 2 + 40) (getD p i (frame 0 0) .end))
+  pub pending-again : {i : ℕ} {out : List ℕ} → Lays spanValues 2 p 39 i out₀ out → i < length p
+      → Lays spanValues 2 p 39 (i + 1) out₀ (set (set out (i * 2 + 39) (getD p i (frame 0 0) .start)) (i * 2 + 40) (getD p i (frame 0 0) .end))
   pending-again {i} {out} l h =
       let s = getD p i (frame 0 0) in
       let a : i * 2 + 39 ≡ 39 + i * 2 = omega arith in
       let b : i * 2 + 40 ≡ 39 + i * 2 + 1 = omega arith in
-      lays-next spanPair 2 (λ n. refl) (frame 0 0) l (set (set out (i * 2 + 39) (s .start)) (i * 2 + 40) (s .end)) h
+      lays-next spanValues 2 (λ n. refl) (frame 0 0) l (set (set out (i * 2 + 39) (s .start)) (i * 2 + 40) (s .end)) h
       (record { list = ap (λ (k : ℕ). set (set out k (s .start)) (i * 2 + 40) (s .end)) a ∙ ap (λ (k : ℕ). set (set out (39 + i * 2) (s .start)) k (s .end)) b })
 
-  pub pending-all : {i : ℕ} {out : List ℕ} → Lays spanPair 2 p 39 i out₀ out → length p ≡ 32 → 32 ≤ i → Spread spanPair 39 p out₀ out
+  pub pending-all : {i : ℕ} {out : List ℕ} → Lays spanValues 2 p 39 i out₀ out → length p ≡ 32 → 32 ≤ i → Spread spanValues 39 p out₀ out
   pending-all l h k = record { long = h; laid = lays-all l (omega arith) }
 
 -- all of a state's cells
 pub cells-laid : (g : ContIter) (x y : List ℕ) → Spread single 6 (g .«open») (set (set (set (set (set (set (replicate 105 0) 0 (g .byte)) 1 (g .eol)) 2 (g .sep)) 3 (g .tab)) 4 (g .cap)) 5 (g .pos)) x
-    → Spread spanPair 39 (g .pending) (set x 38 (g .«open_len»)) y → Gives (contCells g) (set (set y 103 (g .«pending_len»)) 104 (g .«pending_idx»))
+    → Spread spanValues 39 (g .pending) (set x 38 (g .«open_len»)) y → Gives (contCells g) (set (set y 103 (g .«pending_len»)) 104 (g .«pending_idx»))
 unfolding contCells
 cells-laid g x y a b =
     let z : List ℕ = replicate 105 0 in
     let six = g .byte ∷ g .eol ∷ g .sep ∷ g .tab ∷ g .cap ∷ g .pos ∷ [] in
     let o = flatten single (g .«open») in
-    let p = flatten spanPair (g .pending) in
+    let p = flatten spanValues (g .pending) in
     let lo : length o ≡ 32 = length-flatten single 1 (λ n. refl) (g .«open») ∙ omega (arith, a .long) in
-    let lp : length p ≡ 64 = length-flatten spanPair 2 (λ n. refl) (g .pending) ∙ omega (arith, b .long) in
+    let lp : length p ≡ 64 = length-flatten spanValues 2 (λ n. refl) (g .pending) ∙ omega (arith, b .long) in
     let n1 : length (six ++ o) ≡ 38 = length-append six o ∙ omega arith in
     let n2 : length ((six ++ o) ++ (g .«open_len» ∷ [])) ≡ 39 = length-append (six ++ o) (g .«open_len» ∷ []) ∙ omega arith in
     let n3 : length (((six ++ o) ++ (g .«open_len» ∷ [])) ++ p) ≡ 103 = length-append ((six ++ o) ++ (g .«open_len» ∷ [])) p ∙ omega arith in
@@ -81,8 +82,8 @@ module _ (run : List ℕ) (i : ℕ) where
   pub read-open-again : (v : ℕ) (out₀ out : List ℕ) → i < 32 → Gives (getD (cells run) (i + 6) 0) v → Fills (openCell run) 32 out₀ out i → Fills (openCell run) 32 out₀ (set out i v) (i + 1)
   read-open-again v out₀ out h g l = fills-again (openCell run) 32 i v out₀ out h (g .answer) l
 
-  pub read-open-all : (out₀ out : List ℕ) → 32 ≤ i → Fills (openCell run) 32 out₀ out i → out ≡ openFrom (cells run)
-  unfolding openFrom
+  pub read-open-all : (out₀ out : List ℕ) → 32 ≤ i → Fills (openCell run) 32 out₀ out i → out ≡ openCells (cells run)
+  unfolding openCells
   read-open-all out₀ out h l = fills-all (openCell run) 32 i out₀ out h l
 
   pub read-pending-again : (a b : ℕ) (out₀ out : List Span) → i < 32 → Gives (getD (cells run) (i * 2 + 39) 0) a → Gives (getD (cells run) (i * 2 + 40) 0) b → Fills (pendingCell run) 32 out₀ out i → Fills (pendingCell run) 32 out₀ (set out i (frame a b)) (i + 1)
@@ -93,7 +94,7 @@ module _ (run : List ℕ) (i : ℕ) where
   read-pending-all out₀ out h l = fills-all (pendingCell run) 32 i out₀ out h l
 
 pub cont-read : (run : List ℕ) (b e s t c q n k i : ℕ) (o : List ℕ) (p : List Span) → readable contLimits run ≡ true → Gives (getD run 0 0) b → Gives (getD run 4 0) e → Gives (getD run 8 0) s → Gives (getD run 12 0) t
-    → Gives (getD (cells run) 4 0) c → Gives (getD (cells run) 5 0) q → Gives (openFrom (cells run)) o → Gives (getD (cells run) 38 0) n → Gives (pendingFrom (cells run)) p → Gives (getD (cells run) 103 0) k → Gives (getD (cells run) 104 0) i
+    → Gives (getD (cells run) 4 0) c → Gives (getD (cells run) 5 0) q → Gives (openCells (cells run)) o → Gives (getD (cells run) 38 0) n → Gives (pendingFrom (cells run)) p → Gives (getD (cells run) 103 0) k → Gives (getD (cells run) 104 0) i
     → record { byte = b; eol = e; sep = s; tab = t; cap = c; pos = q; «open» = o; «open_len» = n; pending = p; «pending_len» = k; «pending_idx» = i } ≡ contFrom (cells run)
 unfolding contFrom contLimits
 cont-read run b e s t c q n k i o p h gb ge gs gt gc gq go gn gp gk gi =

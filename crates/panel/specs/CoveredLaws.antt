@@ -17,7 +17,7 @@ use Rattle.common.specs.RefusalLaws.{number-some}
 use Rattle.common.specs.declared.refusal.Refusal.{Refusal}
 use Rattle.common.specs.declared.refusal.Found.{Found}
 use Rattle.common.specs.declared.refusal.Found.the-variants as found
-use Rattle.cover.specs.Cursor.{after, passed, endAt, coverAnswer, coverNext}
+use Rattle.cover.specs.Cursor.{endsAfter, passed, endAt, coverAnswer, coverNext}
 use Rattle.cover.specs.CursorLaws.{Passes, passes-again, passes-found, passes-end, cover-refused, cover-past}
 use Rattle.cells.specs.Bytes.{cells, rowBytes}
 use Rattle.cells.specs.Reply.{Replied}
@@ -29,15 +29,15 @@ use Rattle.cells.specs.ReplyLaws.{reply-refused}
 module _ (a b place : ℕ) where
   one-passed : b ≤ place → coverNext wide (a ∷ b ∷ []) 1 0 place ≡ 1
   unfolding coverNext passed
-  one-passed h = first-next (after wide (a ∷ b ∷ []) place) 0 1 (omega arith) (le-ltb place b h) ∙ first-end (after wide (a ∷ b ∷ []) place) 1 1 (omega arith)
+  one-passed h = first-next (endsAfter wide (a ∷ b ∷ []) place) 0 1 (omega arith) (le-ltb place b h) ∙ first-end (endsAfter wide (a ∷ b ∷ []) place) 1 1 (omega arith)
 
   one-here : place < b → coverNext wide (a ∷ b ∷ []) 1 0 place ≡ 0
   unfolding coverNext passed
-  one-here h = first-here (after wide (a ∷ b ∷ []) place) 0 1 (omega arith) (lt-ltb place b h)
+  one-here h = first-here (endsAfter wide (a ∷ b ∷ []) place) 0 1 (omega arith) (lt-ltb place b h)
 
   one-answer : place < b → coverAnswer wide (a ∷ b ∷ []) 1 0 place ≡ given (endAt wide (a ∷ b ∷ []) 1 0 place)
   unfolding coverAnswer passed
-  one-answer h = ap (λ (k : ℕ). given (endAt wide (a ∷ b ∷ []) 1 k place)) (first-here (after wide (a ∷ b ∷ []) place) 0 1 (omega arith) (lt-ltb place b h))
+  one-answer h = ap (λ (k : ℕ). given (endAt wide (a ∷ b ∷ []) 1 k place)) (first-here (endsAfter wide (a ∷ b ∷ []) place) 0 1 (omega arith) (lt-ltb place b h))
 
 -- whether the query's index stays tells whether the region is passed
 module _ (a b place : ℕ) (o : Outcome) (j : ℕ) (q : Steps (coverAnswer wide (a ∷ b ∷ []) 1 0 place) (coverNext wide (a ∷ b ∷ []) 1 0 place) o j) where

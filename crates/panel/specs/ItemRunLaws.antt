@@ -12,11 +12,12 @@ use Rattle.decimal.specs.Decimal.{digit}
 use Rattle.common.specs.Items.{ItemGrammar, grammar, blank, has, Apart, leads, lineBytes, leading, beyond, itemFrom, lineFound, readTurn, stepFor}
 use Rattle.common.specs.ItemLaws.{both}
 use Rattle.common.specs.Scanning as scanning
-use Rattle.common.specs.Scanning.{Scanner, Lawful}
-use Rattle.common.specs.ScanningLaws.{turn-adv, step-inside, run}
+use Rattle.common.specs.Scanning.{Scanner}
+use Rattle.common.specs.ScanningLaws.{Lawful, turn-adv, step-inside, run}
 use Rattle.common.specs.Sets.{setOf, accepted}
 use Rattle.common.specs.TableLaws.{length-tabulate}
-use Rattle.common.specs.Turn.{Turn, go, stop, found, Ahead, Adv, OnFound, Each, drain}
+use Rattle.common.specs.Turn.{Turn, go, stop, found, drain}
+use Rattle.common.specs.Turning.{Ahead, Adv, OnFound, Each}
 use Rattle.block_marker.specs.declared.BlockMarkerIter.{BlockMarkerIter}
 use Rattle.block_marker.specs.declared.MarkerItem.{MarkerItem}
 use Rattle.block_marker.specs.Marker as marker
@@ -25,11 +26,11 @@ use Rattle.block_numbered.specs.declared.BlockNumberedIter.{BlockNumberedIter}
 use Rattle.block_numbered.specs.declared.NumberedItem.{NumberedItem}
 use Rattle.block_numbered.specs.Numbered as numbered
 use Rattle.block_numbered.specs.NumberedRun.{lawful as numbered-lawful, fresh-items as numbered-items}
-use Rattle.panel.specs.State.{Made, Stepped, markerLimits, itemCells, itemFields, markerCells, markerFrom, markerAnswer, markerState, numberedCells, numberedFrom, numberedAnswer, numberedState}
+use Rattle.panel.specs.State.{Made, Stepper, Stepped, itemLimits, itemCells, itemFields, markerCells, markerFrom, markerStepper, numberedCells, numberedFrom, numberedStepper}
 use Rattle.panel.specs.Back.{Holds, Byte, Text, valuesIn}
-use Rattle.panel.specs.EachLaws.{each-getD, each-take, each-drop}
+use Rattle.common.specs.EachLaws.{each-getD, each-take, each-drop}
 use Rattle.panel.specs.BackLaws.{ItemHeld, made-back, item-small, item-fresh, item-next}
-use Rattle.panel.specs.RunLaws.{Ready, Fit, fit-each, said-has, hosted-run}
+use Rattle.panel.specs.RunLaws.{StepReady, Fit, fit-each, said-has, hosted-run}
 
 -- ---- any scanner of items; P is what the turns find besides, and `fit` says that an item's values fit the answer run
 module _ {S A : Type 0} {c : Scanner S A} {Lies : ℕ → ℕ → A → Type 0} (w : Lawful c Lies) (wider : (q n m : ℕ) (a : A) → q ≤ n → Lies n m a → Lies q m a) (P : A → Type 0) (set : List Bool) (s run₀ : List ℕ) (short : length s ≤ 4294967295) (room : 4 ≤ length run₀)
@@ -45,10 +46,13 @@ module _ {S A : Type 0} {c : Scanner S A} {Lies : ℕ → ℕ → A → Type 0} 
       by q (stop v) a o = a
       by q (found x n) a o = (a .0, a .1, (a .2, o))
 
+  abbrev stepper : Stepper S
+  stepper = record { read = λ l. c .made (itemFields l); show = λ k. itemCells (c .fields k); limits = itemLimits; answer = λ k t. scanning.answer c k set t; next = λ k t. scanning.state c k set t }
+
   In : S → Type 0
   In g = ItemHeld w g × (c .fields g .pos ≤ length s)
 
-  item-ready : (g : S) → In g → Ready (λ l. c .made (itemFields l)) (λ k. itemCells (c .fields k)) markerLimits item-small (λ k t. scanning.answer c k set t) (λ k t. scanning.state c k set t) (c .back) s run₀ short g
+  item-ready : (g : S) → In g → StepReady stepper item-small (c .back) s run₀ short g
   unfolding In scanning.answer scanning.first
   item-ready g p =
       let v = said-has (c .values) s (lain-adv g) (λ q n m a h l. (wider q n m a h (l .0), l .1)) short (Fit run₀) (fit-each run₀ [] room (omega arith) tt) (λ q n a h l. fit q n a h (l .0) (l .1)) (c .fields g .pos) (p .1) in
@@ -59,13 +63,13 @@ module _ {S A : Type 0} {c : Scanner S A} {Lies : ℕ → ℕ → A → Type 0} 
   item-on g p = (item-next w g set s (p .0), step-inside w set s short g (scanning.answer c g set s) (scanning.state c g set s) (p .1) (record { answer = refl; next = refl }))
 
   -- what a host reads in n steps from a run that holds a state within the text: the first n of the items that its scan has before it
-  pub items-run : (g : S) → ItemHeld w g → c .fields g .pos ≤ length s → (state : List ℕ) → Holds (λ l. c .made (itemFields l)) (λ k. itemCells (c .fields k)) markerLimits state g
+  pub items-run : (g : S) → ItemHeld w g → c .fields g .pos ≤ length s → (state : List ℕ) → Holds (λ l. c .made (itemFields l)) (λ k. itemCells (c .fields k)) itemLimits state g
       → (after reply : List ℕ → List ℕ) (number : List ℕ → ℕ)
-      → ((state : List ℕ) → Stepped (λ l. c .made (itemFields l)) (λ k. itemCells (c .fields k)) markerLimits (λ k t. scanning.answer c k set t) (λ k t. scanning.state c k set t) s state (after state) run₀ (reply state) (number state))
+      → ((state : List ℕ) → Stepped stepper s (record { state = state; answer = run₀ }) (record { state = after state; answer = reply state }) (number state))
       → (n : ℕ) → drain (λ r. stepFor (c .back) (valuesIn (reply r)) (after r)) n state ≡ take n (scanning.items c g set s)
   unfolding In
   items-run g h i state held after reply number keeps n =
-      hosted-run (λ l. c .made (itemFields l)) (λ k. itemCells (c .fields k)) markerLimits item-small (λ k t. scanning.answer c k set t) (λ k t. scanning.state c k set t) (c .back) s run₀ short In item-ready item-on after reply number keeps n g (h, i) state held
+      hosted-run stepper item-small (c .back) s run₀ short In item-ready item-on after reply number keeps n g (h, i) state held
       ∙ run w set s short g (λ k. scanning.answer c k set s) (λ k. scanning.state c k set s) (λ q j. record { answer = refl; next = refl }) n i
 
 -- ---- the bytes that items have are the text's
@@ -111,7 +115,7 @@ module _ (s : List ℕ) (bytes : Text s) where
   -- a state run that `new` wrote, stepped by an entry that keeps its promise, gives the marker items of the text's lines
   pub marker-run : (eol sep tab : ℕ) (bytes run₀ : List ℕ) → eol ≤ 255 → sep ≤ 255 → tab ≤ 255 → length s ≤ 4294967295 → 16 ≤ length run₀ → (length (accepted (setOf bytes)) ≤ 3 → Apart (grammar eol sep tab (has (setOf bytes))))
       → (first state : List ℕ) → Made (markerCells (marker.fresh eol sep tab (setOf bytes))) first state 0
-      → (after reply : List ℕ → List ℕ) (number : List ℕ → ℕ) → ((state : List ℕ) → Stepped markerFrom markerCells markerLimits (markerAnswer bytes) (markerState bytes) s state (after state) run₀ (reply state) (number state))
+      → (after reply : List ℕ → List ℕ) (number : List ℕ → ℕ) → ((state : List ℕ) → Stepped (markerStepper (setOf bytes)) s (record { state = state; answer = run₀ }) (record { state = after state; answer = reply state }) (number state))
       → (n : ℕ) → drain (λ r. stepFor (marker.scanner .back) (valuesIn (reply r)) (after r)) n state ≡ take n (marker.markers (grammar eol sep tab (has (setOf bytes))) s)
   unfolding markerFrom
   marker-run eol sep tab bytes run₀ a b c short room apart first state made after reply number keeps n =
@@ -119,7 +123,7 @@ module _ (s : List ℕ) (bytes : Text s) where
       let h = item-fresh marker-lawful eol sep tab (setOf bytes) a b c in
       items-run marker-lawful (λ q n m i h l. (l .0, l .1, omega arith)) Marked (setOf bytes) s run₀ short (omega arith) (marker-turns (setOf bytes))
       (λ q n i h l v. fit-each run₀ (marker.values i) room (omega arith) (omega arith, (omega arith, (omega arith, tt)))) g h (omega arith) state
-      (made-back (λ l. marker.scanner .made (itemFields l)) markerCells markerLimits item-small g h first state made) after reply number keeps n
+      (made-back (λ l. marker.scanner .made (itemFields l)) markerCells itemLimits item-small g h first state made) after reply number keeps n
       ∙ ap (take n) (marker-items (setOf bytes) s eol sep tab (length-tabulate (oneOf bytes) 256 0) apart)
 
 -- ---- the numbered scanner
@@ -154,7 +158,7 @@ module _ (s : List ℕ) (bytes : Text s) where
   -- a state run that `new` wrote, stepped by an entry that keeps its promise, gives the numbered items of the text's lines
   pub numbered-run : (eol sep tab : ℕ) (bytes run₀ : List ℕ) → eol ≤ 255 → sep ≤ 255 → tab ≤ 255 → length s ≤ 4294967295 → 20 ≤ length run₀ → (length (accepted (setOf bytes)) ≤ 3 → numbered.DigitsApart (grammar eol sep tab (has (setOf bytes))))
       → numbered.NoDigit (grammar eol sep tab (has (setOf bytes))) → (first state : List ℕ) → Made (numberedCells (numbered.fresh eol sep tab (setOf bytes))) first state 0
-      → (after reply : List ℕ → List ℕ) (number : List ℕ → ℕ) → ((state : List ℕ) → Stepped numberedFrom numberedCells markerLimits (numberedAnswer bytes) (numberedState bytes) s state (after state) run₀ (reply state) (number state))
+      → (after reply : List ℕ → List ℕ) (number : List ℕ → ℕ) → ((state : List ℕ) → Stepped (numberedStepper (setOf bytes)) s (record { state = state; answer = run₀ }) (record { state = after state; answer = reply state }) (number state))
       → (n : ℕ) → drain (λ r. stepFor (numbered.scanner .back) (valuesIn (reply r)) (after r)) n state ≡ take n (numbered.numbers (grammar eol sep tab (has (setOf bytes))) s)
   unfolding numberedFrom
   numbered-run eol sep tab bytes run₀ a b c short room apart none first state made after reply number keeps n =
@@ -162,5 +166,5 @@ module _ (s : List ℕ) (bytes : Text s) where
       let h = item-fresh numbered-lawful eol sep tab (setOf bytes) a b c in
       items-run numbered-lawful (λ q n m i h l. (l .0, l .1, l .2, omega arith)) Counted (setOf bytes) s run₀ short (omega arith) (numbered-turns (setOf bytes))
       (λ q n i h l v. fit-each run₀ (numbered.values i) room (omega arith) (omega arith, (omega arith, (omega arith, (omega arith, tt))))) g h (omega arith) state
-      (made-back (λ l. numbered.scanner .made (itemFields l)) numberedCells markerLimits item-small g h first state made) after reply number keeps n
+      (made-back (λ l. numbered.scanner .made (itemFields l)) numberedCells itemLimits item-small g h first state made) after reply number keeps n
       ∙ ap (take n) (numbered-items (setOf bytes) s eol sep tab (length-tabulate (oneOf bytes) 256 0) apart none)

@@ -14,13 +14,13 @@ abbrev pub probeValues : Probe → List ℕ
 probeValues p = asFlag (p .streaming) ∷ p .nn ∷ p .needles
 
 -- "up to three accepted bytes in rising order, unused places 0, else none"
-unfoldable pub probed : List ℕ → Outcome
-probed accepted = given (probeValues (probe (setOf accepted)))
+unfoldable pub probeAnswer : List ℕ → Outcome
+probeAnswer accepted = given (probeValues (probe (setOf accepted)))
 
 -- search bytes' values: how many, and the eleven cells
 abbrev pub searchValues : SearchBytes → List ℕ
 searchValues w = w .count ∷ w .bytes
 
 -- "fence bytes, symmetric bytes, asymmetric openers, in that order, without repeats, the first eleven kept"
-unfoldable pub searched : List ℕ → List ℕ → List ℕ → Outcome
-searched fences symmetric openers = given (searchValues (searchBytes fences symmetric openers))
+unfoldable pub searchAnswer : List ℕ → List ℕ → List ℕ → Outcome
+searchAnswer fences symmetric openers = given (searchValues (searchBytes fences symmetric openers))

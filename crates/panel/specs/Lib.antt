@@ -7,7 +7,6 @@ pub mod CoveredLaws
 pub mod StateLaws
 pub mod ContStateLaws
 pub mod Back
-pub mod EachLaws
 pub mod BackLaws
 pub mod ListBackLaws
 pub mod ContBackLaws

@@ -9,8 +9,8 @@ use lib.ListN.{length, getD}
 use Rattle.common.specs.Entry.{flatten}
 use Rattle.common.specs.Refusals.{Outcome, refuse, tooLong}
 use Rattle.common.specs.Scanning.{Fields}
-use Rattle.common.specs.Sets.{setOf}
 use Rattle.fence.specs.declared.FenceIter.{FenceIter}
+use Rattle.fence.specs.Fence as fence
 use Rattle.block_marker.specs.declared.BlockMarkerIter.{BlockMarkerIter}
 use Rattle.block_marker.specs.Marker as marker
 use Rattle.block_numbered.specs.declared.BlockNumberedIter.{BlockNumberedIter}
@@ -27,18 +27,32 @@ pub record Made (next run run′ : List ℕ) (r : ℕ) : Type 0 where
   pub left : run′ ≡ cond (sized next run) (flatten four next) run
 
 -- ---- a step
+-- the runs that a step writes to
+pub record StateRuns : Type 0 where
+  pub state : List ℕ
+  pub answer : List ℕ
+
 -- "on success writes the next state back and the answer"
-pub record Moved (o : Outcome) (next state state′ run run′ : List ℕ) (r : ℕ) : Type 0 where
-  pub reply : Replied o run run′ r
-  pub left : state′ ≡ cond (served (fitted o run)) (flatten four next) state
+pub record Moved (o : Outcome) (next : List ℕ) (before after : StateRuns) (r : ℕ) : Type 0 where
+  pub reply : Replied o (before .answer) (after .answer) r
+  pub left : after .state ≡ cond (served (fitted o (before .answer))) (flatten four next) (before .state)
+
+-- a scanner with states in cells: the state that cells make, a state's cells, a limit for each of them, and what a step over a
+-- text answers and leaves
+pub record Stepper (G : Type 0) : Type 0 where
+  pub read : List ℕ → G
+  pub show : G → List ℕ
+  pub limits : List ℕ
+  pub answer : G → List ℕ → Outcome
+  pub next : G → List ℕ → G
 
 -- a step's answer over a state's run: "For a scanner: 1, 2."
-unfoldable pub stepAnswer : {G : Type 0} → (List ℕ → G) → List ℕ → (G → List ℕ → Outcome) → List ℕ → List ℕ → Outcome
-stepAnswer read limits answer s state = refuse 1 (tooLong s) (refuse 2 (not (readable limits state)) (answer (read (cells state)) s))
+unfoldable pub stepAnswer : {G : Type 0} → Stepper G → List ℕ → StateRuns → Outcome
+stepAnswer c s before = refuse 1 (tooLong s) (refuse 2 (not (readable (c .limits) (before .state))) (c .answer (c .read (cells (before .state))) s))
 
--- the promise of a step: `read` makes a state of its cells, `show` gives a state's cells
-abbrev pub Stepped : {G : Type 0} → (List ℕ → G) → (G → List ℕ) → List ℕ → (G → List ℕ → Outcome) → (G → List ℕ → G) → List ℕ → List ℕ → List ℕ → List ℕ → List ℕ → ℕ → Type 0
-Stepped read show limits answer next s state state′ run run′ r = Moved (stepAnswer read limits answer s state) (show (next (read (cells state)) s)) state state′ run run′ r
+-- the promise of a step
+abbrev pub Stepped : {G : Type 0} → Stepper G → List ℕ → StateRuns → StateRuns → ℕ → Type 0
+Stepped c s before after r = Moved (stepAnswer c s before) (c .show (c .next (c .read (cells (before .state))) s)) before after r
 
 -- ---- the fence scanner's state
 abbrev pub fenceLimits : List ℕ
@@ -50,9 +64,12 @@ fenceCells g = g .byte ∷ g .min ∷ g .eol ∷ g .sep ∷ g .tab ∷ g .pos �
 unfoldable pub fenceFrom : List ℕ → FenceIter
 fenceFrom l = record { byte = getD l 0 0; min = getD l 1 0; eol = getD l 2 0; sep = getD l 3 0; tab = getD l 4 0; pos = getD l 5 0 }
 
+abbrev pub fenceStepper : Stepper FenceIter
+fenceStepper = record { read = fenceFrom; show = fenceCells; limits = fenceLimits; answer = fence.answer; next = fence.state }
+
 -- ---- the marker scanner's state, and the numbered scanner's, which has the same fields
-abbrev pub markerLimits : List ℕ
-markerLimits = 255 ∷ 255 ∷ 255 ∷ 4294967295 ∷ 255 ∷ 255 ∷ 255 ∷ 4294967295 ∷ 1 ∷ []
+abbrev pub itemLimits : List ℕ
+itemLimits = 255 ∷ 255 ∷ 255 ∷ 4294967295 ∷ 255 ∷ 255 ∷ 255 ∷ 4294967295 ∷ 1 ∷ []
 
 -- their cells: line end, separator, tab, place, three needles, the needles' count, and whether the scan streams
 abbrev pub itemCells : Fields → List ℕ
@@ -76,11 +93,15 @@ markerCells g = itemCells (marker.scanner .fields g)
 unfoldable pub markerFrom : List ℕ → BlockMarkerIter
 markerFrom l = marker.scanner .made (itemFields l)
 
-abbrev pub markerAnswer : List ℕ → BlockMarkerIter → List ℕ → Outcome
-markerAnswer accepted g s = marker.answer g (setOf accepted) s
-
-abbrev pub markerState : List ℕ → BlockMarkerIter → List ℕ → BlockMarkerIter
-markerState accepted g s = marker.state g (setOf accepted) s
+-- by a set of accepted bytes
+abbrev pub markerStepper : List Bool → Stepper BlockMarkerIter
+markerStepper accepted = record {
+  read = markerFrom;
+  show = markerCells;
+  limits = itemLimits;
+  answer = λ g s. marker.answer g accepted s;
+  next = λ g s. marker.state g accepted s;
+}
 
 abbrev pub numberedCells : BlockNumberedIter → List ℕ
 numberedCells g = itemCells (numbered.scanner .fields g)
@@ -88,8 +109,11 @@ numberedCells g = itemCells (numbered.scanner .fields g)
 unfoldable pub numberedFrom : List ℕ → BlockNumberedIter
 numberedFrom l = numbered.scanner .made (itemFields l)
 
-abbrev pub numberedAnswer : List ℕ → BlockNumberedIter → List ℕ → Outcome
-numberedAnswer accepted g s = numbered.answer g (setOf accepted) s
-
-abbrev pub numberedState : List ℕ → BlockNumberedIter → List ℕ → BlockNumberedIter
-numberedState accepted g s = numbered.state g (setOf accepted) s
+abbrev pub numberedStepper : List Bool → Stepper BlockNumberedIter
+numberedStepper accepted = record {
+  read = numberedFrom;
+  show = numberedCells;
+  limits = itemLimits;
+  answer = λ g s. numbered.answer g accepted s;
+  next = λ g s. numbered.state g accepted s;
+}

@@ -20,7 +20,7 @@ use Rattle.block_numbered.specs.declared.BlockNumberedIter.{BlockNumberedIter}
 use Rattle.block_numbered.specs.Numbered as numbered
 use Rattle.cells.specs.Bytes.{four, cells, asFlag, readable}
 use Rattle.cells.specs.Reply.{LaidIf, fitted, Replied}
-use Rattle.panel.specs.State.{sized, Made, Moved, stepAnswer, fenceLimits, fenceFrom, markerLimits, markerCells, markerFrom, numberedCells, numberedFrom, itemCells, itemFields}
+use Rattle.panel.specs.State.{sized, Made, StateRuns, Moved, Stepper, stepAnswer, Stepped, fenceLimits, fenceFrom, itemLimits, markerCells, markerFrom, numberedCells, numberedFrom, itemCells, itemFields}
 use Rattle.cells.specs.ByteLaws.{length-four}
 use Rattle.cells.specs.ReplyLaws.{replied-unique, laid-there, too-short, enough, reply-short, refused-by}
 use Rattle.cells.specs.CellLaws.{readable-long, byte-field}
@@ -29,7 +29,7 @@ use Rattle.cells.specs.CellLaws.{readable-long, byte-field}
 pub made-unique : {next run run′ run″ : List ℕ} {r r′ : ℕ} → Made next run run′ r → Made next run run″ r′ → (r ≡ r′) × (run′ ≡ run″)
 made-unique a b = (a .number ∙ sym (b .number), a .left ∙ sym (b .left))
 
-pub moved-unique : {o : Outcome} {next state state′ state″ run run′ run″ : List ℕ} {r r′ : ℕ} → Moved o next state state′ run run′ r → Moved o next state state″ run run″ r′ → (r ≡ r′) × (run′ ≡ run″) × (state′ ≡ state″)
+pub moved-unique : {o : Outcome} {next : List ℕ} {before after after′ : StateRuns} {r r′ : ℕ} → Moved o next before after r → Moved o next before after′ r′ → (r ≡ r′) × (after .answer ≡ after′ .answer) × (after .state ≡ after′ .state)
 moved-unique a b =
     let e = replied-unique (a .reply) (b .reply) in
     (e .0, e .1, a .left ∙ sym (b .left))
@@ -63,27 +63,27 @@ pub made-numbered : (eol sep tab : ℕ) (accepted : List ℕ) (set : List Bool) 
 made-numbered eol sep tab accepted set g next run run′ n s a b d = made-as numberedCells (numbered.fresh eol sep tab (setOf accepted)) g next run run′ n (record { answer = a .answer ∙ ap (numbered.fresh eol sep tab) (s .answer) }) b d
 
 -- ---- a step's values and next state
-module _ (vs next state run : List ℕ) (m : ℕ) (room : Gives (length run / 4) m) where
-  pub moved-short : m ≤ length vs → Moved (given vs) next state state run run 3
+module _ (vs next : List ℕ) (lent : StateRuns) (m : ℕ) (room : Gives (length (lent .answer) / 4) m) where
+  pub moved-short : m ≤ length vs → Moved (given vs) next lent lent 3
   unfolding fitted
-  moved-short h = record { reply = reply-short vs run m room h; left = simp (too-short vs run m room h) }
+  moved-short h = record { reply = reply-short vs (lent .answer) m room h; left = simp (too-short vs (lent .answer) m room h) }
 
-  pub moved-values : (state′ run′ : List ℕ) (n : ℕ) → length vs < m → length next * 4 ≡ length state → LaidIf 0 (flatten four next) state state′ → Replied (given vs) run run′ n → Moved (given vs) next state state′ run run′ n
+  pub moved-values : (after : StateRuns) (n : ℕ) → length vs < m → length next * 4 ≡ length (lent .state) → LaidIf 0 (flatten four next) (lent .state) (after .state) → Replied (given vs) (lent .answer) (after .answer) n → Moved (given vs) next lent after n
   unfolding fitted
-  moved-values state′ run′ n h e d w = record { reply = w; left = whole next state state′ e d ∙ simp (enough vs run m room h) }
+  moved-values after n h e d w = record { reply = w; left = whole next (lent .state) (after .state) e d ∙ simp (enough vs (lent .answer) m room h) }
 
 -- a refusal leaves both runs as they are
-pub moved-off : (n : ℕ) (next state run : List ℕ) → eqb n 0 ≡ false → Moved (refused n) next state state run run n
+pub moved-off : (n : ℕ) (next : List ℕ) (lent : StateRuns) → eqb n 0 ≡ false → Moved (refused n) next lent lent n
 unfolding fitted
-moved-off n next state run e = record { reply = refused-by n run e; left = simp e }
+moved-off n next lent e = record { reply = refused-by n (lent .answer) e; left = simp e }
 
 -- by what the core answered, which `told` tells
-module _ {F : Type 0} (told : F → Outcome) (f e : F) (next state run : List ℕ) (n : ℕ) where
-  pub moved-told : (state′ run′ : List ℕ) → f ≡ e → Moved (told e) next state state′ run run′ n → Moved (told f) next state state′ run run′ n
-  moved-told state′ run′ u d = rw u d
+module _ {F : Type 0} (told : F → Outcome) (f e : F) (next : List ℕ) (lent : StateRuns) (n : ℕ) where
+  pub moved-told : (after : StateRuns) → f ≡ e → Moved (told e) next lent after n → Moved (told f) next lent after n
+  moved-told after u d = rw u d
 
-  pub moved-refused : (r : Refusal) → f ≡ e → Gives (numberOf r) n → told e ≡ refused (numberOf r) → Moved (told f) next state state run run n
-  moved-refused r u g t = subst (λ (o : Outcome). Moved o next state state run run n) (sym (ap told u ∙ t)) (rw (g .answer) (moved-off (numberOf r) next state run (number-some r)))
+  pub moved-refused : (r : Refusal) → f ≡ e → Gives (numberOf r) n → told e ≡ refused (numberOf r) → Moved (told f) next lent lent n
+  moved-refused r u g t = subst (λ (o : Outcome). Moved o next lent lent n) (sym (ap told u ∙ t)) (rw (g .answer) (moved-off (numberOf r) next lent (number-some r)))
 
 -- ---- a step over a state's run
 pub is-readable : (limits state : List ℕ) (b : Bool) → b ≡ true → Gives (readable limits state) b → readable limits state ≡ true
@@ -93,54 +93,47 @@ pub state-room : {G : Type 0} (show : G → List ℕ) (limits : List ℕ) → ((
     → length next * 4 ≡ length state
 state-room show limits size state next b g e r w = omega (arith, ap length (w .answer), size g, readable-long limits state (sym (r .answer) ∙ e))
 
-module _ {G : Type 0} (read : List ℕ → G) (show : G → List ℕ) (limits : List ℕ) (answer : G → List ℕ → Outcome) (after : G → List ℕ → G) (s state run : List ℕ) where
-  pub step-long : 4294967295 < length s → Moved (stepAnswer read limits answer s state) (show (after (read (cells state)) s)) state state run run 1
+module _ {G : Type 0} (c : Stepper G) (s : List ℕ) (lent : StateRuns) where
+  after-all : List ℕ
+  after-all = c .show (c .next (c .read (cells (lent .state))) s)
+
+  refuses : (n : ℕ) → eqb n 0 ≡ false → stepAnswer c s lent ≡ refused n → Stepped c s lent lent n
+  unfolding after-all
+  refuses n z e = subst (λ (o : Outcome). Moved o after-all lent lent n) (sym e) (moved-off n after-all lent z)
+
+  pub step-long : 4294967295 < length s → Stepped c s lent lent 1
   unfolding stepAnswer
-  step-long h =
-      let e : stepAnswer read limits answer s state ≡ refused 1 = simp (lt-ltb 4294967295 (length s) h) in
-      subst (λ (o : Outcome). Moved o (show (after (read (cells state)) s)) state state run run 1) (sym e) (moved-off 1 (show (after (read (cells state)) s)) state run refl)
+  step-long h = refuses 1 refl (simp (lt-ltb 4294967295 (length s) h))
 
   module _ (b : Bool) (short : length s ≤ 4294967295) where
-    pub step-unread : b ≡ false → Gives (readable limits state) b → Moved (stepAnswer read limits answer s state) (show (after (read (cells state)) s)) state state run run 2
+    pub step-unread : b ≡ false → Gives (readable (c .limits) (lent .state)) b → Stepped c s lent lent 2
     unfolding stepAnswer
     step-unread u g =
-        let r : readable limits state ≡ false = sym (g .answer) ∙ u in
-        let e : stepAnswer read limits answer s state ≡ refused 2 = simp (le-ltb 4294967295 (length s) short, r) in
-        subst (λ (o : Outcome). Moved o (show (after (read (cells state)) s)) state state run run 2) (sym e) (moved-off 2 (show (after (read (cells state)) s)) state run refl)
+        let r : readable (c .limits) (lent .state) ≡ false = sym (g .answer) ∙ u in
+        refuses 2 refl (simp (le-ltb 4294967295 (length s) short, r))
 
-    pub step-done : (g g′ : G) (o : Outcome) (next state′ run′ : List ℕ) (n : ℕ) → b ≡ true → Gives (readable limits state) b → Gives (read (cells state)) g → Steps (answer g s) (after g s) o g′ → Gives (show g′) next
-        → Moved o next state state′ run run′ n → Moved (stepAnswer read limits answer s state) (show (after (read (cells state)) s)) state state′ run run′ n
-    unfolding stepAnswer
-    step-done g g′ o next state′ run′ n u x a w c d =
-        let r : readable limits state ≡ true = sym (x .answer) ∙ u in
-        let e : stepAnswer read limits answer s state ≡ answer (read (cells state)) s = simp (le-ltb 4294967295 (length s) short, r) in
-        let f : o ≡ stepAnswer read limits answer s state = w .answer ∙ ap (λ (y : G). answer y s) (a .answer) ∙ sym e in
-        let k : next ≡ show (after (read (cells state)) s) = c .answer ∙ ap show (w .next ∙ ap (λ (y : G). after y s) (a .answer)) in
-        subst (λ (y : Outcome). Moved y (show (after (read (cells state)) s)) state state′ run run′ n) f (subst (λ (l : List ℕ). Moved o l state state′ run run′ n) k d)
+    pub step-done : (g g′ : G) (o : Outcome) (next : List ℕ) (after : StateRuns) (n : ℕ) → b ≡ true → Gives (readable (c .limits) (lent .state)) b → Gives (c .read (cells (lent .state))) g → Steps (c .answer g s) (c .next g s) o g′
+        → Gives (c .show g′) next → Moved o next lent after n → Stepped c s lent after n
+    unfolding stepAnswer after-all
+    step-done g g′ o next after n u x a w d m =
+        let r : readable (c .limits) (lent .state) ≡ true = sym (x .answer) ∙ u in
+        let e : stepAnswer c s lent ≡ c .answer (c .read (cells (lent .state))) s = simp (le-ltb 4294967295 (length s) short, r) in
+        let f : o ≡ stepAnswer c s lent = w .answer ∙ ap (λ (y : G). c .answer y s) (a .answer) ∙ sym e in
+        let k : next ≡ after-all = d .answer ∙ ap (c .show) (w .next ∙ ap (λ (y : G). c .next y s) (a .answer)) in
+        subst (λ (y : Outcome). Moved y after-all lent after n) f (subst (λ (l : List ℕ). Moved o l lent after n) k m)
 
--- the same where a set of accepted bytes is lent beside the state
-module _ {G : Type 0} (read : List ℕ → G) (show : G → List ℕ) (limits : List ℕ) (answer : G → List Bool → List ℕ → Outcome) (after : G → List Bool → List ℕ → G) (accepted s state run : List ℕ) where
-  answerBy : G → List ℕ → Outcome
-  answerBy g s = answer g (setOf accepted) s
-
-  afterBy : G → List ℕ → G
-  afterBy g s = after g (setOf accepted) s
-
-  pub set-long : 4294967295 < length s → Moved (stepAnswer read limits (λ g s. answer g (setOf accepted) s) s state) (show (after (read (cells state)) (setOf accepted) s)) state state run run 1
-  unfolding answerBy afterBy
-  set-long h = step-long read show limits answerBy afterBy s state run h
+-- the same where a set of accepted bytes is made of a run beside the state
+module _ {G : Type 0} (c : List Bool → Stepper G) (accepted s : List ℕ) (lent : StateRuns) where
+  pub set-long : 4294967295 < length s → Stepped (c (setOf accepted)) s lent lent 1
+  set-long h = step-long (c (setOf accepted)) s lent h
 
   module _ (b : Bool) (short : length s ≤ 4294967295) where
-    pub set-unread : b ≡ false → Gives (readable limits state) b → Moved (stepAnswer read limits (λ g s. answer g (setOf accepted) s) s state) (show (after (read (cells state)) (setOf accepted) s)) state state run run 2
-    unfolding answerBy afterBy
-    set-unread u x = step-unread read show limits answerBy afterBy s state run b short u x
+    pub set-unread : b ≡ false → Gives (readable (c (setOf accepted) .limits) (lent .state)) b → Stepped (c (setOf accepted)) s lent lent 2
+    set-unread u x = step-unread (c (setOf accepted)) s lent b short u x
 
-    pub set-done : (set : List Bool) (g g′ : G) (o : Outcome) (next state′ run′ : List ℕ) (n : ℕ) → b ≡ true → Gives (readable limits state) b → Gives (setOf accepted) set → Gives (read (cells state)) g → Steps (answer g set s) (after g set s) o g′
-        → Gives (show g′) next → Moved o next state state′ run run′ n → Moved (stepAnswer read limits (λ g s. answer g (setOf accepted) s) s state) (show (after (read (cells state)) (setOf accepted) s)) state state′ run run′ n
-    unfolding answerBy afterBy
-    set-done set g g′ o next state′ run′ n u x k a w c d =
-        step-done read show limits answerBy afterBy s state run b short g g′ o next state′ run′ n u x a
-        (record { answer = w .answer ∙ ap (λ (l : List Bool). answer g l s) (k .answer); next = w .next ∙ ap (λ (l : List Bool). after g l s) (k .answer) }) c d
+    pub set-done : (set : List Bool) (g g′ : G) (o : Outcome) (next : List ℕ) (after : StateRuns) (n : ℕ) → b ≡ true → Gives (setOf accepted) set → Gives (readable (c set .limits) (lent .state)) b → Gives (c set .read (cells (lent .state))) g
+        → Steps (c set .answer g s) (c set .next g s) o g′ → Gives (c set .show g′) next → Moved o next lent after n → Stepped (c (setOf accepted)) s lent after n
+    set-done set g g′ o next after n u k x a w d m = subst (λ (l : List Bool). Stepped (c l) s lent after n) (k .answer) (step-done (c set) s lent b short g g′ o next after n u x a w d m)
 
 -- ---- states read from their cells
 pub fence-read : (run : List ℕ) (a b c d e p : ℕ) → readable fenceLimits run ≡ true → Gives (getD run 0 0) a → Gives (getD run 4 0) b → Gives (getD run 8 0) c → Gives (getD run 12 0) d → Gives (getD run 16 0) e → Gives (getD (cells run) 5 0) p
@@ -154,16 +147,16 @@ fence-read run a b c d e p h ga gb gc gd ge gp =
     let x4 = byte-field fenceLimits run 4 e h tt tt ge in
     rw (x0, x1, x2, x3, x4, gp .answer)
 
-module _ (run : List ℕ) (a b c p i j k n f : ℕ) (h : readable markerLimits run ≡ true) (ga : Gives (getD run 0 0) a) (gb : Gives (getD run 4 0) b) (gc : Gives (getD run 8 0) c) (gp : Gives (getD (cells run) 3 0) p)
+module _ (run : List ℕ) (a b c p i j k n f : ℕ) (h : readable itemLimits run ≡ true) (ga : Gives (getD run 0 0) a) (gb : Gives (getD run 4 0) b) (gc : Gives (getD run 8 0) c) (gp : Gives (getD (cells run) 3 0) p)
     (gi : Gives (getD run 16 0) i) (gj : Gives (getD run 20 0) j) (gk : Gives (getD run 24 0) k) (gn : Gives (getD (cells run) 7 0) n) (gf : Gives (getD (cells run) 8 0) f) where
   item-read : record { eol = a; sep = b; tab = c; pos = p; needles = i ∷ j ∷ k ∷ []; nn = n; streaming = eqb f 1 } ≡ itemFields (cells run)
   item-read =
-      let x0 = byte-field markerLimits run 0 a h tt tt ga in
-      let x1 = byte-field markerLimits run 1 b h tt tt gb in
-      let x2 = byte-field markerLimits run 2 c h tt tt gc in
-      let x4 = byte-field markerLimits run 4 i h tt tt gi in
-      let x5 = byte-field markerLimits run 5 j h tt tt gj in
-      let x6 = byte-field markerLimits run 6 k h tt tt gk in
+      let x0 = byte-field itemLimits run 0 a h tt tt ga in
+      let x1 = byte-field itemLimits run 1 b h tt tt gb in
+      let x2 = byte-field itemLimits run 2 c h tt tt gc in
+      let x4 = byte-field itemLimits run 4 i h tt tt gi in
+      let x5 = byte-field itemLimits run 5 j h tt tt gj in
+      let x6 = byte-field itemLimits run 6 k h tt tt gk in
       rw (x0, x1, x2, gp .answer, x4, x5, x6, gn .answer, gf .answer)
 
   pub marker-read : record { eol = a; sep = b; tab = c; pos = p; needles = i ∷ j ∷ k ∷ []; nn = n; streaming = eqb f 1 } ≡ markerFrom (cells run)

@@ -9,7 +9,8 @@ ghost use mathlib.Core.Path.{_≡_};
 ghost use mathlib.Core.Bool.{true};
 ghost use Rattle.search.specs.Promise.{Gives};
 ghost use Rattle.cells.specs.Bytes.{cells, readable};
-ghost use Rattle.panel.specs.ContState.{single, spanPair, Spread, openFrom, pendingFrom, contLimits, contCells, contFrom};
+ghost use Rattle.common.specs.Refusals.{spanValues};
+ghost use Rattle.panel.specs.ContState.{single, Spread, openCells, pendingFrom, contLimits, contCells, contFrom};
 
 // Whether a run has the state's cells, and none is over its limit.
 pub(crate) fn cont_fits(run: &[u8]) -> bool
@@ -38,7 +39,7 @@ fn lay_open(before: [usize; 105], open: [u32; 32]) -> [usize; 105]
 
 // Lays the pending frames from cell 39 on.
 fn lay_pending(before: [usize; 105], pending: [Span; 32]) -> [usize; 105]
-    ensures { λ r. ⌜ Spread spanPair 39 pending before r ⌝ }
+    ensures { λ r. ⌜ Spread spanValues 39 pending before r ⌝ }
 {
     let mut all = before;
     let mut i = 0;
@@ -74,7 +75,7 @@ pub(crate) fn cont_cells(g: ContIter) -> [usize; 105]
 
 // The open frames' starts, from cell 6 on.
 fn read_open(run: &[u8]) -> [u32; 32]
-    ensures { λ r. ⌜ Gives (openFrom (cells (now (run .entry)))) r ⌝ }
+    ensures { λ r. ⌜ Gives (openCells (cells (now (run .entry)))) r ⌝ }
 {
     let mut open = [0u32; 32];
     let mut i = 0;

@@ -6,7 +6,7 @@ use rules::search_bytes::search_bytes;
 ghost use Rattle.lines.specs.Leaf.{findLineEnd, countEscape, nextInParagraph};
 ghost use Rattle.common.specs.Sets.{probe};
 ghost use Rattle.cells.specs.Reply.{Replied};
-ghost use Rattle.panel.specs.Leaves.{probed, searched};
+ghost use Rattle.panel.specs.Leaves.{probeAnswer, searchAnswer};
 
 // The first line end at or after a place, else the text's length.
 #[no_mangle]
@@ -49,7 +49,7 @@ pub extern "C" fn rack_next_in_paragraph(
 // What a streaming search needs of a set of accepted bytes: the flag, the count, and three needles.
 #[no_mangle]
 pub extern "C" fn rack_probe_matcher(accepted: &[u8], answer: &mut [u8]) -> u32
-    ensures { λ r. ⌜ Replied (probed (now (accepted .entry))) (now (answer .entry)) (now (answer .exit)) r ⌝ }
+    ensures { λ r. ⌜ Replied (probeAnswer (now (accepted .entry))) (now (answer .entry)) (now (answer .exit)) r ⌝ }
 {
     let set = byte_set(accepted);
     let probe = probe_matcher(&set);
@@ -67,7 +67,7 @@ pub extern "C" fn rack_search_bytes(
     answer: &mut [u8],
 ) -> u32
     ensures { λ r. ⌜
-        Replied (searched (now (fences .entry)) (now (symmetric .entry)) (now (openers .entry))) (now (answer .entry))
+        Replied (searchAnswer (now (fences .entry)) (now (symmetric .entry)) (now (openers .entry))) (now (answer .entry))
         (now (answer .exit)) r
         ⌝ }
 {

@@ -2,7 +2,6 @@
 use pour::building::build_columns;
 use pour::building::build_rules;
 use sheeting::sheet_columns;
-ghost use Rattle.cells.specs.Poured.{grammar};
 ghost use Rattle.pour.specs.Building.{BuiltBytes, BuiltRules};
 ghost use Rattle.sheeting.specs.Sheeting.{SheetBytes};
 
@@ -26,9 +25,20 @@ pub extern "C" fn rack_build(
     answer: &mut [u8],
 ) -> u32
     ensures { λ r. ⌜
-        BuiltBytes (grammar eol escape sep tab) (now (fences .entry)) (now (mins .entry)) (now (symmetric .entry))
-        (now (times .entry)) (now (openers .entry)) (now (closers .entry)) (now (counts .entry)) (now (text .entry))
-        (now (out .entry)) (now (out .exit)) (now (answer .entry)) (now (answer .exit)) r
+        BuiltBytes (record { eol = eol; escape = escape; sep = sep; tab = tab })
+        (record {
+          fenceBytes = now (fences .entry);
+          fenceMins = now (mins .entry);
+          inline = record {
+            symBytes = now (symmetric .entry);
+            symCounts = now (times .entry);
+            openers = now (openers .entry);
+            closers = now (closers .entry);
+            openCounts = now (counts .entry);
+          };
+        })
+        (now (text .entry)) (record { list = now (out .entry); answer = now (answer .entry) })
+        (record { list = now (out .exit); answer = now (answer .exit) }) r
         ⌝ }
 {
     build_columns(
@@ -68,9 +78,19 @@ pub extern "C" fn rack_build_rules(
     answer: &mut [u8],
 ) -> u32
     ensures { λ r. ⌜
-        BuiltRules (grammar eol escape sep tab) (now (rules .entry)) (now (symmetric .entry)) (now (times .entry))
-        (now (openers .entry)) (now (closers .entry)) (now (counts .entry)) (now (text .entry)) (now (out .entry))
-        (now (out .exit)) (now (answer .entry)) (now (answer .exit)) r
+        BuiltRules (record { eol = eol; escape = escape; sep = sep; tab = tab })
+        (record {
+          fenceRules = now (rules .entry);
+          inline = record {
+            symBytes = now (symmetric .entry);
+            symCounts = now (times .entry);
+            openers = now (openers .entry);
+            closers = now (closers .entry);
+            openCounts = now (counts .entry);
+          };
+        })
+        (now (text .entry)) (record { list = now (out .entry); answer = now (answer .entry) })
+        (record { list = now (out .exit); answer = now (answer .exit) }) r
         ⌝ }
 {
     build_rules(
@@ -113,10 +133,21 @@ pub extern "C" fn rack_sheet(
     answer: &mut [u8],
 ) -> u32
     ensures { λ r. ⌜
-        SheetBytes (grammar eol escape sep tab) (now (fences .entry)) (now (mins .entry)) (now (symmetric .entry))
-        (now (times .entry)) (now (openers .entry)) (now (closers .entry)) (now (counts .entry)) (now (markers .entry))
-        (now (delims .entry)) (now (text .entry)) (now (out .entry)) (now (out .exit)) (now (answer .entry)) (now (answer .exit))
-        r
+        SheetBytes (record { eol = eol; escape = escape; sep = sep; tab = tab })
+        (record {
+          fenceBytes = now (fences .entry);
+          fenceMins = now (mins .entry);
+          inline = record {
+            symBytes = now (symmetric .entry);
+            symCounts = now (times .entry);
+            openers = now (openers .entry);
+            closers = now (closers .entry);
+            openCounts = now (counts .entry);
+          };
+        })
+        (now (markers .entry)) (now (delims .entry)) (now (text .entry))
+        (record { list = now (out .entry); answer = now (answer .entry) })
+        (record { list = now (out .exit); answer = now (answer .exit) }) r
         ⌝ }
 {
     sheet_columns(

@@ -10,12 +10,12 @@ use common::span::MAX_INPUT_LEN;
 use cont::ContIter;
 use fence::FenceIter;
 ghost use Rattle.common.specs.Sets.{setOf};
-ghost use Rattle.fence.specs.Fence.{fresh as freshFence, answer as fenceAnswer, state as fenceState};
+ghost use Rattle.fence.specs.Fence.{fresh as freshFence};
 ghost use Rattle.block_marker.specs.Marker.{fresh as freshMarker};
 ghost use Rattle.block_numbered.specs.Numbered.{fresh as freshNumbered};
-ghost use Rattle.cont.specs.Cont.{fresh as freshCont, answer as contAnswer, state as contState};
-ghost use Rattle.panel.specs.ContState.{contLimits, contCells, contFrom};
-ghost use Rattle.panel.specs.State.{Made, Stepped, fenceLimits, fenceCells, fenceFrom, markerLimits, markerCells, markerFrom, markerAnswer, markerState, numberedCells, numberedFrom, numberedAnswer, numberedState};
+ghost use Rattle.cont.specs.Cont.{fresh as freshCont};
+ghost use Rattle.panel.specs.ContState.{contCells, contStepper};
+ghost use Rattle.panel.specs.State.{Made, Stepped, fenceCells, fenceStepper, markerCells, markerStepper, numberedCells, numberedStepper};
 
 // A fresh fence scanner: six cells.
 #[no_mangle]
@@ -37,8 +37,9 @@ pub extern "C" fn rack_fence_new(
 #[no_mangle]
 pub extern "C" fn rack_fence_step(text: &[u8], state: &mut [u8], answer: &mut [u8]) -> u32
     ensures { λ r. ⌜
-        Stepped fenceFrom fenceCells fenceLimits fenceAnswer fenceState (now (text .entry)) (now (state .entry))
-        (now (state .exit)) (now (answer .entry)) (now (answer .exit)) r
+        Stepped fenceStepper (now (text .entry))
+        (record { state = now (state .entry); answer = now (answer .entry) })
+        (record { state = now (state .exit); answer = now (answer .exit) }) r
         ⌝ }
 {
     if text.len() > MAX_INPUT_LEN {
@@ -82,8 +83,9 @@ pub extern "C" fn rack_marker_step(
     answer: &mut [u8],
 ) -> u32
     ensures { λ r. ⌜
-        Stepped markerFrom markerCells markerLimits (markerAnswer (now (accepted .entry))) (markerState (now (accepted .entry)))
-        (now (text .entry)) (now (state .entry)) (now (state .exit)) (now (answer .entry)) (now (answer .exit)) r
+        Stepped (markerStepper (setOf (now (accepted .entry)))) (now (text .entry))
+        (record { state = now (state .entry); answer = now (answer .entry) })
+        (record { state = now (state .exit); answer = now (answer .exit) }) r
         ⌝ }
 {
     if text.len() > MAX_INPUT_LEN {
@@ -129,9 +131,9 @@ pub extern "C" fn rack_numbered_step(
     answer: &mut [u8],
 ) -> u32
     ensures { λ r. ⌜
-        Stepped numberedFrom numberedCells markerLimits (numberedAnswer (now (accepted .entry)))
-        (numberedState (now (accepted .entry))) (now (text .entry)) (now (state .entry)) (now (state .exit)) (now (answer .entry))
-        (now (answer .exit)) r
+        Stepped (numberedStepper (setOf (now (accepted .entry)))) (now (text .entry))
+        (record { state = now (state .entry); answer = now (answer .entry) })
+        (record { state = now (state .exit); answer = now (answer .exit) }) r
         ⌝ }
 {
     if text.len() > MAX_INPUT_LEN {
@@ -169,8 +171,9 @@ pub extern "C" fn rack_cont_new(
 #[no_mangle]
 pub extern "C" fn rack_cont_step(text: &[u8], state: &mut [u8], answer: &mut [u8]) -> u32
     ensures { λ r. ⌜
-        Stepped contFrom contCells contLimits contAnswer contState (now (text .entry)) (now (state .entry)) (now (state .exit))
-        (now (answer .entry)) (now (answer .exit)) r
+        Stepped contStepper (now (text .entry))
+        (record { state = now (state .entry); answer = now (answer .entry) })
+        (record { state = now (state .exit); answer = now (answer .exit) }) r
         ⌝ }
 {
     if text.len() > MAX_INPUT_LEN {

@@ -21,7 +21,7 @@ ghost use Rattle.common.specs.Refusals.{given, toldSpan};
 ghost use Rattle.block_marker.specs.Marker.{told as toldMarker};
 ghost use Rattle.block_numbered.specs.Numbered.{told as toldNumbered};
 ghost use Rattle.cells.specs.Bytes.{cells, readable};
-ghost use Rattle.panel.specs.State.{Made, Moved, fenceLimits, fenceCells, fenceFrom, markerLimits, markerCells, markerFrom, numberedCells, numberedFrom};
+ghost use Rattle.panel.specs.State.{Made, Moved, fenceLimits, fenceCells, fenceFrom, itemLimits, markerCells, markerFrom, numberedCells, numberedFrom};
 
 // Writes a fresh state; 2 where the run is not one cell for each number.
 pub(crate) fn made(all: &[usize], state: &mut [u8]) -> u32
@@ -38,8 +38,9 @@ pub(crate) fn made(all: &[usize], state: &mut [u8]) -> u32
 fn moved(all: &[usize], next: &[usize], state: &mut [u8], answer: &mut [u8]) -> u32
     requires { ⌜ length (now next) * 4 ≡ length (now state) ⌝ }
     ensures { λ r. ⌜
-        Moved (given (now (all .entry))) (now (next .entry)) (now (state .entry)) (now (state .exit)) (now (answer .entry))
-        (now (answer .exit)) r
+        Moved (given (now (all .entry))) (now (next .entry))
+        (record { state = now (state .entry); answer = now (answer .entry) })
+        (record { state = now (state .exit); answer = now (answer .exit) }) r
         ⌝ }
 {
     if all.len() < room_of(answer.len()) {
@@ -58,8 +59,9 @@ pub(crate) fn moved_span(
 ) -> u32
     requires { ⌜ length (now next) * 4 ≡ length (now state) ⌝ }
     ensures { λ r. ⌜
-        Moved (toldSpan found) (now (next .entry)) (now (state .entry)) (now (state .exit)) (now (answer .entry))
-        (now (answer .exit)) r
+        Moved (toldSpan found) (now (next .entry))
+        (record { state = now (state .entry); answer = now (answer .entry) })
+        (record { state = now (state .exit); answer = now (answer .exit) }) r
         ⌝ }
 {
     match found {
@@ -83,8 +85,9 @@ pub(crate) fn moved_marker(
 ) -> u32
     requires { ⌜ length (now next) * 4 ≡ length (now state) ⌝ }
     ensures { λ r. ⌜
-        Moved (toldMarker found) (now (next .entry)) (now (state .entry)) (now (state .exit)) (now (answer .entry))
-        (now (answer .exit)) r
+        Moved (toldMarker found) (now (next .entry))
+        (record { state = now (state .entry); answer = now (answer .entry) })
+        (record { state = now (state .exit); answer = now (answer .exit) }) r
         ⌝ }
 {
     match found {
@@ -112,8 +115,9 @@ pub(crate) fn moved_numbered(
 ) -> u32
     requires { ⌜ length (now next) * 4 ≡ length (now state) ⌝ }
     ensures { λ r. ⌜
-        Moved (toldNumbered found) (now (next .entry)) (now (state .entry)) (now (state .exit)) (now (answer .entry))
-        (now (answer .exit)) r
+        Moved (toldNumbered found) (now (next .entry))
+        (record { state = now (state .entry); answer = now (answer .entry) })
+        (record { state = now (state .exit); answer = now (answer .exit) }) r
         ⌝ }
 {
     match found {
@@ -182,7 +186,7 @@ pub(crate) fn marker_cells(g: BlockMarkerIter) -> [usize; 9]
 }
 
 pub(crate) fn read_marker(run: &[u8]) -> BlockMarkerIter
-    requires { ⌜ readable markerLimits (now run) ≡ true ⌝ }
+    requires { ⌜ readable itemLimits (now run) ≡ true ⌝ }
     ensures { λ r. ⌜ Gives (markerFrom (cells (now (run .entry)))) r ⌝ }
 {
     BlockMarkerIter {
@@ -215,7 +219,7 @@ pub(crate) fn numbered_cells(g: BlockNumberedIter) -> [usize; 9]
 }
 
 pub(crate) fn read_numbered(run: &[u8]) -> BlockNumberedIter
-    requires { ⌜ readable markerLimits (now run) ≡ true ⌝ }
+    requires { ⌜ readable itemLimits (now run) ≡ true ⌝ }
     ensures { λ r. ⌜ Gives (numberedFrom (cells (now (run .entry)))) r ⌝ }
 {
     BlockNumberedIter {

@@ -18,7 +18,7 @@ use Rattle.region.specs.Ahead.{regions-in-order}
 use Rattle.rules.specs.Grammar.{Gram}
 use Rattle.cells.specs.Bytes.{four, cells, rowBytes}
 use Rattle.cells.specs.BackLaws.{Narrow, cells-over, reply-served}
-use Rattle.cells.specs.Poured.{buildAnswer, BuiltAs}
+use Rattle.cells.specs.Poured.{ListRuns, buildAnswer, BuiltAs}
 use Rattle.cells.specs.CellLaws.{length-cells}
 use Rattle.pour.specs.Building.{regionBytes}
 
@@ -45,9 +45,9 @@ pub room-back : (out : List ℕ) → length out / rowBytes ≡ room wide (cells 
 room-back out = omega (arith, length-cells out)
 
 -- ---- the entries
-short-of : (bad : Bool) (l : List Caused) (s out : List ℕ) → buildAnswer rowBytes bad l s out .number ≡ 0 → length s ≤ 4294967295
+short-of : (bad : Bool) (l : List Caused) (s : List ℕ) (before : ListRuns) → buildAnswer rowBytes bad l s before .number ≡ 0 → length s ≤ 4294967295
 unfolding buildAnswer
-short-of bad l s out e = by (decide (tooLong s))
+short-of bad l s before e = by (decide (tooLong s))
   where
     by : (tooLong s ≡ true) ⊎ (tooLong s ≡ false) → length s ≤ 4294967295
     by (inl u) =
@@ -56,8 +56,8 @@ short-of bad l s out e = by (decide (tooLong s))
     by (inr u) = ltb-false 4294967295 (length s) u
 
 -- building into a list in bytes that returns 0 has left, read as numbers, the regions over the front of the run's numbers
-pub built-back : (g : Gram) (bad : Bool) (s out out′ run run′ : List ℕ) → BuiltAs regionBytes rowBytes bad (regions g s) s out out′ run run′ 0 → cells out′ ≡ over (flatten rowOf (regions g s)) (cells out)
-built-back g bad s out out′ run run′ w =
-    let o = buildAnswer rowBytes bad (regions g s) s out in
-    let v = reply-served o run (sym (w .reply .number)) in
-    ap cells (w .left ∙ rw (v .0)) ∙ regions-back g s out (short-of bad (regions g s) s out (v .1))
+pub built-back : (g : Gram) (bad : Bool) (s : List ℕ) (before after : ListRuns) → BuiltAs regionBytes rowBytes bad (regions g s) s before after 0 → cells (after .list) ≡ over (flatten rowOf (regions g s)) (cells (before .list))
+built-back g bad s before after w =
+    let o = buildAnswer rowBytes bad (regions g s) s before in
+    let v = reply-served o (before .answer) (sym (w .reply .number)) in
+    ap cells (w .left ∙ rw (v .0)) ∙ regions-back g s (before .list) (short-of bad (regions g s) s before (v .1))

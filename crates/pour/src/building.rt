@@ -10,10 +10,8 @@ use lines::fence_tests::fence_table;
 use rules::search_bytes::Alphabet;
 use search::lesser;
 ghost use lib.ListN.{take};
-ghost use Rattle.rules.specs.Records.{ruleBytes, ruleMins};
-ghost use Rattle.cells.specs.Poured.{grammar};
 ghost use Rattle.pour.specs.Building.{PouredBy, BuiltBytes, BuiltRules};
-ghost use Rattle.cells.specs.ByteRules.{rulesOf};
+ghost use Rattle.cells.specs.ByteRules.{columnsIn, ruleColumnsIn};
 
 // All rules of columns into tables, once, and on.
 fn with_columns(
@@ -30,9 +28,20 @@ fn with_columns(
     answer: &mut [u8],
 ) -> u32
     ensures { λ r. ⌜
-        PouredBy g (now (fences .entry)) (now (mins .entry)) (now (symmetric .entry)) (now (times .entry)) (now (openers .entry))
-        (now (closers .entry)) (now (counts .entry)) (now (text .entry)) (now (out .entry)) (now (out .exit))
-        (now (answer .entry)) (now (answer .exit)) r
+        PouredBy g
+        (columnsIn (record {
+          fenceBytes = now (fences .entry);
+          fenceMins = now (mins .entry);
+          inline = record {
+            symBytes = now (symmetric .entry);
+            symCounts = now (times .entry);
+            openers = now (openers .entry);
+            closers = now (closers .entry);
+            openCounts = now (counts .entry);
+          };
+        }))
+        (now (text .entry)) (record { list = now (out .entry); answer = now (answer .entry) })
+        (record { list = now (out .exit); answer = now (answer .exit) }) r
         ⌝ }
 {
     let alphabet = Alphabet::of(g, fences, symmetric, openers);
@@ -57,9 +66,20 @@ fn with_front(
     answer: &mut [u8],
 ) -> u32
     ensures { λ r. ⌜
-        PouredBy g (take used (now (fences .entry))) (take used (now (mins .entry))) (now (symmetric .entry)) (now (times .entry))
-        (now (openers .entry)) (now (closers .entry)) (now (counts .entry)) (now (text .entry)) (now (out .entry))
-        (now (out .exit)) (now (answer .entry)) (now (answer .exit)) r
+        PouredBy g
+        (columnsIn (record {
+          fenceBytes = take used (now (fences .entry));
+          fenceMins = take used (now (mins .entry));
+          inline = record {
+            symBytes = now (symmetric .entry);
+            symCounts = now (times .entry);
+            openers = now (openers .entry);
+            closers = now (closers .entry);
+            openCounts = now (counts .entry);
+          };
+        }))
+        (now (text .entry)) (record { list = now (out .entry); answer = now (answer .entry) })
+        (record { list = now (out .exit); answer = now (answer .exit) }) r
         ⌝ }
 {
     let n = lesser(used, fences.len());
@@ -93,9 +113,19 @@ fn with_rules(
     answer: &mut [u8],
 ) -> u32
     ensures { λ r. ⌜
-        PouredBy g (ruleBytes (rulesOf (now (rules .entry)))) (ruleMins (rulesOf (now (rules .entry)))) (now (symmetric .entry))
-        (now (times .entry)) (now (openers .entry)) (now (closers .entry)) (now (counts .entry)) (now (text .entry))
-        (now (out .entry)) (now (out .exit)) (now (answer .entry)) (now (answer .exit)) r
+        PouredBy g
+        (ruleColumnsIn (record {
+          fenceRules = now (rules .entry);
+          inline = record {
+            symBytes = now (symmetric .entry);
+            symCounts = now (times .entry);
+            openers = now (openers .entry);
+            closers = now (closers .entry);
+            openCounts = now (counts .entry);
+          };
+        }))
+        (now (text .entry)) (record { list = now (out .entry); answer = now (answer .entry) })
+        (record { list = now (out .exit); answer = now (answer .exit) }) r
         ⌝ }
 {
     let fences = gather_rules(rules);
@@ -136,9 +166,20 @@ pub fn build_columns(
     answer: &mut [u8],
 ) -> u32
     ensures { λ r. ⌜
-        BuiltBytes (grammar eol escape sep tab) (now (fences .entry)) (now (mins .entry)) (now (symmetric .entry))
-        (now (times .entry)) (now (openers .entry)) (now (closers .entry)) (now (counts .entry)) (now (text .entry))
-        (now (out .entry)) (now (out .exit)) (now (answer .entry)) (now (answer .exit)) r
+        BuiltBytes (record { eol = eol; escape = escape; sep = sep; tab = tab })
+        (record {
+          fenceBytes = now (fences .entry);
+          fenceMins = now (mins .entry);
+          inline = record {
+            symBytes = now (symmetric .entry);
+            symCounts = now (times .entry);
+            openers = now (openers .entry);
+            closers = now (closers .entry);
+            openCounts = now (counts .entry);
+          };
+        })
+        (now (text .entry)) (record { list = now (out .entry); answer = now (answer .entry) })
+        (record { list = now (out .exit); answer = now (answer .exit) }) r
         ⌝ }
 {
     if text.len() > MAX_INPUT_LEN {
@@ -189,9 +230,19 @@ pub fn build_rules(
     answer: &mut [u8],
 ) -> u32
     ensures { λ r. ⌜
-        BuiltRules (grammar eol escape sep tab) (now (rules .entry)) (now (symmetric .entry)) (now (times .entry))
-        (now (openers .entry)) (now (closers .entry)) (now (counts .entry)) (now (text .entry)) (now (out .entry))
-        (now (out .exit)) (now (answer .entry)) (now (answer .exit)) r
+        BuiltRules (record { eol = eol; escape = escape; sep = sep; tab = tab })
+        (record {
+          fenceRules = now (rules .entry);
+          inline = record {
+            symBytes = now (symmetric .entry);
+            symCounts = now (times .entry);
+            openers = now (openers .entry);
+            closers = now (closers .entry);
+            openCounts = now (counts .entry);
+          };
+        })
+        (now (text .entry)) (record { list = now (out .entry); answer = now (answer .entry) })
+        (record { list = now (out .exit); answer = now (answer .exit) }) r
         ⌝ }
 {
     if text.len() > MAX_INPUT_LEN {

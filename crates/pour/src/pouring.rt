@@ -8,15 +8,18 @@ use region::count_regions;
 use region::next_region;
 use rules::rows::Rows;
 use rules::search_bytes::Alphabet;
+ghost use mathlib.Core.List.{[], _∷_};
 ghost use Prim.Native.Nat.{_+_, _*_, _/_, _≤_};
 ghost use lib.Dec.{leb};
 ghost use lib.ListN.{length};
 ghost use Rattle.search.specs.Promise.{Gives};
+ghost use Rattle.common.specs.Entry.{flatten};
 ghost use Rattle.region.specs.Regions.{regions};
+ghost use Rattle.common.specs.Lists.{RowPut, Wrote};
 ghost use Rattle.rules.specs.Rows.{gramBy};
-ghost use Rattle.cells.specs.Poured.{Wrote, PouredAs};
-ghost use Rattle.pour.specs.Building.{regionBytes, Put};
-ghost use Rattle.cells.specs.Bytes.{rowBytes};
+ghost use Rattle.cells.specs.Bytes.{four, rowBytes};
+ghost use Rattle.cells.specs.Poured.{PouredAs};
+ghost use Rattle.pour.specs.Building.{regionBytes};
 
 // How many regions a list of `len` bytes has room for.
 fn region_room(len: usize) -> usize
@@ -28,7 +31,7 @@ fn region_room(len: usize) -> usize
 // Writes region `n`, from `start` up to `end`, to its bytes, and answers the next region's number.
 fn put_region(out: &mut [u8], n: usize, start: usize, end: usize) -> usize
     requires { ⌜ n * rowBytes + rowBytes ≤ length (now out) ⌝ }
-    ensures { λ r. ⌜ Put n start end (now (out .entry)) (now (out .exit)) r ⌝ }
+    ensures { λ r. ⌜ RowPut (flatten four (start ∷ end ∷ [])) n (now (out .entry)) (now (out .exit)) r ⌝ }
 {
     let all = [start, end];
     put_numbers(out, n * ROW, &all);
@@ -92,7 +95,8 @@ pub(crate) fn pour(
 ) -> u32
     ensures { λ r. ⌜
         PouredAs regionBytes rowBytes (regions (gramBy alphabet (now (fences .entry)) (now (rows .entry))) (now (text .entry)))
-        (now (out .entry)) (now (out .exit)) (now (answer .entry)) (now (answer .exit)) r
+        (record { list = now (out .entry); answer = now (answer .entry) })
+        (record { list = now (out .exit); answer = now (answer .exit) }) r
         ⌝ }
 {
     if 1 < reply::room_of(answer.len()) {

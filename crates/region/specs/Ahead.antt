@@ -1,7 +1,7 @@
 -- Every turn of the region scan moves on within the text, over any grammar; so a text's regions are in order. Assumes nothing.
 use mathlib.Core.Path.{_≡_, refl}
 use mathlib.Core.Bool.{Bool, true, false, not, _&&_}
-use mathlib.Core.List.{List, [], _∷_}
+use mathlib.Core.List.{List, [], _∷_, map}
 use Prim.Native.Nat.{ℕ, zero, suc, _+_, _-_, _*_, _/_, _≤_, _<_, min}
 use native.Mathlib.Omega.{arith}
 use lib.Dec.{eqb, ltb}
@@ -9,15 +9,17 @@ use lib.ListN.{length, getD}
 use borrow.Author.Tests.{ltb-true, eq-eqb}
 use Rattle.search.specs.Search.{find, is, other, lineEnd, nextLine}
 use Rattle.search.specs.SearchLaws.{clash, and-true, is-yes, is-true, other-no, find-ge, find-le, find-next, find-at, first-ge, first-le}
+use Rattle.common.specs.Entry.{Shaped}
 use Rattle.common.specs.ItemLaws.{both}
 use Rattle.lines.specs.Paragraph.{endsAt, paragraphEnd, hitAt, nextIn}
-use Rattle.common.specs.Turn.{Turn, go, stop, found, thenCollect, collect, firstTurn, Ahead, Last, Adv}
+use Rattle.common.specs.Turn.{Turn, go, stop, found, thenCollect, collect, firstTurn}
+use Rattle.common.specs.Turning.{Ahead, Last, Adv}
 use Rattle.common.specs.TurnLaws.{by-turn, adv-weaken, scan-last}
 use Rattle.lines.specs.declared.fence_tests.Hit.{Hit}
 use Rattle.lines.specs.declared.fence_tests.Hit.the-variants.{At, End}
 use Rattle.region.specs.declared.Cause.{Cause}
 use Rattle.region.specs.declared.Cause.the-variants.{Symmetric, Asymmetric}
-use Rattle.region.specs.Region.{Region, InOrder}
+use Rattle.region.specs.Region.{Region, Caused, InOrder, rowOf}
 use Rattle.rules.specs.Grammar.{Rule, plain, sym, asym, Gram}
 use Rattle.region.specs.Regions.{shutPlace, fencedTo, fenced, escaped, nextOf, symAfter, symTurn, asymAfter, asymTurn, pairOf, openPair, inline, regionTurn, regions}
 
@@ -131,7 +133,7 @@ module _ (g : Gram) (s : List ℕ) where
   regionTurn-ahead = adv-weaken regionTurn-far Lies (λ q n r w. (w .0, w .1, w .2))
 
 -- ---- what such turns find is in order
-order-later : {T : Type 0} (q n len : ℕ) (l : List (Region T)) → q ≤ n → InOrder n len l → InOrder q len l
+pub order-later : {T : Type 0} (q n len : ℕ) (l : List (Region T)) → q ≤ n → InOrder n len l → InOrder q len l
 order-later q n len [] h w = tt
 order-later q n len (r ∷ l) h w = (omega arith, w .1, w .2, w .3)
 
@@ -145,6 +147,14 @@ collect-in-order {step = step} {len = len} adv (suc f) q h =
 pub regions-in-order : (g : Gram) (s : List ℕ) → InOrder 0 (length s) (regions g s)
 unfolding regions
 regions-in-order g s = collect-in-order (regionTurn-ahead g s) (suc (length s)) 0 (omega arith)
+
+-- and so are their rows
+order-shaped : (from len : ℕ) (l : List Caused) → InOrder from len l → Shaped from len (map rowOf l)
+order-shaped from len [] w = tt
+order-shaped from len (r ∷ l) w = (w .0, w .1, w .2, order-shaped (r .stop) len l (w .3))
+
+pub regions-shaped : (g : Gram) (s : List ℕ) → Shaped 0 (length s) (map rowOf (regions g s))
+regions-shaped g s = order-shaped 0 (length s) (regions g s) (regions-in-order g s)
 
 -- ---- there are at most half as many regions as places, and one more
 few : {T : Type 0} {step : ℕ → Turn (Region T)} {len : ℕ} → Adv (Far len) step len → (f q : ℕ) → q ≤ len → 2 * length (collect step f q) ≤ len - q + 1

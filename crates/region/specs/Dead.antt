@@ -12,9 +12,11 @@ use lib.ListN.{length, getD}
 use borrow.Author.Tests.{ltb-true, ltb-false, lt-ltb}
 use Rattle.search.specs.Search.{find, is, other}
 use Rattle.search.specs.SearchLaws.{decide, and-true, is-no, is-true, other-yes, holds-true, find-ge, find-le, find-hit, find-from, first-from, first-at, first-le}
+use Rattle.common.specs.Items.{placeOf}
 use Rattle.common.specs.ItemLaws.{both}
 use Rattle.lines.specs.Paragraph.{endsAt, paragraphEnd, hitAt, nextIn}
-use Rattle.common.specs.Turn.{Turn, go, stop, found, firstTurn, thenScan, Adv}
+use Rattle.common.specs.Turn.{Turn, go, stop, found, firstTurn, thenScan}
+use Rattle.common.specs.Turning.{Adv}
 use Rattle.common.specs.TurnLaws.{turn-ahead, scan-turn, scan-go, scan-stop, scan-found}
 use Rattle.lines.specs.declared.fence_tests.Hit.{Hit}
 use Rattle.lines.specs.declared.fence_tests.Hit.the-variants.{At, End}
@@ -28,15 +30,6 @@ way (go n) = 0
 way (stop v) = 1
 way (found a n) = 2
 
-placeOf : {A : Type 0} → Turn A → ℕ
-placeOf (go n) = n
-placeOf (stop v) = v
-placeOf (found a n) = n
-
-endOf : Hit → ℕ
-endOf (At q) = 0
-endOf (End u) = u
-
 -- a turn that finds something, or only goes on and not past k
 abbrev Goes : ℕ → Turn ℕ → Type 0
 Goes k (go n) = n ≤ k
@@ -45,29 +38,29 @@ Goes k (found a n) = Unit {0}
 
 module _ (g : Gram) (s : List ℕ) where
   -- where the paragraph of a place ends
-  abbrev pub ends : ℕ → ℕ
-  ends j = paragraphEnd (g .eol) (g .fences .enters s) s j
+  abbrev pub paragraphEndOf : ℕ → ℕ
+  paragraphEndOf j = paragraphEnd (g .eol) (g .fences .enters s) s j
 
-  pub ends-from : (j k : ℕ) → j ≤ length s → j ≤ k → k ≤ ends j → ends j ≡ ends k
+  pub ends-from : (j k : ℕ) → j ≤ length s → j ≤ k → k ≤ paragraphEndOf j → paragraphEndOf j ≡ paragraphEndOf k
   unfolding paragraphEnd
   ends-from j k h l m = first-from (endsAt (g .eol) (g .fences .enters s) s) j k (length s) h l m
 
-  ends-le : (j : ℕ) → j ≤ length s → ends j ≤ length s
+  ends-le : (j : ℕ) → j ≤ length s → paragraphEndOf j ≤ length s
   unfolding paragraphEnd
   ends-le j h = first-le (endsAt (g .eol) (g .fences .enters s) s) j (length s) h
 
   -- a paragraph ends at a line end or with the text
-  ends-eol : (j : ℕ) → ends j < length s → getD s (ends j) 0 ≡ g .eol
+  ends-eol : (j : ℕ) → paragraphEndOf j < length s → getD s (paragraphEndOf j) 0 ≡ g .eol
   unfolding paragraphEnd endsAt
   ends-eol j l =
-      is-true (g .eol) (getD s (ends j) 0) (holds-true (is (g .eol)) s (ends j) (and-true _ _ (first-at (endsAt (g .eol) (g .fences .enters s) s) j (length s) l) .0) .1)
+      is-true (g .eol) (getD s (paragraphEndOf j) 0) (holds-true (is (g .eol)) s (paragraphEndOf j) (and-true _ _ (first-at (endsAt (g .eol) (g .fences .enters s) s) j (length s) l) .0) .1)
 
   -- the next x from j is before k, or it is the next from k
-  next-later : (x j k : ℕ) → j ≤ k → k ≤ length s → k ≤ ends j → ((q : ℕ) × (j ≤ q) × (q < k) × (nextOf g s x j ≡ At q)) ⊎ (nextOf g s x j ≡ nextOf g s x k)
+  next-later : (x j k : ℕ) → j ≤ k → k ≤ length s → k ≤ paragraphEndOf j → ((q : ℕ) × (j ≤ q) × (q < k) × (nextOf g s x j ≡ At q)) ⊎ (nextOf g s x j ≡ nextOf g s x k)
   unfolding nextIn
   next-later x j k h m w = by (decide (ltb (find (is x) s j) k)) (decide (eqb x (g .eol)))
     where
-      same : ends j ≡ ends k
+      same : paragraphEndOf j ≡ paragraphEndOf k
       same = ends-from j k (omega arith) h w
 
       by : (ltb (find (is x) s j) k ≡ true) ⊎ (ltb (find (is x) s j) k ≡ false) → (eqb x (g .eol) ≡ true) ⊎ (eqb x (g .eol) ≡ false)
@@ -75,20 +68,20 @@ module _ (g : Gram) (s : List ℕ) where
       by (inl u) (inl v) = inr (simp (v, same))
       by (inl u) (inr v) =
           let l = ltb-true (find (is x) s j) k u in
-          inl (find (is x) s j, find-ge (is x) s j, l, simp (v, lt-ltb (find (is x) s j) (ends j) (omega arith)))
+          inl (find (is x) s j, find-ge (is x) s j, l, simp (v, lt-ltb (find (is x) s j) (paragraphEndOf j) (omega arith)))
       by (inr u) v = inr (simp (same, find-from (is x) s j k (omega arith) h (ltb-false (find (is x) s j) k u)))
 
   -- what is met is before the paragraph's end, and what else is told is that end
   Within : ℕ → Hit → Type 0
-  Within j (At q) = q < ends j
-  Within j (End v) = v ≡ ends j
+  Within j (At q) = q < paragraphEndOf j
+  Within j (End v) = v ≡ paragraphEndOf j
 
   next-within : (x j : ℕ) → Within j (nextOf g s x j)
   unfolding nextIn Within
-  next-within x j = by (not (eqb x (g .eol)) && ltb (find (is x) s j) (ends j)) refl
+  next-within x j = by (not (eqb x (g .eol)) && ltb (find (is x) s j) (paragraphEndOf j)) refl
     where
-      by : (t : Bool) → (not (eqb x (g .eol)) && ltb (find (is x) s j) (ends j)) ≡ t → Within j (hitAt t (find (is x) s j) (ends j))
-      by true e = ltb-true (find (is x) s j) (ends j) (and-true (not (eqb x (g .eol))) (ltb (find (is x) s j) (ends j)) e .1)
+      by : (t : Bool) → (not (eqb x (g .eol)) && ltb (find (is x) s j) (paragraphEndOf j)) ≡ t → Within j (hitAt t (find (is x) s j) (paragraphEndOf j))
+      by true e = ltb-true (find (is x) s j) (paragraphEndOf j) (and-true (not (eqb x (g .eol))) (ltb (find (is x) s j) (paragraphEndOf j)) e .1)
       by false e = refl
 
   -- a search by steps: `after` is what a step makes of the next x
@@ -98,12 +91,12 @@ module _ (g : Gram) (s : List ℕ) where
     abbrev Bound : ℕ → Type 0
     Bound k = (q : ℕ) → q < k → q < length s → getD s q 0 ≡ x → (x ≡ g .eol → ⊥) → Goes k (after (At q))
 
-    later : (u k : ℕ) → k ≤ length s → Bound k → (f j : ℕ) → j ≤ k → k - j < f → k ≤ ends j → firstTurn step (length s) j ≡ stop u → firstTurn step (length s) k ≡ stop u
+    later : (u k : ℕ) → k ≤ length s → Bound k → (f j : ℕ) → j ≤ k → k - j < f → k ≤ paragraphEndOf j → firstTurn step (length s) j ≡ stop u → firstTurn step (length s) k ≡ stop u
     unfolding way
     later u k m b zero j h l w e = absurd (not-suc-le-zero l)
     later u k m b (suc f) j h l w e = by (later u k m b f) (next-later x j k h m w)
       where
-        by : ((i : ℕ) → i ≤ k → k - i < f → k ≤ ends i → firstTurn step (length s) i ≡ stop u → firstTurn step (length s) k ≡ stop u)
+        by : ((i : ℕ) → i ≤ k → k - i < f → k ≤ paragraphEndOf i → firstTurn step (length s) i ≡ stop u → firstTurn step (length s) k ≡ stop u)
             → ((q : ℕ) × (j ≤ q) × (q < k) × (nextOf g s x j ≡ At q)) ⊎ (nextOf g s x j ≡ nextOf g s x k) → firstTurn step (length s) k ≡ stop u
         by ih (inr same) =
             scan-turn adv k m ∙ ap (thenScan (firstTurn step (length s))) (is-step k ∙ ap after (inv same) ∙ inv (is-step j)) ∙ inv (scan-turn adv j (omega arith)) ∙ e
@@ -124,16 +117,16 @@ module _ (g : Gram) (s : List ℕ) where
                 absurd (omega arith)
 
     -- where it stops is where the paragraph ends
-    stops-at : (u : ℕ) → ((j : ℕ) → j ≤ length s → Bound (ends j)) → (f j : ℕ) → j ≤ length s → length s - j < f → firstTurn step (length s) j ≡ stop u → u ≡ ends j
-    unfolding way placeOf Within
+    stops-at : (u : ℕ) → ((j : ℕ) → j ≤ length s → Bound (paragraphEndOf j)) → (f j : ℕ) → j ≤ length s → length s - j < f → firstTurn step (length s) j ≡ stop u → u ≡ paragraphEndOf j
+    unfolding way Within
     stops-at u b zero j h l e = absurd (not-suc-le-zero l)
     stops-at u b (suc f) j h l e = by (stops-at u b f) (nextOf g s x j) refl (next-within x j) (next-met (g .eol) (g .fences .enters s) s x j h)
       where
-        by : ((i : ℕ) → i ≤ length s → length s - i < f → firstTurn step (length s) i ≡ stop u → u ≡ ends i) → (t : Hit) → nextOf g s x j ≡ t → Within j t → Met (g .eol) s x j t → u ≡ ends j
+        by : ((i : ℕ) → i ≤ length s → length s - i < f → firstTurn step (length s) i ≡ stop u → u ≡ paragraphEndOf i) → (t : Hit) → nextOf g s x j ≡ t → Within j t → Met (g .eol) s x j t → u ≡ paragraphEndOf j
         by ih (End v) at w met = inv (ap placeOf (inv (scan-stop adv h (is-step j ∙ ap after at ∙ over v)) ∙ e)) ∙ w
         by ih (At q) at w met = turn (after (At q)) refl (b j h q w (met .1) (met .2) (met .3))
           where
-            turn : (t : Turn ℕ) → after (At q) ≡ t → Goes (ends j) t → u ≡ ends j
+            turn : (t : Turn ℕ) → after (At q) ≡ t → Goes (paragraphEndOf j) t → u ≡ paragraphEndOf j
             turn (go n) c le =
                 let here : step j ≡ go n = is-step j ∙ ap after at ∙ c in
                 let a = turn-ahead adv h here in
@@ -145,7 +138,7 @@ module _ (g : Gram) (s : List ℕ) where
                 absurd (omega arith)
 
     -- both: from k, after j and not after the place where the search from j stopped, the search stops there too
-    dead : (u j k : ℕ) → (k ≤ length s → Bound k) → ((i : ℕ) → i ≤ length s → Bound (ends i)) → j ≤ k → k ≤ u → j ≤ length s → firstTurn step (length s) j ≡ stop u → firstTurn step (length s) k ≡ stop u
+    dead : (u j k : ℕ) → (k ≤ length s → Bound k) → ((i : ℕ) → i ≤ length s → Bound (paragraphEndOf i)) → j ≤ k → k ≤ u → j ≤ length s → firstTurn step (length s) j ≡ stop u → firstTurn step (length s) k ≡ stop u
     dead u j k b c h l m e =
         let at = stops-at u c (suc (length s)) j m (omega arith) e in
         let w : k ≤ length s = omega (arith, ends-le j m) in
@@ -158,13 +151,13 @@ module _ (g : Gram) (s : List ℕ) where
   pub asym-dead : (c u j k : ℕ) → j ≤ k → k ≤ u → j ≤ length s → firstTurn (asymTurn g s c) (length s) j ≡ stop u → firstTurn (asymTurn g s c) (length s) k ≡ stop u
   unfolding asymTurn
   asym-dead c u j k h l m e =
-      dead c (asymTurn g s c) (asymAfter g s) (asymTurn-ahead g s c) (λ j. refl) (λ u. refl) u j k (λ y q i w v d. asym-bound k q i) (λ i z q o w v d. asym-bound (ends i) q o) h l m e
+      dead c (asymTurn g s c) (asymAfter g s) (asymTurn-ahead g s c) (λ j. refl) (λ u. refl) u j k (λ y q i w v d. asym-bound k q i) (λ i z q o w v d. asym-bound (paragraphEndOf i) q o) h l m e
 
   -- ---- symmetric: every later place that is not within a run of the byte
-  abbrev pub Apart : ℕ → ℕ → Type 0
-  Apart b k = k < length s → getD s k 0 ≡ b → ⊥
+  abbrev pub OutsideRun : ℕ → ℕ → Type 0
+  OutsideRun b k = k < length s → getD s k 0 ≡ b → ⊥
 
-  sym-bound : (b count k q : ℕ) → k ≤ length s → Apart b k → q < k → Goes k (symAfter g s b count (At q))
+  sym-bound : (b count k q : ℕ) → k ≤ length s → OutsideRun b k → q < k → Goes k (symAfter g s b count (At q))
   sym-bound b count k q w z l =
       both (Goes k) (escaped g s q) _ _ (λ u. omega arith) (λ u. both (Goes k) (eqb (find (other (is b)) s q - q) count) _ _ (λ v. tt) (λ v. by (decide (ltb k (length s)))))
     where
@@ -172,8 +165,8 @@ module _ (g : Gram) (s : List ℕ) where
       by (inl u) = let i = ltb-true k (length s) u in find-hit (other (is b)) s q k (omega arith) i (other-yes (is b) (getD s k 0) (is-no b (getD s k 0) (z i)))
       by (inr u) = omega (arith, ltb-false k (length s) u, find-le (other (is b)) s q (omega arith))
 
-  pub sym-dead : (b count u j k : ℕ) → Apart b k → j ≤ k → k ≤ u → j ≤ length s → firstTurn (symTurn g s b count) (length s) j ≡ stop u → firstTurn (symTurn g s b count) (length s) k ≡ stop u
+  pub sym-dead : (b count u j k : ℕ) → OutsideRun b k → j ≤ k → k ≤ u → j ≤ length s → firstTurn (symTurn g s b count) (length s) j ≡ stop u → firstTurn (symTurn g s b count) (length s) k ≡ stop u
   unfolding symTurn
   sym-dead b count u j k z h l m e =
       dead b (symTurn g s b count) (symAfter g s b count) (symTurn-ahead g s b count) (λ j. refl) (λ u. refl) u j k (λ y q i w v d. sym-bound b count k q y z i)
-      (λ i z q o w v d. sym-bound b count (ends i) q (ends-le i z) (λ y a. d (inv a ∙ ends-eol i y)) o) h l m e
+      (λ i z q o w v d. sym-bound b count (paragraphEndOf i) q (ends-le i z) (λ y a. d (inv a ∙ ends-eol i y)) o) h l m e

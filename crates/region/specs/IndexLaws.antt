@@ -13,18 +13,27 @@ use Rattle.common.specs.Turn.{Turn, go, stop, found, firstTurn, moveT}
 use Rattle.common.specs.TurnLaws.{allFound-move}
 use Rattle.common.specs.declared.grammar.Grammar.{Grammar}
 use Rattle.rules.specs.Columns.{columns, gramOf}
-use Rattle.rules.specs.Records.{ruleBytes, ruleMins, keptBytes, keptMins, ownPlace, AllGathered}
-use Rattle.rules.specs.RecordLaws.{gathered-gram}
+use Rattle.rules.specs.Records.{ruleBytes, ruleMins, keptBytes, keptMins, AllGathered}
+use Rattle.rules.specs.RecordLaws.{reindexed, ownPlace, gathered-gram}
 use Rattle.rules.specs.declared.records.FenceRule.{FenceRule}
 use Rattle.rules.specs.declared.records.Gathered.{Gathered}
-use Rattle.rules.specs.Grammar.{Rule, plain, sym, asym, Gram, reindexed}
+use Rattle.rules.specs.Grammar.{Rule, plain, sym, asym, Gram}
 use Rattle.lines.specs.declared.fence_tests.Hit.{Hit}
 use Rattle.lines.specs.declared.fence_tests.Hit.the-variants.{At, End}
 use Rattle.region.specs.declared.Cause.{Cause}
-use Rattle.region.specs.declared.Cause.the-variants.{Symmetric, Asymmetric}
-use Rattle.region.specs.Region.{Caused, Origin, retag, reindex, indexFor}
+use Rattle.region.specs.declared.Cause.the-variants.{Fence, Symmetric, Asymmetric}
+use Rattle.region.specs.Region.{Caused, Origin, retag}
 use Rattle.region.specs.Regions.{shutPlace, fencedTo, fenced, escaped, nextOf, symAfter, symTurn, asymAfter, asymTurn, pairOf, openPair, inline, regionAt, regionTurn, regions}
 use Rattle.region.specs.Ahead.{regionTurn-ahead}
+
+-- the rule that made a region, where fence rule i stands at h i
+abbrev indexFor : (ℕ → ℕ) → Cause → ℕ → ℕ
+indexFor h Fence i = h i
+indexFor h Symmetric i = i
+indexFor h Asymmetric i = i
+
+abbrev pub reindex : (ℕ → ℕ) → Origin → Origin
+reindex h o = record { cause = o .cause; index = indexFor h (o .cause) (o .index); closed = o .closed }
 
 module _ (h : ℕ → ℕ) where
   -- a turn, told of the same place, whose fence rule stands at its other index

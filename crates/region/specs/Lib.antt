@@ -1,5 +1,6 @@
 pub mod Region
 pub mod Regions
+pub mod Room
 pub mod Sight
 pub mod Views
 pub mod Memory

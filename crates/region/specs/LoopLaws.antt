@@ -1,18 +1,19 @@
 -- Laws of loops over the regions of a text, by steps of `next_region`: one that counts them, and one that writes each as so many numbers. Assumes nothing.
-use mathlib.Core.Path.{_≡_, refl, ap}
+use mathlib.Core.Path.{_≡_, refl, ap, _∙_}
 use mathlib.Core.List.{List, _++_}
 use Prim.Native.Nat.{ℕ, _+_, _-_, _*_, _/_, _≤_, _<_}
 use native.Mathlib.Omega.{arith}
 use lib.ListN.{length, replicate, length-append}
 use Rattle.search.specs.Promise.{Gives}
-use Rattle.common.specs.Entry.{flatten, room, over, putAt, Written, wide}
-use Rattle.common.specs.EntryLaws.{length-flatten, room-fits, rows-next, written-none, written-put, written-all, written-room}
+use Rattle.common.specs.Entry.{flatten, room, putAt, wide}
+use Rattle.common.specs.EntryLaws.{Written, length-flatten, room-fits, rows-next, written-none, written-put, written-all, written-room}
 use Rattle.rules.specs.Grammar.{Gram}
 use Rattle.region.specs.Region.{Region, Caused, regionOf, rowOf}
 use Rattle.region.specs.Regions.{nextRegion, regions}
-use Rattle.region.specs.Views.{viewNext, placed}
+use Rattle.common.specs.Lists.{RowPut, Wrote}
+use Rattle.region.specs.Views.{viewNext, foundRegion}
 use Rattle.region.specs.Ahead.{regions-few}
-use Rattle.region.specs.Memory.{Keeps}
+use Rattle.region.specs.Memory.{KeptNext}
 use Rattle.region.specs.MemoryLaws.{Sound, sound-zeros, keeps-told, keeps-sound}
 use Rattle.region.specs.NextLaws.{regionsFrom, from-start, next-none, next-some, next-ahead}
 use Rattle.region.specs.declared.Region.{Region as Told}
@@ -39,9 +40,9 @@ pub record Pouring (flat : Caused → List ℕ) (w : ℕ) (g : Gram) (s m out₀
 pub counting-first : (g : Gram) (s : List ℕ) → Counting g s (replicate 256 0) 0 0
 counting-first g s = record { sound = sound-zeros g s 0; here = omega arith; few = omega arith; sum = omega (arith, ap length (from-start g s)) }
 
-module _ (g : Gram) (s m : List ℕ) (n q : ℕ) (d : Next) (m′ : List ℕ) (i : Counting g s m n q) (kept : Keeps g s m q d m′) where
+module _ (g : Gram) (s m : List ℕ) (n q : ℕ) (d : Next) (m′ : List ℕ) (i : Counting g s m n q) (kept : KeptNext g s m q d m′) where
   -- what the step says of the text
-  pub counting-told : Gives (placed (nextRegion g s q)) (viewNext d)
+  pub counting-told : Gives (foundRegion (nextRegion g s q)) (viewNext d)
   counting-told = keeps-told g s m q (i .here) (i .sound) d m′ kept
 
   pub counting-end : d ≡ next.Nothing → n ≡ length (regions g s)
@@ -66,12 +67,12 @@ pouring-first flat w g s out size h =
       wrote = rw (← (from-start g s), k) (written-none (omega (arith, room-fits w (length (regions g s)) out h, length-flatten flat w size (regions g s))));
     }
 
-module _ (flat : Caused → List ℕ) (w : ℕ) (g : Gram) (s m out₀ out : List ℕ) (n q : ℕ) (d : Next) (m′ : List ℕ) (i : Pouring flat w g s m out₀ out n q) (kept : Keeps g s m q d m′) where
-  told : Gives (placed (nextRegion g s q)) (viewNext d)
+module _ (flat : Caused → List ℕ) (w : ℕ) (g : Gram) (s m out₀ out : List ℕ) (n q : ℕ) (d : Next) (m′ : List ℕ) (i : Pouring flat w g s m out₀ out n q) (kept : KeptNext g s m q d m′) where
+  told : Gives (foundRegion (nextRegion g s q)) (viewNext d)
   told = counting-told g s m n q d m′ (i .counting) kept
 
-  pub pouring-end : d ≡ next.Nothing → out ≡ over (flatten flat (regions g s)) out₀
-  pouring-end e = written-all (rw (next-none g s q (i .counting .here) d told e) at (i .wrote))
+  pub pouring-end : d ≡ next.Nothing → Wrote flat (regions g s) out₀ out n
+  pouring-end e = record { count = counting-end g s m n q d m′ (i .counting) kept e; list = written-all (rw (next-none g s q (i .counting .here) d told e) at (i .wrote)) }
 
   module _ (r : Told) (k : ℕ) (e : d ≡ next.Region r k) where
     ahead : Written (flatten flat (regions g s)) (flat (regionOf r) ++ flatten flat (regionsFrom g s k)) out₀ out (n * w)
@@ -81,10 +82,11 @@ module _ (flat : Caused → List ℕ) (w : ℕ) (g : Gram) (s m out₀ out : Lis
     pub pouring-room : n * w + w ≤ length out
     pouring-room = omega (arith, written-room ahead, length-append (flat (regionOf r)) (flatten flat (regionsFrom g s k)), i .size (regionOf r))
 
-    pub pouring-next : (out′ : List ℕ) (n′ : ℕ) → n′ ≡ n + 1 → out′ ≡ putAt (n * w) (flat (regionOf r)) out → Pouring flat w g s m′ out₀ out′ n′ k
-    pouring-next out′ n′ e′ p =
+    pub pouring-next : (out′ : List ℕ) (n′ : ℕ) → RowPut (flat (regionOf r)) n out out′ n′ → Pouring flat w g s m′ out₀ out′ n′ k
+    pouring-next out′ n′ p =
         let x : (n + 1) * w ≡ n * w + length (flat (regionOf r)) = omega (arith, rows-next n w, i .size (regionOf r)) in
-        record { size = i .size; counting = rw e′ (counting-next g s m n q d m′ (i .counting) kept r k e); wrote = rw (e′, x, p) (written-put (flat (regionOf r)) ahead) }
+        let z : out′ ≡ putAt (n * w) (flat (regionOf r)) out = p .list ∙ ap (λ (k : ℕ). putAt (n * k) (flat (regionOf r)) out) (i .size (regionOf r)) in
+        record { size = i .size; counting = rw (p .next) (counting-next g s m n q d m′ (i .counting) kept r k e); wrote = rw (p .next, x, z) (written-put (flat (regionOf r)) ahead) }
 
     pub pouring-less : length s - k < length s - q
     pouring-less = counting-less g s m n q d m′ (i .counting) kept r k e

@@ -12,7 +12,7 @@ use Rattle.common.specs.Turn.{Turn, go, stop, found, firstTurn}
 use Rattle.rules.specs.Grammar.{Rule, plain, sym, asym, Gram}
 use Rattle.region.specs.Region.{Caused, caused}
 use Rattle.region.specs.Regions.{escaped, symTurn, asymTurn, fenced}
-use Rattle.region.specs.Views.{viewNext, placed}
+use Rattle.region.specs.Views.{viewNext, foundRegion}
 use Rattle.region.specs.declared.Cause.{Cause}
 use Rattle.region.specs.declared.Cause.the-variants.{Symmetric, Asymmetric}
 use Rattle.region.specs.declared.Next.{Next}
@@ -52,27 +52,27 @@ unfoldable pub keptTurn : Gram → List ℕ → List ℕ → ℕ → Sight
 keptTurn g s m q = keptFrom g s m q (find (g .trigger) s q)
 
 -- a scan's answer, and what it remembers
-pub record Kept : Type 0 where
+pub record Remembered : Type 0 where
   pub turn : Turn Caused
   pub memory : List ℕ
 
 -- what a turn is to a scan that remembers m: the answer, or what k says of the memory and of the place that the scan goes on from
-abbrev pub thenKept : (List ℕ → ℕ → Kept) → List ℕ → Sight → Kept
+abbrev pub thenKept : (List ℕ → ℕ → Remembered) → List ℕ → Sight → Remembered
 thenKept k m (turned (go n)) = k m n
 thenKept k m (turned (stop v)) = record { turn = stop v; memory = m }
 thenKept k m (turned (found r n)) = record { turn = found r n; memory = m }
 thenKept k m (lost b n u) = k (set m b u) n
 
 -- the first of at most f turns from q that does not only go on
-unfoldable pub keptScan : Gram → List ℕ → ℕ → List ℕ → ℕ → Kept
+unfoldable pub keptScan : Gram → List ℕ → ℕ → List ℕ → ℕ → Remembered
 keptScan g s zero m q = record { turn = stop q; memory = m }
 keptScan g s (suc f) m q = thenKept (keptScan g s f) m (keptTurn g s m q)
 
 -- the next region from a place on, by a memory
-abbrev pub keptNext : Gram → List ℕ → List ℕ → ℕ → Kept
+abbrev pub keptNext : Gram → List ℕ → List ℕ → ℕ → Remembered
 keptNext g s m q = keptScan g s (suc (length s)) m q
 
 -- what a step promises: the answer, and the memory after it
-pub record Keeps (g : Gram) (s m : List ℕ) (q : ℕ) (r : Next) (m′ : List ℕ) : Type 0 where
-  pub answer : viewNext r ≡ placed (keptNext g s m q .turn)
+pub record KeptNext (g : Gram) (s m : List ℕ) (q : ℕ) (r : Next) (m′ : List ℕ) : Type 0 where
+  pub answer : viewNext r ≡ foundRegion (keptNext g s m q .turn)
   pub memory : m′ ≡ keptNext g s m q .memory

@@ -14,16 +14,17 @@ use Rattle.search.specs.Promise.{Gives}
 use Rattle.search.specs.Search.{find, is, other}
 use Rattle.search.specs.SearchLaws.{decide, clash, past-end, is-yes, other-no, find-ge, find-le, find-at, find-end}
 use Rattle.common.specs.Rules.{entry}
-use Rattle.common.specs.Turn.{Turn, go, stop, found, thenScan, scan, firstTurn, Ahead, Last}
+use Rattle.common.specs.Turn.{Turn, go, stop, found, thenScan, scan, firstTurn}
+use Rattle.common.specs.Turning.{Ahead, Last}
 use Rattle.common.specs.TurnLaws.{scan-last}
 use Rattle.rules.specs.Grammar.{Rule, plain, sym, asym, Gram}
 use Rattle.region.specs.Region.{Caused, regionOf}
 use Rattle.region.specs.Regions.{escaped, symTurn, asymTurn, pairOf, inline, fenced, regionTurn, nextRegion}
-use Rattle.region.specs.Sight.{Sight, turned, lost, bare}
-use Rattle.region.specs.Views.{viewTurn, Placed, viewNext, placed}
-use Rattle.region.specs.Memory.{keptPair, keptInline, keptTurn, Kept, thenKept, keptScan, keptNext, Keeps}
+use Rattle.region.specs.Sight.{Sight, turned, lost}
+use Rattle.region.specs.Views.{viewTurn, FoundRegion, viewNext, foundRegion}
+use Rattle.region.specs.Memory.{keptPair, keptInline, keptTurn, Remembered, thenKept, keptScan, keptNext, KeptNext}
 use Rattle.region.specs.Ahead.{Lies, run-past, regionTurn-ahead}
-use Rattle.region.specs.Dead.{Apart, asym-dead, sym-dead}
+use Rattle.region.specs.Dead.{OutsideRun, asym-dead, sym-dead}
 use Rattle.region.specs.declared.Cause.{Cause}
 use Rattle.region.specs.declared.Cause.the-variants.{Symmetric, Asymmetric}
 use Rattle.region.specs.declared.Turn.{Turn as Step}
@@ -31,6 +32,11 @@ use Rattle.region.specs.declared.Turn.the-variants as step
 use Rattle.region.specs.declared.Next.{Next}
 use Rattle.region.specs.declared.Next.the-variants as next
 use Rattle.region.specs.declared.Region.{Region as Told}
+
+-- what a turn is to a scan that doesn't remember
+abbrev bare : Sight → Turn Caused
+bare (turned t) = t
+bare (lost b r u) = go r
 
 -- ---- a turn that remembers is the plain turn, or passes an opener whose close was sought in vain
 module _ (P : Turn Caused → Type 0) where
@@ -122,7 +128,7 @@ Vain g s b r (sym i count) = (u : ℕ) × (firstTurn (symTurn g s b count) (leng
 Vain g s b r (asym i c count) = (u : ℕ) × (firstTurn (asymTurn g s c) (length s) r ≡ stop u)
 
 pub record Sound (g : Gram) (s m : List ℕ) (q : ℕ) : Type 0 where
-  pub vain : (b r : ℕ) → q < r → r ≤ entry 0 m b → Apart g s b r → Vain g s b r (g .rule b)
+  pub vain : (b r : ℕ) → q < r → r ≤ entry 0 m b → OutsideRun g s b r → Vain g s b r (g .rule b)
 
 module _ (g : Gram) (s : List ℕ) where
   -- a memory of nothing
@@ -140,7 +146,7 @@ module _ (g : Gram) (s : List ℕ) where
   sound-later m q n h w = record { vain = λ b r l i a. w .vain b r (omega arith) i a }
 
   -- a run ends where its byte is another
-  run-apart : (b p : ℕ) → Apart g s b (find (other (is b)) s p)
+  run-apart : (b p : ℕ) → OutsideRun g s b (find (other (is b)) s p)
   run-apart b p l e = clash (find-at (other (is b)) s p l) (other-no (is b) (getD s (find (other (is b)) s p) 0) (is-yes b (getD s (find (other (is b)) s p) 0) e))
 
   -- its turn is the plain turn
@@ -189,7 +195,7 @@ module _ (g : Gram) (s : List ℕ) where
           (λ v z. subst (Halts (getD s p 0) (past g s m p) v) (inv e) z)
 
   -- from r on the close of b's rule is sought in vain up to u
-  halts-vain : (b r u k : ℕ) (t : Rule) → Halts b r u t → r ≤ k → k ≤ u → r ≤ length s → Apart g s b k → Vain g s b k t
+  halts-vain : (b r u k : ℕ) (t : Rule) → Halts b r u t → r ≤ k → k ≤ u → r ≤ length s → OutsideRun g s b k → Vain g s b k t
   halts-vain b r u k plain e h l i a = tt
   halts-vain b r u k (sym j count) e h l i a = (u, sym-dead g s b count u r k a h l i e)
   halts-vain b r u k (asym j c count) e h l i a = (u, asym-dead g s c u r k h l i e)
@@ -197,12 +203,12 @@ module _ (g : Gram) (s : List ℕ) where
   pub sound-lost : (m : List ℕ) (q b r u : ℕ) → q ≤ r → r ≤ length s → Halts b r u (g .rule b) → Sound g s m q → Sound g s (set m b u) r
   sound-lost m q b r u h i e w = record { vain = λ c k l o a. by c k l o a (decide (eqb c b)) (decide (ltb b (length m))) }
     where
-      by : (c k : ℕ) → r < k → k ≤ entry 0 (set m b u) c → Apart g s c k → (eqb c b ≡ true) ⊎ (eqb c b ≡ false) → (ltb b (length m) ≡ true) ⊎ (ltb b (length m) ≡ false) → Vain g s c k (g .rule c)
+      by : (c k : ℕ) → r < k → k ≤ entry 0 (set m b u) c → OutsideRun g s c k → (eqb c b ≡ true) ⊎ (eqb c b ≡ false) → (ltb b (length m) ≡ true) ⊎ (ltb b (length m) ≡ false) → Vain g s c k (g .rule c)
       by c k l o a (inl x) (inl y) =
           let z : c ≡ b = eqb-true c b x in
           let o′ : k ≤ entry 0 (set m b u) b = subst (λ (d : ℕ). k ≤ entry 0 (set m b u) d) z o in
           let n : k ≤ u = omega (arith, getD-set-same m b u 0 (ltb-true b (length m) y)) in
-          subst (λ (d : ℕ). Vain g s d k (g .rule d)) (inv z) (halts-vain b r u k (g .rule b) e (omega arith) n i (subst (λ (d : ℕ). Apart g s d k) z a))
+          subst (λ (d : ℕ). Vain g s d k (g .rule d)) (inv z) (halts-vain b r u k (g .rule b) e (omega arith) n i (subst (λ (d : ℕ). OutsideRun g s d k) z a))
       by c k l o a (inl x) (inr y) =
           let z : c ≡ b = eqb-true c b x in
           let n : 0 ≡ entry 0 (set m b u) c = past-end (set m b u) c (omega (arith, length-set m b u, ltb-false b (length m) y)) in
@@ -210,12 +216,12 @@ module _ (g : Gram) (s : List ℕ) where
       by c k l o a (inr x) y = w .vain c k (omega arith) (omega (arith, getD-set-other m b c u 0 (eqb-false c b x))) a
 
   -- the turn that an answer of one region tells
-  turnOf : List Placed → Turn Caused
+  turnOf : List FoundRegion → Turn Caused
   turnOf [] = stop 0
   turnOf (p ∷ l) = found (p .region) (p .next)
 
   -- by such a memory the next region is found, and it is such a memory behind it
-  record Truly (m : List ℕ) (q : ℕ) (t : Turn Caused) (k : Kept) : Type 0 where
+  record Truly (m : List ℕ) (q : ℕ) (t : Turn Caused) (k : Remembered) : Type 0 where
     same : k .turn ≡ t
     on : (r : Caused) (n : ℕ) → k .turn ≡ found r n → Sound g s (k .memory) n
     off : (v : ℕ) → k .turn ≡ stop v → Sound g s (k .memory) (length s)
@@ -231,14 +237,14 @@ module _ (g : Gram) (s : List ℕ) where
       by ih (turned (found r n)) a l = record { same = refl; on = λ r′ n′ e. let z : n ≡ n′ = cc in subst (Sound g s m) z (sound-later m q n (omega arith) w); off = λ v e. absurd (let z : _≡_ {A = ℕ} 0 1 = cc in omega arith) }
       by ih (lost b n u) a l = let i = ih (set m b u) n (a .1) (sound-lost m q b n u (omega arith) (a .1) l w) in record { same = i .same; on = i .on; off = i .off }
 
-  module _ (m : List ℕ) (q : ℕ) (h : q ≤ length s) (w : Sound g s m q) (d : Next) (m′ : List ℕ) (k : Keeps g s m q d m′) where
-    pub keeps-told : Gives (placed (nextRegion g s q)) (viewNext d)
-    keeps-told = record { answer = k .answer ∙ ap placed (kept-true (suc (length s)) m q h w .same) }
+  module _ (m : List ℕ) (q : ℕ) (h : q ≤ length s) (w : Sound g s m q) (d : Next) (m′ : List ℕ) (k : KeptNext g s m q d m′) where
+    pub keeps-told : Gives (foundRegion (nextRegion g s q)) (viewNext d)
+    keeps-told = record { answer = k .answer ∙ ap foundRegion (kept-true (suc (length s)) m q h w .same) }
 
     pub keeps-ended : d ≡ next.Nothing → Sound g s m′ (length s)
     keeps-ended e = subst (λ (x : List ℕ). Sound g s x (length s)) (inv (k .memory)) (none (keptNext g s m q .turn) refl (subst (Last Lies q (length s)) (inv (kept-true (suc (length s)) m q h w .same)) (scan-last (regionTurn-ahead g s) (λ q n m r i x. (omega arith, x .1, x .2)) (suc (length s)) q h)) (inv (ap viewNext e) ∙ k .answer))
       where
-        none : (t : Turn Caused) → keptNext g s m q .turn ≡ t → Last Lies q (length s) t → [] ≡ placed t → Sound g s (keptNext g s m q .memory) (length s)
+        none : (t : Turn Caused) → keptNext g s m q .turn ≡ t → Last Lies q (length s) t → [] ≡ foundRegion t → Sound g s (keptNext g s m q .memory) (length s)
         none (go n) x l z = absurd l
         none (stop v) x l z = kept-true (suc (length s)) m q h w .off v x
         none (found a n) x l z = let y : _≡_ {A = ℕ} 0 1 = cc in absurd (omega arith)
@@ -248,7 +254,7 @@ module _ (g : Gram) (s : List ℕ) where
     keeps-sound r n e =
         subst (λ (x : List ℕ). Sound g s x n) (inv (k .memory)) (kept-true (suc (length s)) m q h w .on (regionOf r) n (one (keptNext g s m q .turn) (inv (ap viewNext e) ∙ k .answer)))
       where
-        one : (t : Turn Caused) → record { region = regionOf r; next = n } ∷ [] ≡ placed t → t ≡ found (regionOf r) n
+        one : (t : Turn Caused) → record { region = regionOf r; next = n } ∷ [] ≡ foundRegion t → t ≡ found (regionOf r) n
         one (go m) e = let z : _≡_ {A = ℕ} 0 1 = cc in absurd (omega arith)
         one (stop v) e = let z : _≡_ {A = ℕ} 0 1 = cc in absurd (omega arith)
         one (found a m) e = inv (ap turnOf e)
@@ -257,7 +263,7 @@ module _ (g : Gram) (s : List ℕ) where
 toldOf : Caused → Told
 toldOf r = record { start = r .start; end = r .stop; cause = r .tag .cause; index = r .tag .index; closed = r .tag .closed }
 
-nextOf : List Placed → Next
+nextOf : List FoundRegion → Next
 nextOf [] = next.Nothing
 nextOf (p ∷ l) = next.Region (toldOf (p .region)) (p .next)
 
@@ -271,7 +277,7 @@ pub view-unique : (d d′ : Next) → viewNext d ≡ viewNext d′ → d ≡ d�
 view-unique d d′ e = inv (next-back d) ∙ ap nextOf e ∙ next-back d′
 
 -- two answers to the same step are one, and so are the memories after it
-pub keeps-unique : {g : Gram} {s m : List ℕ} {q : ℕ} {d d′ : Next} {m′ m″ : List ℕ} → Keeps g s m q d m′ → Keeps g s m q d′ m″ → (d ≡ d′) × (m′ ≡ m″)
+pub keeps-unique : {g : Gram} {s m : List ℕ} {q : ℕ} {d d′ : Next} {m′ m″ : List ℕ} → KeptNext g s m q d m′ → KeptNext g s m q d′ m″ → (d ≡ d′) × (m′ ≡ m″)
 keeps-unique {d = d} {d′ = d′} h k = (view-unique d d′ (h .answer ∙ inv (k .answer)), h .memory ∙ inv (k .memory))
 
 -- ---- the code's loop: it began at `from` with a memory m₀, and stands at q with m
@@ -283,7 +289,7 @@ pub recalls-first : (g : Gram) (s m : List ℕ) (q : ℕ) → q ≤ length s →
 recalls-first g s m q h = record { inside = h; same = refl }
 
 -- from a place past the text there is no region, and nothing is learnt
-pub recalls-past : (g : Gram) (s m : List ℕ) (from : ℕ) → length s < from → Keeps g s m from next.Nothing m
+pub recalls-past : (g : Gram) (s m : List ℕ) (from : ℕ) → length s < from → KeptNext g s m from next.Nothing m
 unfolding keptScan keptTurn
 recalls-past g s m from h =
     let e : find (g .trigger) s from ≡ from = find-end (g .trigger) s from (omega arith) in
@@ -311,8 +317,8 @@ module _ (g : Gram) (s m₀ : List ℕ) (from : ℕ) (m : List ℕ) (q : ℕ) (d
     pub recalls-lost : Recalls g s m₀ from (set m b u) n
     recalls-lost = record { inside = on (lost b n u) (ap viewTurn e) i t .1; same = at-turn (lost b n u) (ap viewTurn e) i t }
 
-  pub recalls-stop : (v : ℕ) → d ≡ step.Stop v → Recalls g s m₀ from m q → Gives (keptTurn g s m q) (viewTurn d) → Keeps g s m₀ from next.Nothing m
+  pub recalls-stop : (v : ℕ) → d ≡ step.Stop v → Recalls g s m₀ from m q → Gives (keptTurn g s m q) (viewTurn d) → KeptNext g s m₀ from next.Nothing m
   recalls-stop v e i t = let w = at-turn (turned (stop v)) (ap viewTurn e) i t in record { answer = rw w; memory = rw w }
 
-  pub recalls-found : (r : Told) (n : ℕ) → d ≡ step.Made r n → Recalls g s m₀ from m q → Gives (keptTurn g s m q) (viewTurn d) → Keeps g s m₀ from (next.Region r n) m
+  pub recalls-found : (r : Told) (n : ℕ) → d ≡ step.Made r n → Recalls g s m₀ from m q → Gives (keptTurn g s m q) (viewTurn d) → KeptNext g s m₀ from (next.Region r n) m
   recalls-found r n e i t = let w = at-turn (turned (found (regionOf r) n)) (ap viewTurn e) i t in record { answer = rw w; memory = rw w }

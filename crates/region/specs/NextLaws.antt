@@ -5,19 +5,20 @@ use Prim.Native.Nat.{ℕ, suc, _≤_, _<_}
 use native.Mathlib.Omega.{arith}
 use lib.ListN.{length}
 use Rattle.search.specs.Promise.{Gives}
-use Rattle.common.specs.Turn.{Turn, go, stop, found, allFound, thenCollect, Last}
+use Rattle.common.specs.Turn.{Turn, go, stop, found, allFound, thenCollect}
+use Rattle.common.specs.Turning.{Last}
 use Rattle.common.specs.TurnLaws.{collect-scan, scan-last}
 use Rattle.region.specs.Region.{Caused, regionOf}
 use Rattle.rules.specs.Grammar.{Gram}
 use Rattle.region.specs.Regions.{regionTurn, nextRegion, regions}
 use Rattle.region.specs.Ahead.{Lies, regionTurn-ahead}
-use Rattle.region.specs.Views.{Placed, viewNext, placed}
+use Rattle.region.specs.Views.{FoundRegion, viewNext, foundRegion}
 use Rattle.region.specs.declared.Region.{Region as Told}
 use Rattle.region.specs.declared.Next.{Next}
 use Rattle.region.specs.declared.Next.the-variants as next
 
 -- the turn that an answer of one region tells
-turnOf : List Placed → Turn Caused
+turnOf : List FoundRegion → Turn Caused
 turnOf [] = stop 0
 turnOf (p ∷ l) = found (p .region) (p .next)
 
@@ -39,24 +40,24 @@ module _ (g : Gram) (s : List ℕ) (q : ℕ) (h : q ≤ length s) where
   last = scan-last (regionTurn-ahead g s) (λ q n m r i w. (omega arith, w .1, w .2)) (suc (length s)) q h
 
   -- that turn, where one region comes
-  one : (r : Caused) (n : ℕ) → record { region = r; next = n } ∷ [] ≡ placed (nextRegion g s q) → nextRegion g s q ≡ found r n
+  one : (r : Caused) (n : ℕ) → record { region = r; next = n } ∷ [] ≡ foundRegion (nextRegion g s q) → nextRegion g s q ≡ found r n
   unfolding turnOf
   one r n e = by (nextRegion g s q) e
     where
-      by : (t : Turn Caused) → record { region = r; next = n } ∷ [] ≡ placed t → t ≡ found r n
+      by : (t : Turn Caused) → record { region = r; next = n } ∷ [] ≡ foundRegion t → t ≡ found r n
       by (go m) e = let z : _≡_ {A = ℕ} 0 1 = cc in absurd (omega arith)
       by (stop v) e = let z : _≡_ {A = ℕ} 0 1 = cc in absurd (omega arith)
       by (found a m) e = sym (ap turnOf e)
 
-  none : [] ≡ placed (nextRegion g s q) → thenCollect (regionsFrom g s) (nextRegion g s q) ≡ []
+  none : [] ≡ foundRegion (nextRegion g s q) → thenCollect (regionsFrom g s) (nextRegion g s q) ≡ []
   none e = by (nextRegion g s q) last e
     where
-      by : (t : Turn Caused) → Last Lies q (length s) t → [] ≡ placed t → thenCollect (regionsFrom g s) t ≡ []
+      by : (t : Turn Caused) → Last Lies q (length s) t → [] ≡ foundRegion t → thenCollect (regionsFrom g s) t ≡ []
       by (go m) l e = absurd l
       by (stop v) l e = refl
       by (found a m) l e = let z : _≡_ {A = ℕ} 0 1 = cc in absurd (omega arith)
 
-  module _ (d : Next) (told : Gives (placed (nextRegion g s q)) (viewNext d)) where
+  module _ (d : Next) (told : Gives (foundRegion (nextRegion g s q)) (viewNext d)) where
     pub next-none : d ≡ next.Nothing → regionsFrom g s q ≡ []
     next-none e = by-first ∙ none (sym (ap viewNext e) ∙ told .answer)
 

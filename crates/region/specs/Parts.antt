@@ -1,5 +1,5 @@
 -- The parts of a turn, by what each function is given. Assumes nothing.
--- The page's sentences stand in Regions.antt; here are the parts, by what each function is given.
+-- The page's sentences stand in Regions.antt.
 use mathlib.Core.Bool.{true, false}
 use mathlib.Core.List.{List}
 use Prim.Native.Nat.{ℕ, _%_}
@@ -29,6 +29,7 @@ fenceGram g fences = record {
   fences = readerIn g fences;
 }
 
+-- a fence of rule i that opened at p, by what the search for its close said
 abbrev pub closedBy : Grammar → List ℕ → ℕ → ℕ → Close → Turn Caused
 closedBy g s p i (close.Closed q e) = found (caused Fence i true p e) (nextLine (length s) e)
 closedBy g s p i close.Unclosed = found (caused Fence i false p (length s)) (length s)

@@ -6,7 +6,6 @@ use Prim.Native.Nat.{ℕ, _+_, _≤_, _<_}
 use lib.Dec.{ltb, leb}
 use Rattle.common.specs.Entry.{startOf, stopOf}
 use Rattle.region.specs.declared.Cause.{Cause}
-use Rattle.region.specs.declared.Cause.the-variants.{Fence, Symmetric, Asymmetric}
 use Rattle.region.specs.declared.Region.{Region as Told}
 
 -- a region: its start, its exclusive end, and what a list says of it besides
@@ -20,15 +19,6 @@ pub record Origin : Type 0 where
   pub cause : Cause
   pub index : ℕ
   pub closed : Bool
-
--- the rule that made a region, where fence rule i stands at h i
-abbrev pub indexFor : (ℕ → ℕ) → Cause → ℕ → ℕ
-indexFor h Fence i = h i
-indexFor h Symmetric i = i
-indexFor h Asymmetric i = i
-
-abbrev pub reindex : (ℕ → ℕ) → Origin → Origin
-reindex h o = record { cause = o .cause; index = indexFor h (o .cause) (o .index); closed = o .closed }
 
 -- a region with the rule that made it
 abbrev pub Caused : Type 0

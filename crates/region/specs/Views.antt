@@ -14,6 +14,7 @@ use Rattle.region.specs.declared.Turn.the-variants as told
 use Rattle.region.specs.declared.Next.{Next}
 use Rattle.region.specs.declared.Next.the-variants as next
 
+-- a turn of a close search
 abbrev pub viewPair : PairTurn → Turn ℕ
 viewPair (pairTurn.Go n) = go n
 viewPair (pairTurn.Close t) = found t t
@@ -24,6 +25,7 @@ abbrev pub viewHit : Hit → Turn ℕ
 viewHit (hit.At t) = found t t
 viewHit (hit.End u) = stop u
 
+-- a turn of the scan for regions
 abbrev pub viewTurn : Told → Sight
 viewTurn (told.Go n) = turned (go n)
 viewTurn (told.Stop v) = turned (stop v)
@@ -31,16 +33,16 @@ viewTurn (told.Made r n) = turned (found (regionOf r) n)
 viewTurn (told.Lost b r u) = lost b r u
 
 -- a region and where the scan goes on after it
-pub record Placed : Type 0 where
+pub record FoundRegion : Type 0 where
   pub region : Caused
   pub next : ℕ
 
 -- the next region, if there is one
-abbrev pub viewNext : Next → List Placed
+abbrev pub viewNext : Next → List FoundRegion
 viewNext (next.Region r n) = record { region = regionOf r; next = n } ∷ []
 viewNext next.Nothing = []
 
-abbrev pub placed : Turn Caused → List Placed
-placed (go n) = []
-placed (stop v) = []
-placed (found r n) = record { region = r; next = n } ∷ []
+abbrev pub foundRegion : Turn Caused → List FoundRegion
+foundRegion (go n) = []
+foundRegion (stop v) = []
+foundRegion (found r n) = record { region = r; next = n } ∷ []

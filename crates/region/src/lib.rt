@@ -31,7 +31,7 @@ ghost use Rattle.rules.specs.Rows.{gramBy};
 ghost use Rattle.region.specs.Regions.{regions};
 ghost use Rattle.region.specs.Sight.{turned};
 ghost use Rattle.region.specs.Views.{viewHit, viewTurn};
-ghost use Rattle.region.specs.Memory.{keptPair, keptTurn, Keeps};
+ghost use Rattle.region.specs.Memory.{keptPair, keptTurn, KeptNext};
 ghost use Rattle.region.specs.Parts.{fenceGram, fencedBy, symPair, asymPair, inlineBy};
 
 // Which kind of rule made a region.
@@ -247,7 +247,7 @@ pub fn next_region(
     dead: &mut [usize; 256],
 ) -> Next
     ensures { λ r. ⌜
-        Keeps (gramBy alphabet (now (fences .entry)) (now (rows .entry))) (now (src .entry)) (now (dead .entry)) from r
+        KeptNext (gramBy alphabet (now (fences .entry)) (now (rows .entry))) (now (src .entry)) (now (dead .entry)) from r
         (now (dead .exit))
         ⌝ }
 {

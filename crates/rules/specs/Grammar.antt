@@ -4,8 +4,8 @@ use mathlib.Core.Bool.{Bool}
 use Prim.Native.Nat.{ℕ}
 use Rattle.lines.specs.Reader.{Fences}
 
--- what a byte opens within a paragraph, with the index of the rule that says so: nothing; a pair closed by a run of the same byte, as
--- long as its count; or a pair closed by one closing byte
+-- what a byte opens within a paragraph: nothing; a pair closed by a run of the same byte, `sym index count`; or a pair closed by one
+-- closing byte, `asym index closer count`. The index is that of the rule that says so, the count the length of the opening run
 pub data Rule : Type 0 where
   plain : Rule
   sym : ℕ → ℕ → Rule
@@ -21,7 +21,3 @@ pub record Gram : Type 0 where
   -- the index of the fence rule of a byte
   pub fenceIndex : ℕ → ℕ
   pub fences : Fences
-
--- the same grammar, each fence rule at the index that h gives for its own
-abbrev pub reindexed : (ℕ → ℕ) → Gram → Gram
-reindexed h g = record { eol = g .eol; escape = g .escape; trigger = g .trigger; rule = g .rule; fenceIndex = λ b. h (g .fenceIndex b); fences = g .fences }

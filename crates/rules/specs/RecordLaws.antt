@@ -15,15 +15,23 @@ use Rattle.search.specs.Promise.{Gives}
 use Rattle.search.specs.Search.{is, oneOf, find}
 use Rattle.search.specs.SearchLaws.{decide, clash, is-yes, is-no, is-true, one-append, find-here, find-next, find-end, find-at, find-prefix, find-past}
 use Rattle.common.specs.Sets.{padded}
-use Rattle.common.specs.Rules.{row, hasRule, leastOf, onByte}
+use Rattle.common.specs.Rules.{ruleIndex, hasRule, leastOf, onByte}
 use Rattle.common.specs.declared.grammar.Grammar.{Grammar}
 use Rattle.lines.specs.Reader.{reader}
-use Rattle.rules.specs.Grammar.{plain, Gram, reindexed}
-use Rattle.rules.specs.Columns.{columns, searched, gained, gainedAll, ruleOf, fenceRow, gramOf}
+use Rattle.rules.specs.Grammar.{plain, Gram}
+use Rattle.rules.specs.Columns.{inlineRules, columns, searched, gained, gainedAll, inlineRule, fenceIndexOf, gramOf}
 use Rattle.rules.specs.ColumnLaws.{pad-take, pad-set}
-use Rattle.rules.specs.Records.{noRule, noRules, ruleBytes, ruleMins, keptBytes, keptMins, ownPlace, unkept, withRule, OneMore, gatheredFrom, gatheredOf, AllGathered}
+use Rattle.rules.specs.Records.{noRule, noRules, ruleBytes, ruleMins, keptBytes, keptMins, unkept, withRule, OneMore, gatheredFrom, gatheredOf, AllGathered}
 use Rattle.rules.specs.declared.records.FenceRule.{FenceRule}
 use Rattle.rules.specs.declared.records.Gathered.{Gathered}
+
+-- the same grammar, each fence rule at the index that h gives for its own
+abbrev pub reindexed : (ℕ → ℕ) → Gram → Gram
+reindexed h g = record { eol = g .eol; escape = g .escape; trigger = g .trigger; rule = g .rule; fenceIndex = λ b. h (g .fenceIndex b); fences = g .fences }
+
+-- the index in the run of the rule that is kept at k
+abbrev pub ownPlace : Gathered → ℕ → ℕ
+ownPlace f k = getD (f .places) k 0
 
 -- ---- the ways out of one rule more
 module _ (f : Gathered) (r : FenceRule) (i : ℕ) (small : r .byte < 256) where
@@ -55,28 +63,28 @@ module _ (bs : List ℕ) (b : ℕ) where
       ap (λ (k : ℕ). getD more k 0) (inv e) ∙ getD-append-add bs (b ∷ []) 0 0
 
   -- the first rule with a byte x: one that was there; the new one; or none
-  row-old : (x : ℕ) → hasRule bs x ≡ true → row more x ≡ row bs x
-  row-old x e = find-prefix (is x) bs (b ∷ []) 0 (ltb-true (row bs x) (length bs) e)
+  index-old : (x : ℕ) → hasRule bs x ≡ true → ruleIndex more x ≡ ruleIndex bs x
+  index-old x e = find-prefix (is x) bs (b ∷ []) 0 (ltb-true (ruleIndex bs x) (length bs) e)
 
-  row-late : (x : ℕ) → hasRule bs x ≡ false → row more x ≡ find (is x) more (length bs)
-  row-late x e = find-past (is x) bs (b ∷ []) 0 (omega arith) (ltb-false (row bs x) (length bs) e)
+  index-late : (x : ℕ) → hasRule bs x ≡ false → ruleIndex more x ≡ find (is x) more (length bs)
+  index-late x e = find-past (is x) bs (b ∷ []) 0 (omega arith) (ltb-false (ruleIndex bs x) (length bs) e)
 
-  row-new : hasRule bs b ≡ false → row more b ≡ length bs
-  row-new e = row-late b e ∙ find-here (is b) more (length bs) (omega (arith, more-length)) (is-yes b (getD more (length bs) 0) last)
+  index-new : hasRule bs b ≡ false → ruleIndex more b ≡ length bs
+  index-new e = index-late b e ∙ find-here (is b) more (length bs) (omega (arith, more-length)) (is-yes b (getD more (length bs) 0) last)
 
-  row-none : (x : ℕ) → hasRule bs x ≡ false → (x ≡ b → ⊥) → row more x ≡ length bs + 1
-  row-none x e d =
-      row-late x e ∙ find-next (is x) more (length bs) (omega (arith, more-length)) (is-no x (getD more (length bs) 0) (λ z. d (inv z ∙ last)))
+  index-none : (x : ℕ) → hasRule bs x ≡ false → (x ≡ b → ⊥) → ruleIndex more x ≡ length bs + 1
+  index-none x e d =
+      index-late x e ∙ find-next (is x) more (length bs) (omega (arith, more-length)) (is-no x (getD more (length bs) 0) (λ z. d (inv z ∙ last)))
       ∙ find-end (is x) more (length bs + 1) (omega (arith, more-length))
 
   has-old : (x : ℕ) → hasRule bs x ≡ true → hasRule more x ≡ true
-  has-old x e = lt-ltb (row more x) (length more) (omega (arith, row-old x e, ltb-true (row bs x) (length bs) e, more-length))
+  has-old x e = lt-ltb (ruleIndex more x) (length more) (omega (arith, index-old x e, ltb-true (ruleIndex bs x) (length bs) e, more-length))
 
   has-new : hasRule bs b ≡ false → hasRule more b ≡ true
-  has-new e = lt-ltb (row more b) (length more) (omega (arith, row-new e, more-length))
+  has-new e = lt-ltb (ruleIndex more b) (length more) (omega (arith, index-new e, more-length))
 
   has-none : (x : ℕ) → hasRule bs x ≡ false → (x ≡ b → ⊥) → hasRule more x ≡ false
-  has-none x e d = le-ltb (row more x) (length more) (omega (arith, row-none x e d, more-length))
+  has-none x e d = le-ltb (ruleIndex more x) (length more) (omega (arith, index-none x e d, more-length))
 
   -- a byte that had a rule, or is another than the new one
   abbrev Stays : ℕ → Type 0
@@ -90,28 +98,28 @@ module _ (bs : List ℕ) (b : ℕ) where
       by (inl u) (inr e) = absurd (clash u e)
       by (inr d) (inr e) = has-none x e d ∙ inv e
 
-  row-kept : (x : ℕ) → Stays x → fenceRow more x ≡ fenceRow bs x
-  row-kept x k = by (decide (hasRule bs x))
+  index-kept : (x : ℕ) → Stays x → fenceIndexOf more x ≡ fenceIndexOf bs x
+  index-kept x k = by (decide (hasRule bs x))
     where
-      by : (hasRule bs x ≡ true) ⊎ (hasRule bs x ≡ false) → fenceRow more x ≡ fenceRow bs x
-      by (inl e) = rw (has-kept x k, e, row-old x e)
+      by : (hasRule bs x ≡ true) ⊎ (hasRule bs x ≡ false) → fenceIndexOf more x ≡ fenceIndexOf bs x
+      by (inl e) = rw (has-kept x k, e, index-old x e)
       by (inr e) = rw (has-kept x k, e)
 
   least-kept : (ms : List ℕ) (m : ℕ) → length bs ≡ length ms → (x : ℕ) → Stays x → leastOf more (ms ++ (m ∷ [])) x ≡ leastOf bs ms x
   least-kept ms m same x k = by (decide (hasRule bs x))
     where
       by : (hasRule bs x ≡ true) ⊎ (hasRule bs x ≡ false) → leastOf more (ms ++ (m ∷ [])) x ≡ leastOf bs ms x
-      by (inl e) = rw (has-kept x k, e, row-old x e) (List·getD-append ms (m ∷ []) 0 (row bs x) (omega (arith, ltb-true (row bs x) (length bs) e)))
+      by (inl e) = rw (has-kept x k, e, index-old x e) (List·getD-append ms (m ∷ []) 0 (ruleIndex bs x) (omega (arith, ltb-true (ruleIndex bs x) (length bs) e)))
       by (inr e) = rw (has-kept x k, e)
 
   -- the new rule's minimum and index, where it is the first with its byte
   least-new : (ms : List ℕ) (m : ℕ) → length bs ≡ length ms → hasRule bs b ≡ false → leastOf more (ms ++ (m ∷ [])) b ≡ m
   least-new ms m same e =
-      let z : row more b ≡ length ms + 0 = row-new e ∙ same ∙ inv (add-zero (length ms)) in
+      let z : ruleIndex more b ≡ length ms + 0 = index-new e ∙ same ∙ inv (add-zero (length ms)) in
       rw (has-new e, z) (getD-append-add ms (m ∷ []) 0 0)
 
-  fence-new : hasRule bs b ≡ false → fenceRow more b ≡ length bs
-  fence-new e = rw (has-new e, row-new e)
+  fence-new : hasRule bs b ≡ false → fenceIndexOf more b ≡ length bs
+  fence-new e = rw (has-new e, index-new e)
 
 -- ---- the bytes searched for
 gained-more : (l bs : List ℕ) (b : ℕ) → gainedAll l (bs ++ (b ∷ [])) ≡ gained (gainedAll l bs) b
@@ -169,8 +177,8 @@ held-at l (x ∷ bs) b (suc k) h e = held-at (gained l x) bs b k (omega arith) e
 
 held-rule : (bs : List ℕ) (b : ℕ) → hasRule bs b ≡ true → holding (gainedAll [] bs) b ≡ true
 held-rule bs b e =
-    let h = ltb-true (row bs b) (length bs) e in
-    held-at [] bs b (row bs b) h (is-true b (getD bs (row bs b) 0) (find-at (is b) bs 0 h))
+    let h = ltb-true (ruleIndex bs b) (length bs) e in
+    held-at [] bs b (ruleIndex bs b) h (is-true b (getD bs (ruleIndex bs b) 0) (find-at (is b) bs 0 h))
 
 -- ---- how many numbers below n pass a test
 unfoldable counted : (ℕ → Bool) → ℕ → ℕ
@@ -228,7 +236,7 @@ record Kept (bs ms kb km kp : List ℕ) : Type 0 where
   one : (x : ℕ) → oneOf kb x ≡ hasRule bs x
   has : (x : ℕ) → hasRule kb x ≡ hasRule bs x
   least : (x : ℕ) → leastOf kb km x ≡ leastOf bs ms x
-  own : (x : ℕ) → getD kp (fenceRow kb x) 0 ≡ fenceRow bs x
+  own : (x : ℕ) → getD kp (fenceIndexOf kb x) 0 ≡ fenceIndexOf bs x
   none : getD kp 0 0 ≡ 0
   search : gainedAll [] kb ≡ gainedAll [] bs
   few : length kb ≡ counted (oneOf kb) 256
@@ -238,10 +246,10 @@ unfolding oneOf counted
 kept-first = record {
   mins = refl;
   places = refl;
-  one = λ x. rw (le-ltb (row [] x) 0 (omega arith));
+  one = λ x. rw (le-ltb (ruleIndex [] x) 0 (omega arith));
   has = λ x. refl;
   least = λ x. refl;
-  own = λ x. rw (le-ltb (row [] x) 0 (omega arith));
+  own = λ x. rw (le-ltb (ruleIndex [] x) 0 (omega arith));
   none = refl;
   search = refl;
   few = refl;
@@ -256,7 +264,7 @@ module _ (bs ms kb km kp : List ℕ) (same : length bs ≡ length ms) (w : Kept 
     one = λ x. w .one x ∙ inv (has-kept bs b x (all x));
     has = λ x. w .has x ∙ inv (has-kept bs b x (all x));
     least = λ x. w .least x ∙ inv (least-kept bs b ms m same x (all x));
-    own = λ x. w .own x ∙ inv (row-kept bs b x (all x));
+    own = λ x. w .own x ∙ inv (index-kept bs b x (all x));
     none = w .none;
     search = w .search ∙ inv (gained-more [] bs b ∙ held-same (gainedAll [] bs) b (held-rule bs b e));
     few = w .few;
@@ -279,8 +287,8 @@ module _ (bs ms kb km kp : List ℕ) (same : length bs ≡ length ms) (w : Kept 
         by (inr u) (inl v) =
             let h = ltb-true 0 (length bs) v in
             let x = getD bs 0 0 in
-            let z : hasRule bs x ≡ true = lt-ltb (row bs x) (length bs) (omega (arith, find-here (is x) bs 0 h (is-yes x x refl))) in
-            absurd (omega (arith, ltb-true (row kb x) (length kb) (w .has x ∙ z), w .places, ltb-false 0 (length kp) u))
+            let z : hasRule bs x ≡ true = lt-ltb (ruleIndex bs x) (length bs) (omega (arith, find-here (is x) bs 0 h (is-yes x x refl))) in
+            absurd (omega (arith, ltb-true (ruleIndex kb x) (length kb) (w .has x ∙ z), w .places, ltb-false 0 (length kp) u))
         by (inr u) (inr v) =
             let l : length kp + 0 ≡ 0 = omega (arith, ltb-false 0 (length kp) u) in
             let z : length bs ≡ 0 = omega (arith, ltb-false 0 (length bs) v) in
@@ -305,21 +313,21 @@ module _ (bs ms kb km kp : List ℕ) (same : length bs ≡ length ms) (w : Kept 
     unfolding oneOf
     one-other x d = one-append kb (b ∷ []) x ∙ rw (ne-eqb x b d) (no-more (oneOf kb x))
 
-    own-other : (x : ℕ) → (x ≡ b → ⊥) → getD (kp ++ (length bs ∷ [])) (fenceRow (kb ++ (b ∷ [])) x) 0 ≡ fenceRow (bs ++ (b ∷ [])) x
+    own-other : (x : ℕ) → (x ≡ b → ⊥) → getD (kp ++ (length bs ∷ [])) (fenceIndexOf (kb ++ (b ∷ [])) x) 0 ≡ fenceIndexOf (bs ++ (b ∷ [])) x
     own-other x d =
-        ap (λ (k : ℕ). getD (kp ++ (length bs ∷ [])) k 0) (row-kept kb b x (inr d)) ∙ by (decide (hasRule kb x)) ∙ inv (row-kept bs b x (inr d))
+        ap (λ (k : ℕ). getD (kp ++ (length bs ∷ [])) k 0) (index-kept kb b x (inr d)) ∙ by (decide (hasRule kb x)) ∙ inv (index-kept bs b x (inr d))
       where
-        by : (hasRule kb x ≡ true) ⊎ (hasRule kb x ≡ false) → getD (kp ++ (length bs ∷ [])) (fenceRow kb x) 0 ≡ fenceRow bs x
+        by : (hasRule kb x ≡ true) ⊎ (hasRule kb x ≡ false) → getD (kp ++ (length bs ∷ [])) (fenceIndexOf kb x) 0 ≡ fenceIndexOf bs x
         by (inl u) =
-            let z : fenceRow kb x ≡ row kb x = rw u in
-            List·getD-append kp (length bs ∷ []) 0 (fenceRow kb x) (omega (arith, w .places, z, ltb-true (row kb x) (length kb) u)) ∙ w .own x
+            let z : fenceIndexOf kb x ≡ ruleIndex kb x = rw u in
+            List·getD-append kp (length bs ∷ []) 0 (fenceIndexOf kb x) (omega (arith, w .places, z, ltb-true (ruleIndex kb x) (length kb) u)) ∙ w .own x
         by (inr u) =
-            let z : fenceRow kb x ≡ 0 = rw u in
+            let z : fenceIndexOf kb x ≡ 0 = rw u in
             ap (λ (k : ℕ). getD (kp ++ (length bs ∷ [])) k 0) z ∙ first-own ∙ inv (inv (w .own x) ∙ ap (λ (k : ℕ). getD kp k 0) z ∙ w .none)
 
-    own-new : getD (kp ++ (length bs ∷ [])) (fenceRow (kb ++ (b ∷ [])) b) 0 ≡ fenceRow (bs ++ (b ∷ [])) b
+    own-new : getD (kp ++ (length bs ∷ [])) (fenceIndexOf (kb ++ (b ∷ [])) b) 0 ≡ fenceIndexOf (bs ++ (b ∷ [])) b
     own-new =
-        let l : fenceRow (kb ++ (b ∷ [])) b ≡ length kp + 0 = fence-new kb b fresh ∙ w .places ∙ inv (add-zero (length kp)) in
+        let l : fenceIndexOf (kb ++ (b ∷ [])) b ≡ length kp + 0 = fence-new kb b fresh ∙ w .places ∙ inv (add-zero (length kp)) in
         ap (λ (k : ℕ). getD (kp ++ (length bs ∷ [])) k 0) l ∙ getD-append-add kp (length bs ∷ []) 0 0 ∙ inv (fence-new bs b e)
 
     kept-more : b < 256 → Kept (bs ++ (b ∷ [])) (ms ++ (m ∷ [])) (kb ++ (b ∷ [])) (km ++ (m ∷ [])) (kp ++ (length bs ∷ []))
@@ -330,7 +338,7 @@ module _ (bs ms kb km kp : List ℕ) (same : length bs ≡ length ms) (w : Kept 
       has = split (λ x. hasRule (kb ++ (b ∷ [])) x ≡ hasRule (bs ++ (b ∷ [])) x) (has-new kb b fresh ∙ inv (has-new bs b e)) (λ x d. has-kept kb b x (inr d) ∙ w .has x ∙ inv (has-kept bs b x (inr d)));
       least = split (λ x. leastOf (kb ++ (b ∷ [])) (km ++ (m ∷ [])) x ≡ leastOf (bs ++ (b ∷ [])) (ms ++ (m ∷ [])) x) (least-new kb b km m (w .mins) fresh ∙ inv (least-new bs b ms m same e))
           (λ x d. least-kept kb b km m (w .mins) x (inr d) ∙ w .least x ∙ inv (least-kept bs b ms m same x (inr d)));
-      own = split (λ x. getD (kp ++ (length bs ∷ [])) (fenceRow (kb ++ (b ∷ [])) x) 0 ≡ fenceRow (bs ++ (b ∷ [])) x) own-new own-other;
+      own = split (λ x. getD (kp ++ (length bs ∷ [])) (fenceIndexOf (kb ++ (b ∷ [])) x) 0 ≡ fenceIndexOf (bs ++ (b ∷ [])) x) own-new own-other;
       none = first-own;
       search = gained-more [] kb b ∙ ap (λ (l : List ℕ). gained l b) (w .search) ∙ inv (gained-more [] bs b);
       few = let z : counted (oneOf (kb ++ (b ∷ []))) 256 ≡ counted (oneOf kb) 256 + 1 = rw (lt-ltb b 256 h) at (counted-more (oneOf kb) (oneOf (kb ++ (b ∷ []))) b (w .one b ∙ e) one-new one-other 256) in
@@ -349,18 +357,18 @@ module _ (bs ms kb km kp : List ℕ) (w : Kept bs ms kb km kp) where
   kept-gram : (g : Grammar) (y t o k n : List ℕ) → gramOf g (columns bs ms y t o k n) ≡ reindexed (λ i. getD kp i 0) (gramOf g (columns kb km y t o k n))
   unfolding searched
   kept-gram g y t o k n =
-      ap (λ (z : List ℕ). with z (onByte 0 (fenceRow bs)) (onByte false (hasRule bs)) (onByte 0 (leastOf bs ms))) (ap (λ (z : List ℕ). gainedAll (gainedAll z y) o) (inv (w .search)))
+      ap (λ (z : List ℕ). with z (onByte 0 (fenceIndexOf bs)) (onByte false (hasRule bs)) (onByte 0 (leastOf bs ms))) (ap (λ (z : List ℕ). gainedAll (gainedAll z y) o) (inv (w .search)))
       ∙ ap (λ (z : ℕ → ℕ). with bytes z (onByte false (hasRule bs)) (onByte 0 (leastOf bs ms))) (fun-ext (λ x. index x (decide (ltb x 256))))
-      ∙ ap (λ (z : ℕ → Bool). with bytes (λ x. getD kp (onByte 0 (fenceRow kb) x) 0) (onByte false z) (onByte 0 (leastOf bs ms))) (fun-ext (λ x. inv (w .has x)))
-      ∙ ap (λ (z : ℕ → ℕ). with bytes (λ x. getD kp (onByte 0 (fenceRow kb) x) 0) (onByte false (hasRule kb)) (onByte 0 z)) (fun-ext (λ x. inv (w .least x)))
+      ∙ ap (λ (z : ℕ → Bool). with bytes (λ x. getD kp (onByte 0 (fenceIndexOf kb) x) 0) (onByte false z) (onByte 0 (leastOf bs ms))) (fun-ext (λ x. inv (w .has x)))
+      ∙ ap (λ (z : ℕ → ℕ). with bytes (λ x. getD kp (onByte 0 (fenceIndexOf kb) x) 0) (onByte false (hasRule kb)) (onByte 0 z)) (fun-ext (λ x. inv (w .least x)))
     where
       bytes : List ℕ
       bytes = gainedAll (gainedAll (gainedAll [] kb) y) o
 
       with : List ℕ → (ℕ → ℕ) → (ℕ → Bool) → (ℕ → ℕ) → Gram
-      with l index has least = record { eol = g .eol; escape = g .escape; trigger = oneOf l; rule = onByte plain (ruleOf (columns kb km y t o k n)); fenceIndex = index; fences = reader g has least }
+      with l index has least = record { eol = g .eol; escape = g .escape; trigger = oneOf l; rule = onByte plain (inlineRule (inlineRules y t o k n)); fenceIndex = index; fences = reader g has least }
 
-      index : (x : ℕ) → (ltb x 256 ≡ true) ⊎ (ltb x 256 ≡ false) → onByte 0 (fenceRow bs) x ≡ getD kp (onByte 0 (fenceRow kb) x) 0
+      index : (x : ℕ) → (ltb x 256 ≡ true) ⊎ (ltb x 256 ≡ false) → onByte 0 (fenceIndexOf bs) x ≡ getD kp (onByte 0 (fenceIndexOf kb) x) 0
       index x (inl u) = rw u (inv (w .own x))
       index x (inr u) = rw u (inv (w .none))
 

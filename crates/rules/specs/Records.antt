@@ -24,15 +24,12 @@ noRule = record { byte = 0; min = 0 }
 abbrev pub noRules : Gathered
 noRules = record { bytes = replicate 256 0; mins = replicate 256 0; places = replicate 256 0; count = 0; last = 0 }
 
--- the columns of the rules that are kept, and the index in the run of the rule that is kept at k
+-- the columns of the rules that are kept
 abbrev pub keptBytes : Gathered → List ℕ
 keptBytes f = take (f .count) (f .bytes)
 
 abbrev pub keptMins : Gathered → List ℕ
 keptMins f = take (f .count) (f .mins)
-
-abbrev pub ownPlace : Gathered → ℕ → ℕ
-ownPlace f k = getD (f .places) k 0
 
 -- "by the first rule with that byte": one whose byte came before is never used; nor is there a place behind 256
 abbrev pub unkept : Gathered → ℕ → Bool

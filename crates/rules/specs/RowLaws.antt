@@ -13,28 +13,28 @@ use Rattle.search.specs.Promise.{Gives}
 use Rattle.search.specs.Search.{oneOf, is, find}
 use Rattle.search.specs.SearchLaws.{decide, is-yes, is-no, find-here, find-next, find-end}
 use Rattle.common.specs.Sets.{Index}
-use Rattle.common.specs.Rules.{tabulate, entry, onByte, row, hasRule, leastOf}
+use Rattle.common.specs.Rules.{tabulate, entry, onByte, ruleIndex, hasRule, leastOf}
 use Rattle.common.specs.TableLaws.{Table, table-entry, table-is, table-same, table-set, table-of, tabulate-at, length-tabulate}
 use Rattle.common.specs.declared.grammar.Grammar.{Grammar}
 use Rattle.lines.specs.Fences.{fenceTable, hasIn, leastIn}
 use Rattle.lines.specs.Reader.{reader}
 use Rattle.lines.specs.RuleLaws.{table-has, table-least}
 use Rattle.rules.specs.Grammar.{Rule, plain, sym, asym, Gram}
-use Rattle.rules.specs.Columns.{columns, searched, gainedAll, alphabetOf, openRule, symRule, fenceRow, gramOf}
+use Rattle.rules.specs.Columns.{inlineRules, columns, searched, gainedAll, alphabetOf, openRule, symRule, fenceIndexOf, gramOf}
 use Rattle.rules.specs.ColumnLaws.{pad-take, gathered-list}
-use Rattle.rules.specs.Rows.{rowOf, ruleRows, cell, ruleAt, ruleIn, gramBy, noRows, pairRow, fencedRow, opener, twin, fencer, passed, Laid, Opened, inlineRows, Inlined, Folded}
+use Rattle.rules.specs.Rows.{ruleRow, ruleRows, cell, ruleAt, ruleIn, gramBy, noRows, pairRow, fencedRow, opener, twin, fencer, laidRows, RulesLaid, OpenersLaid, inlineRows, Inlined, Folded}
 use Rattle.rules.specs.declared.search_bytes.Alphabet.{Alphabet}
 
 -- ---- what the promises leave open: nothing, of rows that are 256, as an array's are
 module _ {rows a b : List (List ℕ)} (long : length rows ≡ 256) where
-  pub laid-unique : {bytes : List ℕ} {made : ℕ → List ℕ → List ℕ} → Laid bytes made rows a → Laid bytes made rows b → a ≡ b
+  pub laid-unique : {bytes : List ℕ} {made : ℕ → List ℕ → List ℕ} → RulesLaid bytes made rows a → RulesLaid bytes made rows b → a ≡ b
   laid-unique x y = x .answer long ∙ inv (y .answer long)
 
 module _ {y t o k n : List ℕ} {a b : List (List ℕ)} where
-  pub inlined-unique : Inlined y t o k n a → Inlined y t o k n b → a ≡ b
+  pub inlined-unique : Inlined (inlineRules y t o k n) a → Inlined (inlineRules y t o k n) b → a ≡ b
   inlined-unique v w = v .answer ∙ inv (w .answer)
 
-  pub folded-unique : {f : List ℕ} → Folded f y t o k n a → Folded f y t o k n b → a ≡ b
+  pub folded-unique : {f : List ℕ} → Folded f (inlineRules y t o k n) a → Folded f (inlineRules y t o k n) b → a ≡ b
   folded-unique v w = v .answer ∙ inv (w .answer)
 
 -- ---- a column's rules, laid from the last to the first: those from i on
@@ -93,11 +93,11 @@ module _ (bytes : List ℕ) (made : ℕ → List ℕ → List ℕ) (rows₀ : Li
             let m : find (is k) bytes (i - 1) ≡ find (is k) bytes i = find-next (is k) bytes (i - 1) (omega (arith, w .within)) (is-no k (getD bytes (i - 1) 0) (λ q. e (inv q ∙ inv (d .same)))) ∙ rw z in
             rw m
 
-  pub laying-all : (rows : List (List ℕ)) (i : ℕ) → Laying bytes made rows₀ rows i → i ≤ 0 → Laid bytes made rows₀ rows
-  unfolding laidFrom passed
+  pub laying-all : (rows : List (List ℕ)) (i : ℕ) → Laying bytes made rows₀ rows i → i ≤ 0 → RulesLaid bytes made rows₀ rows
+  unfolding laidFrom laidRows
   laying-all rows i w h = record {
-    answer = λ l. let z : i ≡ 0 = omega arith in table-is [] rows (λ b. cond (hasRule bytes b) (made (row bytes b) (entry [] rows₀ b)) (entry [] rows₀ b))
-        (table-same [] rows (laidFrom bytes made rows₀ i) (λ b. cond (hasRule bytes b) (made (row bytes b) (entry [] rows₀ b)) (entry [] rows₀ b)) (λ k m. rw z) (w .laid l));
+    answer = λ l. let z : i ≡ 0 = omega arith in table-is [] rows (λ b. cond (hasRule bytes b) (made (ruleIndex bytes b) (entry [] rows₀ b)) (entry [] rows₀ b))
+        (table-same [] rows (laidFrom bytes made rows₀ i) (λ b. cond (hasRule bytes b) (made (ruleIndex bytes b) (entry [] rows₀ b)) (entry [] rows₀ b)) (λ k m. rw z) (w .laid l));
   }
 
 -- ---- the loops
@@ -110,16 +110,16 @@ pub twins-again : (bytes times : List ℕ) (rows₀ rows : List (List ℕ)) (i x
 twins-again bytes times rows₀ rows i x n r w h d hn g = laying-again bytes (twin times) rows₀ rows i w h x d r (g .answer ∙ ap (λ (m : ℕ). pairRow (getD rows x []) 1 0 m (i - 1)) (hn .answer))
 
 -- the asymmetric rules, of which every closing byte that was met is a byte
-pub record Opening (o k n : List ℕ) (rows₀ rows : List (List ℕ)) (i : ℕ) : Type 0 where
+pub record OpenersLaying (o k n : List ℕ) (rows₀ rows : List (List ℕ)) (i : ℕ) : Type 0 where
   pub laying : Laying o (opener k n) rows₀ rows i
   pub met : (j : ℕ) → i ≤ j → j < length o → getD k j 0 < 256
 
 module _ (o k n : List ℕ) (rows₀ : List (List ℕ)) where
-  pub opening-first : Opening o k n rows₀ rows₀ (length o)
+  pub opening-first : OpenersLaying o k n rows₀ rows₀ (length o)
   opening-first = record { laying = laying-first o (opener k n) rows₀ (opener-hides k n); met = λ j a b. absurd (omega arith) }
 
-  pub opening-again : (rows : List (List ℕ)) (i x b c m : ℕ) (r : List ℕ) → Opening o k n rows₀ rows i → 0 < i → Index (getD o (i - 1) 0) x → Gives (getD k (i - 1) 0) b → Index b c → Gives (getD n (i - 1) 0) m
-      → Gives (pairRow (getD rows x []) 2 c m (i - 1)) r → Opening o k n rows₀ (set rows x r) (i - 1)
+  pub opening-again : (rows : List (List ℕ)) (i x b c m : ℕ) (r : List ℕ) → OpenersLaying o k n rows₀ rows i → 0 < i → Index (getD o (i - 1) 0) x → Gives (getD k (i - 1) 0) b → Index b c → Gives (getD n (i - 1) 0) m
+      → Gives (pairRow (getD rows x []) 2 c m (i - 1)) r → OpenersLaying o k n rows₀ (set rows x r) (i - 1)
   opening-again rows i x b c m r w h d hb hc hm g = record {
     laying =
         laying-again o (opener k n) rows₀ rows i (w .laying) h x d r
@@ -131,7 +131,7 @@ module _ (o k n : List ℕ) (rows₀ : List (List ℕ)) where
       by j a l (inl u) = let z : j ≡ i - 1 = omega (arith, ltb-true j i u) in rw z (omega (arith, hc .same, hc .below, hb .answer))
       by j a l (inr u) = w .met j (ltb-false j i u) l
 
-  pub opening-all : (rows : List (List ℕ)) (i : ℕ) → Opening o k n rows₀ rows i → i ≤ 0 → Opened o k n rows₀ rows
+  pub opening-all : (rows : List (List ℕ)) (i : ℕ) → OpenersLaying o k n rows₀ rows i → i ≤ 0 → OpenersLaid o k n rows₀ rows
   opening-all rows i w h = record { laid = laying-all o (opener k n) rows₀ rows i (w .laying) h; closers = record { small = λ j l. w .met j (omega arith) l } }
 
 -- two tables with the same rows are one
@@ -139,62 +139,62 @@ same-rows : (f f′ : ℕ → List ℕ) → ((x : ℕ) → x < 256 → f x ≡ f
 same-rows f f′ e = table-is [] (tabulate f 256 0) f′ (table-same [] (tabulate f 256 0) f f′ (λ x h. inv (e x h)) (table-of [] f))
 
 -- ---- the inline rules over rows of none
-pub all-inlined : (y t o k n : List ℕ) (a b c : List (List ℕ)) → Gives noRows a → Opened o k n a b → Laid y (twin t) b c → Inlined y t o k n c
-unfolding passed inlineRows openRule symRule
+pub all-inlined : (y t o k n : List ℕ) (a b c : List (List ℕ)) → Gives noRows a → OpenersLaid o k n a b → RulesLaid y (twin t) b c → Inlined (inlineRules y t o k n) c
+unfolding laidRows inlineRows openRule symRule
 all-inlined y t o k n a b c ha hb hc = record { answer = whole; closers = hb .closers }
   where
-    first : b ≡ passed o (opener k n) a
+    first : b ≡ laidRows o (opener k n) a
     first = hb .laid .answer (ap length (ha .answer) ∙ length-replicate 256 (replicate {A = ℕ} 5 0))
 
-    second : c ≡ passed y (twin t) b
-    second = hc .answer (ap length first ∙ length-tabulate (λ b. cond (hasRule o b) (opener k n (row o b) (entry [] a b)) (entry [] a b)) 256 0)
+    second : c ≡ laidRows y (twin t) b
+    second = hc .answer (ap length first ∙ length-tabulate (λ b. cond (hasRule o b) (opener k n (ruleIndex o b) (entry [] a b)) (entry [] a b)) 256 0)
 
-    none : (x : ℕ) → x < 256 → entry [] a x ≡ rowOf 0 plain
+    none : (x : ℕ) → x < 256 → entry [] a x ≡ ruleRow 0 plain
     none x h = ap (λ (l : List (List ℕ)). entry [] l x) (ha .answer) ∙ getD-replicate 256 x (replicate 5 0) [] h
 
-    open-at : (x : ℕ) → x < 256 → entry [] b x ≡ rowOf 0 (openRule o k n x)
-    open-at x h = ap (λ (l : List (List ℕ)). entry [] l x) first ∙ tabulate-at (λ b. cond (hasRule o b) (opener k n (row o b) (entry [] a b)) (entry [] a b)) 256 0 x [] h ∙ rw zero-add (by (decide (hasRule o x)))
+    open-at : (x : ℕ) → x < 256 → entry [] b x ≡ ruleRow 0 (openRule o k n x)
+    open-at x h = ap (λ (l : List (List ℕ)). entry [] l x) first ∙ tabulate-at (λ b. cond (hasRule o b) (opener k n (ruleIndex o b) (entry [] a b)) (entry [] a b)) 256 0 x [] h ∙ rw zero-add (by (decide (hasRule o x)))
       where
-        by : (hasRule o x ≡ true) ⊎ (hasRule o x ≡ false) → cond (hasRule o x) (opener k n (row o x) (entry [] a x)) (entry [] a x) ≡ rowOf 0 (openRule o k n x)
+        by : (hasRule o x ≡ true) ⊎ (hasRule o x ≡ false) → cond (hasRule o x) (opener k n (ruleIndex o x) (entry [] a x)) (entry [] a x) ≡ ruleRow 0 (openRule o k n x)
         by (inl u) = rw (u, none x h)
         by (inr u) = rw (u, none x h)
 
-    sym-at : (x : ℕ) → x < 256 → cond (hasRule y x) (twin t (row y x) (entry [] b x)) (entry [] b x) ≡ rowOf 0 (symRule y t (openRule o k n) x)
+    sym-at : (x : ℕ) → x < 256 → cond (hasRule y x) (twin t (ruleIndex y x) (entry [] b x)) (entry [] b x) ≡ ruleRow 0 (symRule y t (openRule o k n) x)
     sym-at x h = by (decide (hasRule y x)) (openRule o k n x) (open-at x h)
       where
-        by : (hasRule y x ≡ true) ⊎ (hasRule y x ≡ false) → (u : Rule) → entry [] b x ≡ rowOf 0 u → cond (hasRule y x) (twin t (row y x) (entry [] b x)) (entry [] b x) ≡ rowOf 0 (cond (hasRule y x) (sym (row y x) (getD t (row y x) 0)) u)
+        by : (hasRule y x ≡ true) ⊎ (hasRule y x ≡ false) → (u : Rule) → entry [] b x ≡ ruleRow 0 u → cond (hasRule y x) (twin t (ruleIndex y x) (entry [] b x)) (entry [] b x) ≡ ruleRow 0 (cond (hasRule y x) (sym (ruleIndex y x) (getD t (ruleIndex y x) 0)) u)
         by (inl v) plain e = rw (v, e)
         by (inl v) (sym i m) e = rw (v, e)
         by (inl v) (asym i z m) e = rw (v, e)
         by (inr v) u e = rw (v, e)
 
-    whole : c ≡ tabulate (λ b. rowOf 0 (symRule y t (openRule o k n) b)) 256 0
-    whole = second ∙ same-rows (λ b′. cond (hasRule y b′) (twin t (row y b′) (entry [] b b′)) (entry [] b b′)) (λ b. rowOf 0 (symRule y t (openRule o k n) b)) sym-at
+    whole : c ≡ tabulate (λ b. ruleRow 0 (symRule y t (openRule o k n) b)) 256 0
+    whole = second ∙ same-rows (λ b′. cond (hasRule y b′) (twin t (ruleIndex y b′) (entry [] b b′)) (entry [] b b′)) (λ b. ruleRow 0 (symRule y t (openRule o k n) b)) sym-at
 
 -- ---- fence rules over the rows of inline rules
-module _ (f y t o k n : List ℕ) (a : List (List ℕ)) (ha : Inlined y t o k n a) where
+module _ (f y t o k n : List ℕ) (a : List (List ℕ)) (ha : Inlined (inlineRules y t o k n) a) where
   long : length a ≡ 256
   unfolding inlineRows
-  long = ap length (ha .answer) ∙ length-tabulate (λ b. rowOf 0 (symRule y t (openRule o k n) b)) 256 0
+  long = ap length (ha .answer) ∙ length-tabulate (λ b. ruleRow 0 (symRule y t (openRule o k n) b)) 256 0
 
-  at-row : (x : ℕ) → x < 256 → entry [] a x ≡ rowOf 0 (symRule y t (openRule o k n) x)
+  at-row : (x : ℕ) → x < 256 → entry [] a x ≡ ruleRow 0 (symRule y t (openRule o k n) x)
   unfolding inlineRows
-  at-row x h = ap (λ (l : List (List ℕ)). entry [] l x) (ha .answer) ∙ tabulate-at (λ b. rowOf 0 (symRule y t (openRule o k n) b)) 256 0 x [] h ∙ rw zero-add
+  at-row x h = ap (λ (l : List (List ℕ)). entry [] l x) (ha .answer) ∙ tabulate-at (λ b. ruleRow 0 (symRule y t (openRule o k n) b)) 256 0 x [] h ∙ rw zero-add
 
-  fenced-row : (i : ℕ) (u : Rule) → fencedRow (rowOf 0 u) i ≡ rowOf i u
+  fenced-row : (i : ℕ) (u : Rule) → fencedRow (ruleRow 0 u) i ≡ ruleRow i u
   fenced-row i plain = refl
   fenced-row i (sym j m) = refl
   fenced-row i (asym j c m) = refl
 
-  pub all-folded : (d : List (List ℕ)) → Laid f fencer a d → Folded f y t o k n d
-  unfolding passed ruleRows
-  all-folded d hd = record { answer = hd .answer long ∙ same-rows (λ b. cond (hasRule f b) (fencer (row f b) (entry [] a b)) (entry [] a b)) (λ b. rowOf (fenceRow f b) (symRule y t (openRule o k n) b)) at-fence; closers = ha .closers }
+  pub all-folded : (d : List (List ℕ)) → RulesLaid f fencer a d → Folded f (inlineRules y t o k n) d
+  unfolding laidRows ruleRows
+  all-folded d hd = record { answer = hd .answer long ∙ same-rows (λ b. cond (hasRule f b) (fencer (ruleIndex f b) (entry [] a b)) (entry [] a b)) (λ b. ruleRow (fenceIndexOf f b) (symRule y t (openRule o k n) b)) at-fence; closers = ha .closers }
     where
-      at-fence : (x : ℕ) → x < 256 → cond (hasRule f x) (fencer (row f x) (entry [] a x)) (entry [] a x) ≡ rowOf (fenceRow f x) (symRule y t (openRule o k n) x)
+      at-fence : (x : ℕ) → x < 256 → cond (hasRule f x) (fencer (ruleIndex f x) (entry [] a x)) (entry [] a x) ≡ ruleRow (fenceIndexOf f x) (symRule y t (openRule o k n) x)
       at-fence x h = by (decide (hasRule f x))
         where
-          by : (hasRule f x ≡ true) ⊎ (hasRule f x ≡ false) → cond (hasRule f x) (fencer (row f x) (entry [] a x)) (entry [] a x) ≡ rowOf (fenceRow f x) (symRule y t (openRule o k n) x)
-          by (inl v) = rw (v, at-row x h) (fenced-row (row f x) (symRule y t (openRule o k n) x))
+          by : (hasRule f x ≡ true) ⊎ (hasRule f x ≡ false) → cond (hasRule f x) (fencer (ruleIndex f x) (entry [] a x)) (entry [] a x) ≡ ruleRow (fenceIndexOf f x) (symRule y t (openRule o k n) x)
+          by (inl v) = rw (v, at-row x h) (fenced-row (ruleIndex f x) (symRule y t (openRule o k n) x))
           by (inr v) = rw (v, at-row x h)
 
 -- ---- the rows of columns make the grammar of the columns
@@ -208,44 +208,44 @@ Closed (asym i c n) = c < 256
 abbrev said : List ℕ → Rule
 said r = ruleAt (getD r 1 0) (getD r 2 0 % 256) (getD r 3 0) (getD r 4 0)
 
-rule-back : (f : ℕ) (u : Rule) → Closed u → said (rowOf f u) ≡ u
+rule-back : (f : ℕ) (u : Rule) → Closed u → said (ruleRow f u) ≡ u
 rule-back f plain h = refl
 rule-back f (sym i n) h = refl
 rule-back f (asym i c n) h = let z : c % 256 ≡ c = omega arith in rw z
 
-index-back : (f : ℕ) (u : Rule) → getD (rowOf f u) 0 0 ≡ f
+index-back : (f : ℕ) (u : Rule) → getD (ruleRow f u) 0 0 ≡ f
 index-back f plain = refl
 index-back f (sym i n) = refl
 index-back f (asym i c n) = refl
 
-module _ (f y t o k n : List ℕ) (rows : List (List ℕ)) (w : Folded f y t o k n rows) where
+module _ (f y t o k n : List ℕ) (rows : List (List ℕ)) (w : Folded f (inlineRules y t o k n) rows) where
   closed : (b : ℕ) → Closed (symRule y t (openRule o k n) b)
   unfolding symRule openRule
   closed b = by (decide (hasRule y b)) (decide (hasRule o b))
     where
       by : (hasRule y b ≡ true) ⊎ (hasRule y b ≡ false) → (hasRule o b ≡ true) ⊎ (hasRule o b ≡ false) → Closed (symRule y t (openRule o k n) b)
       by (inl u) v = rw u tt
-      by (inr u) (inl v) = rw (u, v) (w .closers .small (row o b) (ltb-true (row o b) (length o) v))
+      by (inr u) (inl v) = rw (u, v) (w .closers .small (ruleIndex o b) (ltb-true (ruleIndex o b) (length o) v))
       by (inr u) (inr v) = rw (u, v) tt
 
   -- a byte's row
-  at : (b : ℕ) → entry [] rows b ≡ onByte [] (λ b. rowOf (fenceRow f b) (symRule y t (openRule o k n) b)) b
+  at : (b : ℕ) → entry [] rows b ≡ onByte [] (λ b. ruleRow (fenceIndexOf f b) (symRule y t (openRule o k n) b)) b
   unfolding ruleRows
-  at b = ap (λ (l : List (List ℕ)). entry [] l b) (w .answer) ∙ ap (λ (e : ℕ → List ℕ). e b) (table-entry [] (λ b. rowOf (fenceRow f b) (symRule y t (openRule o k n) b)))
+  at b = ap (λ (l : List (List ℕ)). entry [] l b) (w .answer) ∙ ap (λ (e : ℕ → List ℕ). e b) (table-entry [] (λ b. ruleRow (fenceIndexOf f b) (symRule y t (openRule o k n) b)))
 
   rows-rule : ruleIn rows ≡ onByte plain (symRule y t (openRule o k n))
   rows-rule = fun-ext (λ b. ap said (at b) ∙ by b (decide (ltb b 256)))
     where
       by : (b : ℕ) → (ltb b 256 ≡ true) ⊎ (ltb b 256 ≡ false)
-          → said (onByte [] (λ b. rowOf (fenceRow f b) (symRule y t (openRule o k n) b)) b) ≡ onByte plain (symRule y t (openRule o k n)) b
-      by b (inl u) = rw u (rule-back (fenceRow f b) (symRule y t (openRule o k n) b) (closed b))
+          → said (onByte [] (λ b. ruleRow (fenceIndexOf f b) (symRule y t (openRule o k n) b)) b) ≡ onByte plain (symRule y t (openRule o k n)) b
+      by b (inl u) = rw u (rule-back (fenceIndexOf f b) (symRule y t (openRule o k n) b) (closed b))
       by b (inr u) = rw u
 
-  rows-index : (λ b. cell rows b 0) ≡ onByte 0 (fenceRow f)
+  rows-index : (λ b. cell rows b 0) ≡ onByte 0 (fenceIndexOf f)
   rows-index = fun-ext (λ b. ap (λ (r : List ℕ). getD r 0 0) (at b) ∙ by b (decide (ltb b 256)))
     where
-      by : (b : ℕ) → (ltb b 256 ≡ true) ⊎ (ltb b 256 ≡ false) → getD (onByte [] (λ b. rowOf (fenceRow f b) (symRule y t (openRule o k n) b)) b) 0 0 ≡ onByte 0 (fenceRow f) b
-      by b (inl u) = rw u (index-back (fenceRow f b) (symRule y t (openRule o k n) b))
+      by : (b : ℕ) → (ltb b 256 ≡ true) ⊎ (ltb b 256 ≡ false) → getD (onByte [] (λ b. ruleRow (fenceIndexOf f b) (symRule y t (openRule o k n) b)) b) 0 0 ≡ onByte 0 (fenceIndexOf f) b
+      by b (inl u) = rw u (index-back (fenceIndexOf f b) (symRule y t (openRule o k n) b))
       by b (inr u) = rw u
 
   pub gram-same : (g : Grammar) (m : List ℕ) (a : Alphabet) (fences : List ℕ) → Gives (alphabetOf g f y o) a → Gives (fenceTable f m) fences → gramBy a fences rows ≡ gramOf g (columns f m y t o k n)
@@ -258,8 +258,8 @@ module _ (f y t o k n : List ℕ) (rows : List (List ℕ)) (w : Folded f y t o k
       ∙ ap (λ (z : List ℕ). with z (ruleIn rows) (λ b. cell rows b 0) (hasIn fences) (leastIn fences)) (pad-take 11 bytes few)
       ∙ ap (λ (z : ℕ → Rule). with bytes z (λ b. cell rows b 0) (hasIn fences) (leastIn fences)) rows-rule
       ∙ ap (λ (z : ℕ → ℕ). with bytes (onByte plain (symRule y t (openRule o k n))) z (hasIn fences) (leastIn fences)) rows-index
-      ∙ ap (λ (z : ℕ → Bool). with bytes (onByte plain (symRule y t (openRule o k n))) (onByte 0 (fenceRow f)) z (leastIn fences)) has
-      ∙ ap (with bytes (onByte plain (symRule y t (openRule o k n))) (onByte 0 (fenceRow f)) (onByte false (hasRule f))) least
+      ∙ ap (λ (z : ℕ → Bool). with bytes (onByte plain (symRule y t (openRule o k n))) (onByte 0 (fenceIndexOf f)) z (leastIn fences)) has
+      ∙ ap (with bytes (onByte plain (symRule y t (openRule o k n))) (onByte 0 (fenceIndexOf f)) (onByte false (hasRule f))) least
     where
       bytes : List ℕ
       bytes = gainedAll (gainedAll (gainedAll [] f) y) o

@@ -7,21 +7,21 @@ use Prim.Native.Nat.{ℕ, _%_, _<_}
 use lib.Dec.{eqb}
 use lib.ListN.{length, getD, take, replicate}
 use Rattle.search.specs.Search.{oneOf}
-use Rattle.common.specs.Rules.{tabulate, entry, row, hasRule}
+use Rattle.common.specs.Rules.{tabulate, entry, ruleIndex, hasRule}
 use Rattle.lines.specs.Reader.{readerIn}
 use Rattle.rules.specs.Grammar.{Rule, plain, sym, asym, Gram}
-use Rattle.rules.specs.Columns.{openRule, symRule, fenceRow}
+use Rattle.rules.specs.Columns.{InlineRules, inlineRule, fenceIndexOf}
 use Rattle.rules.specs.declared.search_bytes.Alphabet.{Alphabet}
 
 -- a row: the index of the fence rule; the inline rule's kind (0 nothing, 1 symmetric, 2 asymmetric), closing byte, count and index
-abbrev pub rowOf : ℕ → Rule → List ℕ
-rowOf f plain = f ∷ 0 ∷ 0 ∷ 0 ∷ 0 ∷ []
-rowOf f (sym i n) = f ∷ 1 ∷ 0 ∷ n ∷ i ∷ []
-rowOf f (asym i c n) = f ∷ 2 ∷ c ∷ n ∷ i ∷ []
+abbrev pub ruleRow : ℕ → Rule → List ℕ
+ruleRow f plain = f ∷ 0 ∷ 0 ∷ 0 ∷ 0 ∷ []
+ruleRow f (sym i n) = f ∷ 1 ∷ 0 ∷ n ∷ i ∷ []
+ruleRow f (asym i c n) = f ∷ 2 ∷ c ∷ n ∷ i ∷ []
 
--- the rows of columns
-unfoldable pub ruleRows : List ℕ → List ℕ → List ℕ → List ℕ → List ℕ → List ℕ → List (List ℕ)
-ruleRows f y t o k n = tabulate (λ b. rowOf (fenceRow f b) (symRule y t (openRule o k n) b)) 256 0
+-- the rows of columns: the bytes of the fence rules, and the inline rules
+unfoldable pub ruleRows : List ℕ → InlineRules → List (List ℕ)
+ruleRows fences i = tabulate (λ b. ruleRow (fenceIndexOf fences b) (inlineRule i b)) 256 0
 
 -- ---- what rows, also ones made by hand, say of a byte
 abbrev pub cell : List (List ℕ) → ℕ → ℕ → ℕ
@@ -66,30 +66,31 @@ abbrev pub fencer : ℕ → List ℕ → List ℕ
 fencer j r = fencedRow r j
 
 -- rows over which the rules of a column are laid, the first with a byte
-unfoldable pub passed : List ℕ → (ℕ → List ℕ → List ℕ) → List (List ℕ) → List (List ℕ)
-passed bytes made rows = tabulate (λ b. cond (hasRule bytes b) (made (row bytes b) (entry [] rows b)) (entry [] rows b)) 256 0
+unfoldable pub laidRows : List ℕ → (ℕ → List ℕ → List ℕ) → List (List ℕ) → List (List ℕ)
+laidRows bytes made rows = tabulate (λ b. cond (hasRule bytes b) (made (ruleIndex bytes b) (entry [] rows b)) (entry [] rows b)) 256 0
 
 -- what laying a column's rules over rows, which are 256, promises
-pub record Laid (bytes : List ℕ) (made : ℕ → List ℕ → List ℕ) (rows rows′ : List (List ℕ)) : Type 0 where
-  pub answer : length rows ≡ 256 → rows′ ≡ passed bytes made rows
+pub record RulesLaid (bytes : List ℕ) (made : ℕ → List ℕ → List ℕ) (rows rows′ : List (List ℕ)) : Type 0 where
+  pub answer : length rows ≡ 256 → rows′ ≡ laidRows bytes made rows
 
 -- a column's closing bytes are bytes
-pub record Small (o k : List ℕ) : Type 0 where
-  pub small : (j : ℕ) → j < length o → getD k j 0 < 256
+pub record ByteClosers (openers closers : List ℕ) : Type 0 where
+  pub small : (j : ℕ) → j < length openers → getD closers j 0 < 256
 
-pub record Opened (o k n : List ℕ) (rows rows′ : List (List ℕ)) : Type 0 where
-  pub laid : Laid o (opener k n) rows rows′
-  pub closers : Small o k
+-- what laying the asymmetric rules promises besides
+pub record OpenersLaid (o k n : List ℕ) (rows rows′ : List (List ℕ)) : Type 0 where
+  pub laid : RulesLaid o (opener k n) rows rows′
+  pub closers : ByteClosers o k
 
 -- the rows of inline rules
-unfoldable pub inlineRows : List ℕ → List ℕ → List ℕ → List ℕ → List ℕ → List (List ℕ)
-inlineRows y t o k n = tabulate (λ b. rowOf 0 (symRule y t (openRule o k n) b)) 256 0
+unfoldable pub inlineRows : InlineRules → List (List ℕ)
+inlineRows i = tabulate (λ b. ruleRow 0 (inlineRule i b)) 256 0
 
-pub record Inlined (y t o k n : List ℕ) (rows : List (List ℕ)) : Type 0 where
-  pub answer : rows ≡ inlineRows y t o k n
-  pub closers : Small o k
+pub record Inlined (i : InlineRules) (rows : List (List ℕ)) : Type 0 where
+  pub answer : rows ≡ inlineRows i
+  pub closers : ByteClosers (i .openers) (i .closers)
 
 -- what folding columns promises
-pub record Folded (f y t o k n : List ℕ) (rows : List (List ℕ)) : Type 0 where
-  pub answer : rows ≡ ruleRows f y t o k n
-  pub closers : Small o k
+pub record Folded (fences : List ℕ) (i : InlineRules) (rows : List (List ℕ)) : Type 0 where
+  pub answer : rows ≡ ruleRows fences i
+  pub closers : ByteClosers (i .openers) (i .closers)

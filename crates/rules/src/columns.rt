@@ -1,6 +1,6 @@
 // Whether rules given as columns fit together.
 ghost use Rattle.search.specs.Promise.{Gives};
-ghost use Rattle.rules.specs.Columns.{columns, unequalInline, unequal};
+ghost use Rattle.rules.specs.Columns.{inlineRules, columns, unequalInline, unequal};
 
 // Whether an inline rule's columns differ in length.
 fn inline_columns_differ(
@@ -11,8 +11,8 @@ fn inline_columns_differ(
     counts: &[u32],
 ) -> bool
     ensures { λ r. ⌜
-        Gives (unequalInline (now (symmetric .entry)) (now (times .entry)) (now (openers .entry)) (now (closers .entry))
-        (now (counts .entry))) r
+        Gives (unequalInline (inlineRules (now (symmetric .entry)) (now (times .entry)) (now (openers .entry))
+        (now (closers .entry)) (now (counts .entry)))) r
         ⌝ }
 {
     if symmetric.len() != times.len() {

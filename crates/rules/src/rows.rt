@@ -6,7 +6,8 @@ use search::byte_at;
 ghost use Prim.Native.Nat.{_%_};
 ghost use lib.ListN.{getD};
 ghost use Rattle.search.specs.Promise.{Gives};
-ghost use Rattle.rules.specs.Rows.{cell, noRows, pairRow, fencedRow, Laid, twin, fencer, Opened, Inlined, Folded};
+ghost use Rattle.rules.specs.Columns.{inlineRules};
+ghost use Rattle.rules.specs.Rows.{cell, noRows, pairRow, fencedRow, RulesLaid, twin, fencer, OpenersLaid, Inlined, Folded};
 
 // A byte's row: the index of its fence rule; and what it opens within a paragraph: kind 0 nothing, 1 a symmetric pair, 2 an asymmetric
 // one; the closing byte of an asymmetric pair; the count; and the inline rule's index.
@@ -87,7 +88,7 @@ fn number_at(numbers: &[u32], i: usize) -> usize
 
 // The asymmetric rules over what stands in the rows.
 fn put_openers(rows: &mut Rows, openers: &[u8], closers: &[u8], counts: &[u32])
-    ensures { λ r. ⌜ Opened (now (openers .entry)) (now (closers .entry)) (now (counts .entry)) (now (rows .entry)) (now (rows .exit)) ⌝ }
+    ensures { λ r. ⌜ OpenersLaid (now (openers .entry)) (now (closers .entry)) (now (counts .entry)) (now (rows .entry)) (now (rows .exit)) ⌝ }
 {
     let mut i = openers.len();
     while i > 0 {
@@ -100,7 +101,7 @@ fn put_openers(rows: &mut Rows, openers: &[u8], closers: &[u8], counts: &[u32])
 
 // The symmetric rules over what stands in the rows.
 fn put_symmetric(rows: &mut Rows, symmetric: &[u8], times: &[u32])
-    ensures { λ r. ⌜ Laid (now (symmetric .entry)) (twin (now (times .entry))) (now (rows .entry)) (now (rows .exit)) ⌝ }
+    ensures { λ r. ⌜ RulesLaid (now (symmetric .entry)) (twin (now (times .entry))) (now (rows .entry)) (now (rows .exit)) ⌝ }
 {
     let mut i = symmetric.len();
     while i > 0 {
@@ -119,8 +120,8 @@ fn inline_rows(
     counts: &[u32],
 ) -> Rows
     ensures { λ r. ⌜
-        Inlined (now (symmetric .entry)) (now (times .entry)) (now (openers .entry)) (now (closers .entry)) (now (counts .entry))
-        r
+        Inlined (inlineRules (now (symmetric .entry)) (now (times .entry)) (now (openers .entry)) (now (closers .entry))
+        (now (counts .entry))) r
         ⌝ }
 {
     let mut rows = no_rows();
@@ -131,7 +132,7 @@ fn inline_rows(
 
 // The indices of the fence rules over what stands in the rows.
 pub fn put_fences(rows: &mut Rows, fences: &[u8])
-    ensures { λ r. ⌜ Laid (now (fences .entry)) fencer (now (rows .entry)) (now (rows .exit)) ⌝ }
+    ensures { λ r. ⌜ RulesLaid (now (fences .entry)) fencer (now (rows .entry)) (now (rows .exit)) ⌝ }
 {
     let mut i = fences.len();
     while i > 0 {
@@ -151,8 +152,8 @@ pub fn rule_rows(
     counts: &[u32],
 ) -> Rows
     ensures { λ r. ⌜
-        Folded (now (fences .entry)) (now (symmetric .entry)) (now (times .entry)) (now (openers .entry)) (now (closers .entry))
-        (now (counts .entry)) r
+        Folded (now (fences .entry)) (inlineRules (now (symmetric .entry)) (now (times .entry)) (now (openers .entry))
+        (now (closers .entry)) (now (counts .entry))) r
         ⌝ }
 {
     let mut rows = inline_rows(symmetric, times, openers, closers, counts);

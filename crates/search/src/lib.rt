@@ -97,24 +97,6 @@ pub fn run_before(src: &[u8], pos: usize, b: u8) -> usize
     pos
 }
 
-// The length of the run of separators and tabs that ends just before `pos`.
-pub fn blank_before(src: &[u8], pos: usize, sep: u8, tab: u8) -> usize
-    ensures { λ r. ⌜ Gives (back (either sep tab) (now (src .entry)) pos) r ⌝ }
-{
-    if pos > src.len() {
-        return 0;
-    }
-    let mut at = pos;
-    while at > 0 {
-        if is_blank(src[at - 1], sep, tab) {
-            at -= 1;
-        } else {
-            return pos - at;
-        }
-    }
-    pos
-}
-
 // Whether the text has the byte `b` at place `k`.
 pub fn is_at(src: &[u8], k: usize, b: u8) -> bool
     ensures { λ r. ⌜ Gives (holds (is b) (now (src .entry)) k) r ⌝ }

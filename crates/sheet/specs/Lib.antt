@@ -1,6 +1,7 @@
 pub mod Sheet
 pub mod Parts
-pub mod ShowLaws
 pub mod RunLaws
+pub mod LeftLaws
+pub mod ShowLaws
 pub mod SheetLaws
 pub mod PageSheet

@@ -15,7 +15,7 @@ use Rattle.block_marker.specs.MarkerRun as marker-run
 use Rattle.block_numbered.specs.Numbered as numbered
 use Rattle.block_numbered.specs.Numbered.{NoDigit, DigitsApart}
 use Rattle.block_numbered.specs.NumberedRun as numbered-run
-use Rattle.feed.specs.Items.{marked, counted, markItems, numberedItems, merge}
+use Rattle.feed.specs.Items.{marked, counted, markItemsFrom, numberedItemsFrom, markItems, numberedItems, merge}
 use Rattle.feed.specs.declared.item.SheetItem.{SheetItem}
 use Rattle.sheet.specs.Sheet.{outside, sheetOf}
 
@@ -29,11 +29,11 @@ module _ (g : Grammar) (markers delims : List Bool) (s : List ℕ) (marks-size :
     (marks-apart : length (accepted markers) ≤ 3 → Apart (readBy g markers))
     (delims-apart : length (accepted delims) ≤ 3 → DigitsApart (readBy g delims)) (no-digit : NoDigit (readBy g delims)) where
   mark-items : markItems g markers s ≡ map marked (marker.markers (readBy g markers) s)
-  unfolding markItems
+  unfolding markItemsFrom
   mark-items = ap (map marked) (marker-run.fresh-items markers s (g .eol) (g .sep) (g .tab) marks-size marks-apart)
 
   numbered-items : numberedItems g delims s ≡ map counted (numbered.numbers (readBy g delims) s)
-  unfolding numberedItems
+  unfolding numberedItemsFrom
   numbered-items = ap (map counted) (numbered-run.fresh-items delims s (g .eol) (g .sep) (g .tab) delims-size delims-apart no-digit)
 
   -- the sheet of n regions of the list l: the items of the lines, merged, without those that a region hides

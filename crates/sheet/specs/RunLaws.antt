@@ -9,7 +9,8 @@ use lib.Dec.{ltb}
 use lib.ListN.{length}
 use borrow.Author.Tests.{ltb-true, ltb-false}
 use Rattle.search.specs.SearchLaws.{decide}
-use Rattle.common.specs.Turn.{Turn, thenCollect, collect, allFound, Adv}
+use Rattle.common.specs.Turn.{Turn, thenCollect, collect, allFound}
+use Rattle.common.specs.Turning.{Adv}
 use Rattle.common.specs.TurnLaws.{by-turn}
 use Rattle.common.specs.ScanningLaws.{turn-adv}
 use Rattle.common.specs.declared.grammar.Grammar.{Grammar}
@@ -18,7 +19,7 @@ use Rattle.block_marker.specs.MarkerRun as marker-run
 use Rattle.block_numbered.specs.Numbered as numbered
 use Rattle.block_numbered.specs.NumberedRun as numbered-run
 use Rattle.cover.specs.Cursor.{Rising}
-use Rattle.feed.specs.Items.{marked, counted, markItems, numberedItems, merge, placeOf}
+use Rattle.feed.specs.Items.{marked, counted, markItemsFrom, numberedItemsFrom, markItems, numberedItems, merge, contentStart}
 use Rattle.sheet.specs.Sheet.{inside, outside}
 use Rattle.feed.specs.FeedLaws.{merge-number, merge-mark}
 use Rattle.feed.specs.declared.item.SheetItem.{SheetItem}
@@ -56,11 +57,11 @@ module _ {A : Type 0} {Lies : ℕ → ℕ → A → Type 0} (item : A → SheetI
 
 module _ (g : Grammar) (set : List Bool) (s : List ℕ) where
   mark-rises : Rises 0 (markItems g set s) × (length (markItems g set s) * 2 ≤ length s)
-  unfolding markItems
+  unfolding markItemsFrom
   mark-rises = found-rises marked (λ q n a w. (w .2, omega arith)) (turn-adv marker-run.lawful (marker.fresh (g .eol) (g .sep) (g .tab) set) set s)
 
   numbered-rises : Rises 0 (numberedItems g set s) × (length (numberedItems g set s) * 2 ≤ length s)
-  unfolding numberedItems
+  unfolding numberedItemsFrom
   numbered-rises = found-rises counted (λ q n a w. (w .3, omega arith)) (turn-adv numbered-run.lawful (numbered.fresh (g .eol) (g .sep) (g .tab) set) set s)
 
 -- ---- both, merged
@@ -87,12 +88,12 @@ merge-length (x ∷ xs) (y ∷ ys) = by (merge-length (x ∷ xs) ys) (merge-leng
     by f g (inr u) = ap length (merge-mark x y xs ys u) ∙ omega arith
 
 -- ---- the places that decide never fall, since the content starts don't
-place-rises : (i j : SheetItem) → i .start ≤ j .start → placeOf i ≤ placeOf j
+place-rises : (i j : SheetItem) → i .start ≤ j .start → contentStart i ≤ contentStart j
 place-rises i j h = h
 
-rises-places : (p low : ℕ) (l : List SheetItem) → ((i : SheetItem) → low ≤ i .start → p ≤ placeOf i) → Rises low l → Rising p (map placeOf l)
+rises-places : (p low : ℕ) (l : List SheetItem) → ((i : SheetItem) → low ≤ i .start → p ≤ contentStart i) → Rises low l → Rising p (map contentStart l)
 rises-places p low [] f w = tt
-rises-places p low (i ∷ l) f w = (f i (w .0), rises-places (placeOf i) (i .start) l (place-rises i) (w .1))
+rises-places p low (i ∷ l) f w = (f i (w .0), rises-places (contentStart i) (i .start) l (place-rises i) (w .1))
 
 -- ---- all items of a text
 module _ (g : Grammar) (markers delims : List Bool) (s : List ℕ) where
@@ -100,7 +101,7 @@ module _ (g : Grammar) (markers delims : List Bool) (s : List ℕ) where
   pub items-few : length (merge (markItems g markers s) (numberedItems g delims s)) ≤ length s
   items-few = omega (arith, merge-length (markItems g markers s) (numberedItems g delims s), mark-rises g markers s .1, numbered-rises g delims s .1)
 
-  pub places-rise : Rising 0 (map placeOf (merge (markItems g markers s) (numberedItems g delims s)))
+  pub places-rise : Rising 0 (map contentStart (merge (markItems g markers s) (numberedItems g delims s)))
   places-rise =
       rises-places 0 0 (merge (markItems g markers s) (numberedItems g delims s)) (λ i h. omega arith) (merge-rises 0 (markItems g markers s) (numberedItems g delims s) (mark-rises g markers s .0) (numbered-rises g delims s .0))
 
@@ -108,8 +109,8 @@ module _ (g : Grammar) (markers delims : List Bool) (s : List ℕ) where
 pub outside-few : (regions : List (List ℕ)) (l : List SheetItem) → length (outside regions l) ≤ length l
 unfolding outside
 outside-few regions [] = omega arith
-outside-few regions (i ∷ l) = by (outside-few regions l) (decide (inside regions (placeOf i)))
+outside-few regions (i ∷ l) = by (outside-few regions l) (decide (inside regions (contentStart i)))
   where
-    by : length (outside regions l) ≤ length l → (inside regions (placeOf i) ≡ true) ⊎ (inside regions (placeOf i) ≡ false) → length (outside regions (i ∷ l)) ≤ suc (length l)
+    by : length (outside regions l) ≤ length l → (inside regions (contentStart i) ≡ true) ⊎ (inside regions (contentStart i) ≡ false) → length (outside regions (i ∷ l)) ≤ suc (length l)
     by ih (inl u) = rw (u, outside) (omega arith)
     by ih (inr u) = rw (u, outside) (omega arith)

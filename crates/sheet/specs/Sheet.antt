@@ -5,12 +5,12 @@ use mathlib.Core.Path.{_≡_}
 use mathlib.Core.Bool.{Bool, true, false, cond, _||_}
 use mathlib.Core.List.{List, [], _∷_}
 use Prim.Native.Nat.{ℕ}
-use lib.Dec.{ltb}
 use lib.ListN.{length}
-use Rattle.common.specs.Entry.{flatten, rows, room, over, wide}
-use Rattle.common.specs.Refusals.{Outcome, given, refuse, tooLong}
+use Rattle.common.specs.Entry.{rows, wide}
+use Rattle.common.specs.Lists.{filledAnswer, filledList}
+use Rattle.common.specs.Refusals.{Outcome, refuse, tooLong}
 use Rattle.common.specs.declared.grammar.Grammar.{Grammar}
-use Rattle.feed.specs.Items.{markItems, numberedItems, merge, placeOf}
+use Rattle.feed.specs.Items.{markItems, numberedItems, merge, contentStart}
 use Rattle.cover.specs.Cursor.{covers}
 use Rattle.cover.specs.Shape.{misshapen}
 use Rattle.feed.specs.declared.item.SheetItem.{SheetItem}
@@ -29,26 +29,22 @@ inside (r ∷ l) p = covers p r || inside l p
 -- the items "whose content start isn't inside a region"
 unfoldable pub outside : List (List ℕ) → List SheetItem → List SheetItem
 outside regions [] = []
-outside regions (i ∷ l) = elim (inside regions (placeOf i)) [ true ↦ outside regions l | false ↦ i ∷ outside regions l ]
+outside regions (i ∷ l) = elim (inside regions (contentStart i)) [ true ↦ outside regions l | false ↦ i ∷ outside regions l ]
 
 -- ---- the sheet
 -- "The work sheet takes a text, the grammar bytes, the marker and delimiter sets and a list": s, g, the sets, and the n regions of l
 unfoldable pub sheetOf : Grammar → List Bool → List Bool → List ℕ → ℕ → List ℕ → List SheetItem
 sheetOf g markers delims l n s = outside (rows wide n l) (merge (markItems g markers s) (numberedItems g delims s))
 
--- 3: "the answer has more regions, or items, than there is room for"; "Its room is a fifth of the run, rounded down."
-abbrev pub full : List SheetItem → List ℕ → Bool
-full items out = ltb (room 5 out) (length items)
-
--- "For a work sheet: 1, 5, 3."; else the count
+-- "For a work sheet: 1, 5, 3."; "Its room is a fifth of the run, rounded down."
 unfoldable pub sheetAnswer : Grammar → List Bool → List Bool → List ℕ → ℕ → List ℕ → List ℕ → Outcome
 sheetAnswer g markers delims l n s out =
-    refuse 1 (tooLong s) (refuse 5 (misshapen l n (length s)) (refuse 3 (full (sheetOf g markers delims l n s) out) (given (length (sheetOf g markers delims l n s) ∷ []))))
+    refuse 1 (tooLong s) (refuse 5 (misshapen l n (length s)) (filledAnswer 5 (sheetOf g markers delims l n s) out))
 
--- "Success writes the regions from place 0 … and changes nothing beyond them", here the items; a refusal changes nothing
+-- the run that is left; a refusal changes nothing
 unfoldable pub sheetList : Grammar → List Bool → List Bool → List ℕ → ℕ → List ℕ → List ℕ → List ℕ
 sheetList g markers delims l n s out =
-    cond (tooLong s) out (cond (misshapen l n (length s)) out (cond (full (sheetOf g markers delims l n s) out) out (over (flatten five (sheetOf g markers delims l n s)) out)))
+    cond (tooLong s) out (cond (misshapen l n (length s)) out (filledList five 5 (sheetOf g markers delims l n s) out))
 
 -- the promise of a work sheet: its answer, and the run that it leaves
 pub record Sheeted (g : Grammar) (markers delims : List Bool) (l : List ℕ) (n : ℕ) (s out out′ : List ℕ) (o : Outcome) : Type 0 where

@@ -2,7 +2,8 @@
 use feed::item::SheetItem;
 ghost use Prim.Native.Nat.{_+_, _*_, _≤_};
 ghost use lib.ListN.{length};
-ghost use Rattle.sheet.specs.Parts.{Put};
+ghost use Rattle.common.specs.Lists.{RowPut};
+ghost use Rattle.sheet.specs.Sheet.{five};
 
 // The next item as a turn finds it: one that is shown, one that a region hides, or none.
 pub enum Seen {
@@ -14,7 +15,7 @@ pub enum Seen {
 // Writes item `n` to its five places, and answers the next item's number.
 pub(crate) fn put_item(out: &mut [u32], n: usize, item: SheetItem) -> usize
     requires { ⌜ n * 5 + 5 ≤ length (now out) ⌝ }
-    ensures { λ r. ⌜ Put n item (now (out .entry)) (now (out .exit)) r ⌝ }
+    ensures { λ r. ⌜ RowPut (five item) n (now (out .entry)) (now (out .exit)) r ⌝ }
 {
     let k = n * 5;
     out[k] = item.start;

@@ -12,7 +12,7 @@ use cover::shape::is_misshapen;
 use feed::Feed;
 use feed::Head;
 use feed::item::SheetItem;
-use feed::item::place_of;
+use feed::item::content_start;
 use feed::start;
 use feed::take;
 use item::Seen;
@@ -22,13 +22,14 @@ ghost use mathlib.Core.Bool.{false};
 ghost use Prim.Native.Nat.{_≤_};
 ghost use lib.ListN.{length};
 ghost use Rattle.search.specs.Promise.{Gives};
-ghost use Rattle.common.specs.Entry.{room, wide};
+ghost use Rattle.common.specs.Entry.{rows, room, wide};
+ghost use Rattle.common.specs.Lists.{Wrote, Filled};
 ghost use Rattle.common.specs.Refusals.{told};
 ghost use Rattle.cover.specs.Cursor.{Ended};
 ghost use Rattle.cover.specs.Shape.{misshapen};
-ghost use Rattle.feed.specs.Items.{placeOf};
-ghost use Rattle.sheet.specs.Sheet.{sheetOf, Sheeted};
-ghost use Rattle.sheet.specs.Parts.{isAt, Orderly, Hid, Ready, left, Turned, Wrote, Filled};
+ghost use Rattle.feed.specs.Items.{contentStart};
+ghost use Rattle.sheet.specs.Sheet.{five, sheetOf, Sheeted};
+ghost use Rattle.sheet.specs.Parts.{isAt, SortedRows, Hid, left, Ready, TurnedBy};
 
 // Whether an item is hidden, and the cursor's next index.
 struct Query {
@@ -61,11 +62,11 @@ fn is_at(found: Found) -> bool
 
 // Whether a region hides the item. The items come by rising places, so that the cursor's answer is plain coverage.
 fn hides(list: &[u32], count: usize, index: usize, item: SheetItem) -> Query
-    requires { ⌜ Orderly (now list) count ⌝ }
-    requires { ⌜ Ended wide (now list) count index (placeOf item) ⌝ }
-    ensures { λ r. ⌜ Hid (now (list .entry)) count (placeOf item) r ⌝ }
+    requires { ⌜ SortedRows (now list) count ⌝ }
+    requires { ⌜ Ended wide (now list) count index (contentStart item) ⌝ }
+    ensures { λ r. ⌜ Hid (now (list .entry)) count (contentStart item) r ⌝ }
 {
-    let cover = covering_end(list, count, index, place_of(item));
+    let cover = covering_end(list, count, index, content_start(item));
     let found = cover.found;
     Query {
         hidden: is_at(found),
@@ -83,7 +84,7 @@ fn turn(
     count: usize,
 ) -> Step
     requires { ⌜ Ready (now markers) (now delims) (now list) count (now src) w ⌝ }
-    ensures { λ r. ⌜ Turned (now (markers .entry)) (now (delims .entry)) (now (list .entry)) count (now (src .entry)) w r ⌝ }
+    ensures { λ r. ⌜ TurnedBy (now (markers .entry)) (now (delims .entry)) (now (list .entry)) count (now (src .entry)) w r ⌝ }
 {
     let taken = take(w.feed, src, markers, delims);
     let head = taken.head;
@@ -127,7 +128,8 @@ fn count_items(
 ) -> usize
     requires { ⌜ Ready (now markers) (now delims) (now list) count (now src) walk ⌝ }
     ensures { λ r. ⌜
-        Gives (length (left (now (markers .entry)) (now (delims .entry)) (now (list .entry)) count (now (src .entry)) walk)) r
+        Gives (length (left (now (markers .entry)) (now (delims .entry)) (now (src .entry)) (rows wide count (now (list .entry)))
+        (walk .feed))) r
         ⌝ }
 {
     let mut w = walk;
@@ -162,9 +164,9 @@ fn write_items(
     out: &mut [u32],
 ) -> usize
     requires { ⌜ Ready (now markers) (now delims) (now list) count (now src) walk ⌝ }
-    requires { ⌜ length (left (now markers) (now delims) (now list) count (now src) walk) ≤ room 5 (now out) ⌝ }
+    requires { ⌜ length (left (now markers) (now delims) (now src) (rows wide count (now list)) (walk .feed)) ≤ room 5 (now out) ⌝ }
     ensures { λ r. ⌜
-        Wrote (left (now (markers .entry)) (now (delims .entry)) (now (list .entry)) count (now (src .entry)) walk)
+        Wrote five (left (now (markers .entry)) (now (delims .entry)) (now (src .entry)) (rows wide count (now (list .entry))) (walk .feed))
         (now (out .entry)) (now (out .exit)) r
         ⌝ }
 {
@@ -204,7 +206,7 @@ fn fill(
     requires { ⌜ length (now src) ≤ 4294967295 ⌝ }
     requires { ⌜ misshapen (now list) count (length (now src)) ≡ false ⌝ }
     ensures { λ r. ⌜
-        Filled (sheetOf g (now (markers .entry)) (now (delims .entry)) (now (list .entry)) count (now (src .entry)))
+        Filled five 5 (sheetOf g (now (markers .entry)) (now (delims .entry)) (now (list .entry)) count (now (src .entry)))
         (now (out .entry)) (now (out .exit)) (told r)
         ⌝ }
 {

@@ -14,14 +14,14 @@ use Rattle.region.specs.Regions.{nextRegion, regions}
 use Rattle.region.specs.Ahead.{regionTurn-ahead, collect-in-order}
 use Rattle.region.specs.NextLaws.{regionsFrom, from-start, next-none, next-some, next-ahead}
 use Rattle.cover.specs.Cursor.{covers}
-use Rattle.region.specs.Views.{viewNext, placed}
+use Rattle.region.specs.Views.{viewNext, foundRegion}
 use Rattle.region.specs.declared.Region.{Region as Told}
 use Rattle.region.specs.declared.Next.{Next}
 use Rattle.region.specs.declared.Next.the-variants as next
 use Rattle.sheet.specs.Sheet.{inside}
-use Rattle.region.specs.Memory.{Keeps}
+use Rattle.region.specs.Memory.{KeptNext}
 use Rattle.region.specs.MemoryLaws.{Sound, keeps-told, keeps-sound, keeps-ended}
-use Rattle.sheeting.specs.Hiding.{Stands, Passing, Moved}
+use Rattle.sheeting.specs.Hiding.{HidesFrom, PassedOn}
 use Rattle.sheeting.specs.declared.hiding.Hider.{Hider}
 
 -- a region that ends at or before a place
@@ -42,38 +42,43 @@ unfolding inside
 inside-end len p [] w = refl
 inside-end len p (r ∷ l) w = absurd (omega (arith, w .0, w .1, w .2))
 
+-- ---- the loop that moves on: where it stands, with a memory that tells the truth from there
+pub record Passing (g : Gram) (s m : List ℕ) (place : ℕ) (h : Hider) : Type 0 where
+  pub hides : HidesFrom g s place h
+  pub sound : Sound g s m (h .next)
+
 module _ (g : Gram) (s : List ℕ) where
   from-order : (q : ℕ) → q ≤ length s → InOrder q (length s) (regionsFrom g s q)
   unfolding regionsFrom
   from-order q h = collect-in-order (regionTurn-ahead g s) (suc (length s)) q h
 
   -- before all regions, with one that hides nothing
-  pub stands-first : Stands g s 0 (record { start = 0; stop = 0; next = 0 })
-  stands-first = record {
+  pub hides-first : HidesFrom g s 0 (record { start = 0; stop = 0; next = 0 })
+  hides-first = record {
     apart = omega arith;
     here = omega arith;
     same = λ p h. rw (covers-past p 0 0 h) (ap (λ (l : List Caused). inside (map rowOf l) p) (from-start g s));
   }
 
   module _ (place : ℕ) (h : Hider) where
-    pub stands-later : (low : ℕ) → low ≤ place → Stands g s low h → Stands g s place h
-    stands-later low l w = record { apart = w .apart; here = w .here; same = λ p m. w .same p (omega arith) }
+    pub hides-later : (low : ℕ) → low ≤ place → HidesFrom g s low h → HidesFrom g s place h
+    hides-later low l w = record { apart = w .apart; here = w .here; same = λ p m. w .same p (omega arith) }
 
-    pub passing-first : (m : List ℕ) → Stands g s place h → Sound g s m (h .next) → Passing g s m place h
-    passing-first m w v = record { stands = w; sound = v }
+    pub passing-first : (m : List ℕ) → HidesFrom g s place h → Sound g s m (h .next) → Passing g s m place h
+    passing-first m w v = record { hides = w; sound = v }
 
     module _ (m : List ℕ) (v : Passing g s m place h) where
-      w : Stands g s place h
-      w = v .stands
+      w : HidesFrom g s place h
+      w = v .hides
 
       -- it ends after the place, and those behind it start later
-      pub pass-found : place < h .stop → Moved g s m place h
+      pub pass-found : place < h .stop → PassedOn g s m place h
       pass-found l =
           let e : inside (map rowOf (regionsFrom g s (h .next))) place ≡ false = inside-before (h .next) (length s) place (regionsFrom g s (h .next)) (from-order (h .next) (w .here)) (omega (arith, w .apart)) in
-          record { passed = record { stands = w; hidden = w .same place (omega arith) ∙ rw e (or-false (covers place (h .start ∷ h .stop ∷ []))) }; sound = v .sound }
+          record { passed = record { hides = w; hidden = w .same place (omega arith) ∙ rw e (or-false (covers place (h .start ∷ h .stop ∷ []))) }; sound = v .sound }
 
-      module _ (d : Next) (m′ : List ℕ) (kept : Keeps g s m (h .next) d m′) where
-        told : Gives (placed (nextRegion g s (h .next))) (viewNext d)
+      module _ (d : Next) (m′ : List ℕ) (kept : KeptNext g s m (h .next) d m′) where
+        told : Gives (foundRegion (nextRegion g s (h .next))) (viewNext d)
         told = keeps-told g s m (h .next) (w .here) (v .sound) d m′ kept
 
         pub pass-next : (r : Told) (n : ℕ) → d ≡ next.Region r n → h .stop ≤ place → Passing g s m′ place (record { start = r .start; stop = r .end; next = n })
@@ -81,7 +86,7 @@ module _ (g : Gram) (s : List ℕ) where
         pass-next r n e l =
             let a = next-ahead g s (h .next) (w .here) d told r n e in
             record {
-              stands = record {
+              hides = record {
                 apart = a .2 .2;
                 here = a .1;
                 same = λ p k. w .same p k ∙ rw (covers-past p (h .start) (h .stop) (omega arith), next-some g s (h .next) (w .here) d told r n e);
@@ -92,13 +97,13 @@ module _ (g : Gram) (s : List ℕ) where
         pub pass-less : (r : Told) (n : ℕ) → d ≡ next.Region r n → length s - n < length s - h .next
         pass-less r n e = omega (arith, next-ahead g s (h .next) (w .here) d told r n e)
 
-        pub pass-none : d ≡ next.Nothing → Moved g s m′ place (record { start = h .start; stop = h .stop; next = length s })
+        pub pass-none : d ≡ next.Nothing → PassedOn g s m′ place (record { start = h .start; stop = h .stop; next = length s })
         unfolding inside
         pass-none e =
             let none : (p : ℕ) → place ≤ p → inside (map rowOf (regions g s)) p ≡ covers p (h .start ∷ h .stop ∷ []) = λ p k. w .same p k ∙ rw (next-none g s (h .next) (w .here) d told e) (or-false (covers p (h .start ∷ h .stop ∷ []))) in
             record {
               passed = record {
-                stands = record {
+                hides = record {
                   apart = omega (arith, w .apart, w .here);
                   here = omega arith;
                   same = λ p k.

@@ -1,30 +1,24 @@
 -- What the work sheet of a text by its rules answers and writes. Assumes nothing.
 -- The page: "It holds the marker and numbered items, both scanned from place 0, whose content start isn't inside a region", by the
 -- regions of the text's own rules.
-use mathlib.Core.Path.{_≡_}
-use mathlib.Core.Bool.{Bool, _||_}
+use mathlib.Core.Bool.{Bool}
 use mathlib.Core.List.{List, map}
-use Prim.Native.Nat.{ℕ, _+_, _*_, _≤_, _<_}
+use Prim.Native.Nat.{ℕ}
 use lib.ListN.{length}
 use Rattle.common.specs.Entry.{flatten}
-use Rattle.common.specs.Refusals.{differ}
 use Rattle.common.specs.Sets.{setOf}
 use Rattle.common.specs.declared.grammar.Grammar.{Grammar}
 use Rattle.region.specs.Region.{Caused, rowOf}
 use Rattle.rules.specs.Grammar.{Gram}
 use Rattle.region.specs.Regions.{regions}
-use Rattle.cover.specs.Cursor.{Rising}
-use Rattle.feed.specs.Items.{placeOf}
-use Rattle.sheet.specs.Sheet.{five, outside, sheetOf}
-use Rattle.feed.specs.Ahead.{Within, ahead}
-use Rattle.sheet.specs.Parts.{seenThen, Beyond}
+use Rattle.sheet.specs.Sheet.{five, sheetOf}
+use Rattle.sheet.specs.Parts.{left, Onward, Turned}
 use Rattle.feed.specs.declared.item.SheetItem.{SheetItem}
 use Rattle.cells.specs.Bytes.{four}
-use Rattle.cells.specs.Reply.{Laid}
-use Rattle.cells.specs.Poured.{PouredAs, BuiltAs, builtBy}
-use Rattle.cells.specs.ByteRules.{uneven}
+use Rattle.cells.specs.Poured.{ListRuns, PouredAs, BuiltAs, builtBy}
+use Rattle.cells.specs.ByteRules.{ColumnRuns, unevenColumns, columnsIn}
 use Rattle.region.specs.MemoryLaws.{Sound}
-use Rattle.sheeting.specs.Hiding.{Stands}
+use Rattle.sheeting.specs.Hiding.{HidesFrom}
 use Rattle.sheeting.specs.declared.Walk.{Walk}
 use Rattle.sheeting.specs.declared.Step.{Step}
 
@@ -37,40 +31,32 @@ abbrev pub sheetWith : Grammar → List Bool → List Bool → List Caused → L
 sheetWith g markers delims l s = sheetOf g markers delims (flatten rowOf l) (length l) s
 
 -- a sheet that is past the refusals of text and rules
-abbrev pub SheetPoured : List SheetItem → List ℕ → List ℕ → List ℕ → List ℕ → ℕ → Type 0
-SheetPoured l out out′ run run′ r = PouredAs itemBytes 20 l out out′ run run′ r
+abbrev pub SheetPoured : List SheetItem → ListRuns → ListRuns → ℕ → Type 0
+SheetPoured l before after r = PouredAs itemBytes 20 l before after r
 
 -- the promise of the entry, in building's order: the sheet, by the accepted marker and delimiter bytes, with the list of the regions that the
 -- columns build
-abbrev pub SheetBytes : Grammar → List ℕ → List ℕ → List ℕ → List ℕ → List ℕ → List ℕ → List ℕ → List ℕ → List ℕ → List ℕ → List ℕ → List ℕ → List ℕ → List ℕ → ℕ → Type 0
-SheetBytes g f m y t o k n markers delims s out out′ run run′ r =
-    BuiltAs itemBytes 20 (differ f m || uneven y t o k n) (sheetWith g (setOf markers) (setOf delims) (builtBy g f m y t o k n s) s) s out out′ run run′ r
+abbrev pub SheetBytes : Grammar → ColumnRuns → List ℕ → List ℕ → List ℕ → ListRuns → ListRuns → ℕ → Type 0
+SheetBytes g c markers delims s before after r =
+    BuiltAs itemBytes 20 (unevenColumns c) (sheetWith g (setOf markers) (setOf delims) (builtBy g (columnsIn c) s) s) s before after r
 
 -- ---- the parts
--- item n written to its twenty bytes, and the next item's number
-pub record Put (n : ℕ) (i : SheetItem) (out out′ : List ℕ) (r : ℕ) : Type 0 where
-  pub next : r ≡ n + 1
-  pub laid : Laid (n * 20) (itemBytes i) out out′
-
 module _ (g : Gram) (markers delims : List Bool) (s : List ℕ) where
   -- the items ahead that no region of the text hides
-  unfoldable pub left : Walk → List SheetItem
-  left w = outside (map rowOf (regions g s)) (ahead markers delims s (w .feed))
+  abbrev pub leftBy : Walk → List SheetItem
+  leftBy w = left markers delims s (map rowOf (regions g s)) (w .feed)
 
-  -- scanners and a region that may go on: no place ahead is before the last one that was asked for
+  -- scanners and a region that may go on
   pub record Ready (w : Walk) : Type 0 where
-    pub within : Within (w .feed) (length s)
     pub low : ℕ
-    pub stands : Stands g s low (w .hider)
-    pub rising : Rising low (map placeOf (ahead markers delims s (w .feed)))
-    pub few : length (ahead markers delims s (w .feed)) ≤ length s
+    pub onward : Onward markers delims s low (w .feed)
+    pub hides : HidesFrom g s low (w .hider)
 
-  -- what a turn tells of the items left, and that it may go on, with fewer ahead
-  pub record Turned (w : Walk) (t : Step) : Type 0 where
-    pub same : left w ≡ seenThen (t .seen) (left (t .rest))
-    pub goes : Beyond (t .seen) (Ready (t .rest) × (length (ahead markers delims s (t .rest .feed)) < length (ahead markers delims s (w .feed))))
+  -- the same with a memory m that tells the truth from where the scan of regions goes on
+  pub record ReadyBy (m : List ℕ) (w : Walk) : Type 0 where
+    pub ready : Ready w
+    pub sound : Sound g s m (w .hider .next)
 
-  -- the same with a memory that tells the truth from where the scan of regions goes on
-  pub record TurnedBy (m : List ℕ) (w : Walk) (t : Step) : Type 0 where
-    pub turned : Turned w t
-    pub sound : Sound g s m (t .rest .hider .next)
+  -- the promise of a turn, which leaves such a memory
+  abbrev pub TurnedBy : List ℕ → Walk → Step → Type 0
+  TurnedBy m w t = Turned markers delims s (map rowOf (regions g s)) (ReadyBy m (t .rest)) (w .feed) (t .seen) (t .rest .feed)

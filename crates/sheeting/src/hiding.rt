@@ -9,7 +9,7 @@ ghost use Rattle.search.specs.Promise.{Gives};
 ghost use Rattle.cover.specs.Cursor.{covers};
 ghost use Rattle.rules.specs.Rows.{gramBy};
 ghost use Rattle.region.specs.MemoryLaws.{Sound};
-ghost use Rattle.sheeting.specs.Hiding.{Stands, Moved};
+ghost use Rattle.sheeting.specs.Hiding.{HidesFrom, PassedOn};
 
 // The region that may hide the next place, and where the scan goes on after it. One that ends where it starts hides nothing.
 pub(crate) struct Hider {
@@ -30,9 +30,9 @@ pub(crate) fn pass(
     dead: &mut [usize; 256],
 ) -> Hider
     requires { ⌜ Sound (gramBy alphabet (now fences) (now rows)) (now text) (now dead) (hider .next) ⌝ }
-    requires { ⌜ Stands (gramBy alphabet (now fences) (now rows)) (now text) place hider ⌝ }
+    requires { ⌜ HidesFrom (gramBy alphabet (now fences) (now rows)) (now text) place hider ⌝ }
     ensures { λ r. ⌜
-        Moved (gramBy alphabet (now (fences .entry)) (now (rows .entry))) (now (text .entry)) (now (dead .exit)) place r
+        PassedOn (gramBy alphabet (now (fences .entry)) (now (rows .entry))) (now (text .entry)) (now (dead .exit)) place r
         ⌝ }
 {
     let mut h = hider;

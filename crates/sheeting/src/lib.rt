@@ -12,7 +12,7 @@ use common::span::MAX_INPUT_LEN;
 use feed::Feed;
 use feed::Head;
 use feed::item::SheetItem;
-use feed::item::place_of;
+use feed::item::content_start;
 use feed::start;
 use feed::take;
 use hiding::Hider;
@@ -28,10 +28,11 @@ ghost use lib.ListN.{length};
 ghost use Rattle.search.specs.Promise.{Gives};
 ghost use Rattle.common.specs.Sets.{setOf};
 ghost use Rattle.region.specs.Regions.{regions};
-ghost use Rattle.region.specs.MemoryLaws.{Sound};
+ghost use Rattle.common.specs.Lists.{RowPut, Wrote};
 ghost use Rattle.rules.specs.Rows.{gramBy};
-ghost use Rattle.cells.specs.Poured.{grammar, Wrote, builtBy};
-ghost use Rattle.sheeting.specs.Sheeting.{itemBytes, Put, Ready, left, TurnedBy, sheetWith, SheetPoured, SheetBytes};
+ghost use Rattle.cells.specs.Poured.{builtBy};
+ghost use Rattle.cells.specs.ByteRules.{columnsIn};
+ghost use Rattle.sheeting.specs.Sheeting.{itemBytes, leftBy, Ready, ReadyBy, TurnedBy, sheetWith, SheetPoured, SheetBytes};
 
 // Both scanners, and the region that may hide their next item.
 struct Walk {
@@ -55,7 +56,7 @@ fn item_room(len: usize) -> usize
 // Writes item `n` to its twenty bytes, and answers the next item's number.
 fn put_item(out: &mut [u8], n: usize, item: SheetItem) -> usize
     requires { ⌜ n * 20 + 20 ≤ length (now out) ⌝ }
-    ensures { λ r. ⌜ Put n item (now (out .entry)) (now (out .exit)) r ⌝ }
+    ensures { λ r. ⌜ RowPut (itemBytes item) n (now (out .entry)) (now (out .exit)) r ⌝ }
 {
     let all = [
         item.start as usize,
@@ -79,8 +80,7 @@ fn turn(
     rows: &Rows,
     dead: &mut [usize; 256],
 ) -> Step
-    requires { ⌜ Sound (gramBy alphabet (now fences) (now rows)) (now text) (now dead) (w .hider .next) ⌝ }
-    requires { ⌜ Ready (gramBy alphabet (now fences) (now rows)) (now markers) (now delims) (now text) w ⌝ }
+    requires { ⌜ ReadyBy (gramBy alphabet (now fences) (now rows)) (now markers) (now delims) (now text) (now dead) w ⌝ }
     ensures { λ r. ⌜
         TurnedBy (gramBy alphabet (now (fences .entry)) (now (rows .entry))) (now (markers .entry)) (now (delims .entry))
         (now (text .entry)) (now (dead .exit)) w r
@@ -99,7 +99,7 @@ fn turn(
             },
         },
         Head::Item(i) => {
-            let place = place_of(i);
+            let place = content_start(i);
             let hider = pass(before, place, text, alphabet, fences, rows, dead);
             let rest = Walk { feed, hider };
             if hides(hider, place) {
@@ -128,7 +128,7 @@ fn count_items(
 ) -> usize
     requires { ⌜ Ready (gramBy alphabet (now fences) (now rows)) (now markers) (now delims) (now text) walk ⌝ }
     ensures { λ r. ⌜
-        Gives (length (left (gramBy alphabet (now (fences .entry)) (now (rows .entry))) (now (markers .entry))
+        Gives (length (leftBy (gramBy alphabet (now (fences .entry)) (now (rows .entry))) (now (markers .entry))
         (now (delims .entry)) (now (text .entry)) walk)) r
         ⌝ }
 {
@@ -167,10 +167,10 @@ fn write_items(
 ) -> usize
     requires { ⌜ Ready (gramBy alphabet (now fences) (now rows)) (now markers) (now delims) (now text) walk ⌝ }
     requires { ⌜
-        length (left (gramBy alphabet (now fences) (now rows)) (now markers) (now delims) (now text) walk) ≤ length (now out) / 20
+        length (leftBy (gramBy alphabet (now fences) (now rows)) (now markers) (now delims) (now text) walk) ≤ length (now out) / 20
         ⌝ }
     ensures { λ r. ⌜
-        Wrote itemBytes (left (gramBy alphabet (now (fences .entry)) (now (rows .entry))) (now (markers .entry))
+        Wrote itemBytes (leftBy (gramBy alphabet (now (fences .entry)) (now (rows .entry))) (now (markers .entry))
         (now (delims .entry)) (now (text .entry)) walk) (now (out .entry)) (now (out .exit)) r
         ⌝ }
 {
@@ -210,7 +210,7 @@ fn fits(
 ) -> bool
     requires { ⌜ Ready (gramBy alphabet (now fences) (now rows)) (now markers) (now delims) (now text) walk ⌝ }
     ensures { λ r. ⌜
-        Gives (leb (length (left (gramBy alphabet (now (fences .entry)) (now (rows .entry))) (now (markers .entry))
+        Gives (leb (length (leftBy (gramBy alphabet (now (fences .entry)) (now (rows .entry))) (now (markers .entry))
         (now (delims .entry)) (now (text .entry)) walk)) (len / 20)) r
         ⌝ }
 {
@@ -236,8 +236,9 @@ fn pour_sheet(
     requires { ⌜ length (now text) ≤ 4294967295 ⌝ }
     ensures { λ r. ⌜
         SheetPoured (sheetWith (alphabet .grammar) (now (markers .entry)) (now (delims .entry)) (regions
-        (gramBy alphabet (now (fences .entry)) (now (rows .entry))) (now (text .entry))) (now (text .entry))) (now (out .entry))
-        (now (out .exit)) (now (answer .entry)) (now (answer .exit)) r
+        (gramBy alphabet (now (fences .entry)) (now (rows .entry))) (now (text .entry))) (now (text .entry)))
+        (record { list = now (out .entry); answer = now (answer .entry) })
+        (record { list = now (out .exit); answer = now (answer .exit) }) r
         ⌝ }
 {
     let walk = Walk {
@@ -286,10 +287,21 @@ fn by_columns(
 ) -> u32
     requires { ⌜ length (now text) ≤ 4294967295 ⌝ }
     ensures { λ r. ⌜
-        SheetPoured (sheetWith g (setOf (now (markers .entry))) (setOf (now (delims .entry))) (builtBy g (now (fences .entry))
-        (now (mins .entry)) (now (symmetric .entry)) (now (times .entry)) (now (openers .entry)) (now (closers .entry))
-        (now (counts .entry)) (now (text .entry))) (now (text .entry))) (now (out .entry)) (now (out .exit)) (now (answer .entry))
-        (now (answer .exit)) r
+        SheetPoured (sheetWith g (setOf (now (markers .entry))) (setOf (now (delims .entry))) (builtBy g
+        (columnsIn (record {
+          fenceBytes = now (fences .entry);
+          fenceMins = now (mins .entry);
+          inline = record {
+            symBytes = now (symmetric .entry);
+            symCounts = now (times .entry);
+            openers = now (openers .entry);
+            closers = now (closers .entry);
+            openCounts = now (counts .entry);
+          };
+        }))
+        (now (text .entry))) (now (text .entry)))
+        (record { list = now (out .entry); answer = now (answer .entry) })
+        (record { list = now (out .exit); answer = now (answer .exit) }) r
         ⌝ }
 {
     let alphabet = Alphabet::of(g, fences, symmetric, openers);
@@ -331,10 +343,21 @@ pub fn sheet_columns(
     answer: &mut [u8],
 ) -> u32
     ensures { λ r. ⌜
-        SheetBytes (grammar eol escape sep tab) (now (fences .entry)) (now (mins .entry)) (now (symmetric .entry))
-        (now (times .entry)) (now (openers .entry)) (now (closers .entry)) (now (counts .entry)) (now (markers .entry))
-        (now (delims .entry)) (now (text .entry)) (now (out .entry)) (now (out .exit)) (now (answer .entry)) (now (answer .exit))
-        r
+        SheetBytes (record { eol = eol; escape = escape; sep = sep; tab = tab })
+        (record {
+          fenceBytes = now (fences .entry);
+          fenceMins = now (mins .entry);
+          inline = record {
+            symBytes = now (symmetric .entry);
+            symCounts = now (times .entry);
+            openers = now (openers .entry);
+            closers = now (closers .entry);
+            openCounts = now (counts .entry);
+          };
+        })
+        (now (markers .entry)) (now (delims .entry)) (now (text .entry))
+        (record { list = now (out .entry); answer = now (answer .entry) })
+        (record { list = now (out .exit); answer = now (answer .exit) }) r
         ⌝ }
 {
     if text.len() > MAX_INPUT_LEN {

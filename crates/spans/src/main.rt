@@ -1,4 +1,5 @@
-// Prints the listing of standard input.
+// Prints the listing of standard input, by the house grammar: a line for each region, fence, frame, item and item of the work sheet.
+// docs/PROMISES.md, `listing`, says what the numbers of a line are.
 use common::refusal::Answer;
 use libc::STDIN_FILENO;
 use libc::STDOUT_FILENO;

@@ -6,7 +6,7 @@ use mathlib.Core.List.{List, []}
 use Prim.Native.Nat.{ℕ, zero, suc, _+_}
 use lib.Dec.{eqb, ltb, leb}
 use lib.ListN.{length, getD, set, replicate}
-use Rattle.stored.specs.Parts.{between, afterList, listIn, front, every, areBytes}
+use Rattle.stored.specs.Parts.{numbersBetween, afterList, listIn, front, every, areBytes}
 use Rattle.stored.specs.declared.form.Form.{Form}
 use Rattle.stored.specs.declared.form.Question.{Question}
 use Rattle.stored.specs.declared.form.Way.{Way}
@@ -36,12 +36,12 @@ smallOf l = cond (isCapital l) (l + 32) l
 unfoldable pub nextEnd : Form → List ℕ → ℕ → ℕ → ℕ
 nextEnd f asked a i = cond (ltb i (f .lists) || eqb i 7) (afterList asked a) a
 
-unfoldable pub endAt : Form → List ℕ → ℕ → ℕ
-endAt f asked zero = f .singles
-endAt f asked (suc i) = nextEnd f asked (endAt f asked i) i
+unfoldable pub listEnd : Form → List ℕ → ℕ → ℕ
+listEnd f asked zero = f .singles
+listEnd f asked (suc i) = nextEnd f asked (listEnd f asked i) i
 
 abbrev pub endsOf : Form → List ℕ → List ℕ
-endsOf f asked = front (endAt f asked) 9 9
+endsOf f asked = front (listEnd f asked) 9 9
 
 abbrev pub questionOf : Form → ℕ → ℕ → List ℕ → Question
 questionOf f section letter asked = record { section = section; letter = smallOf letter; places = f .places; at = endsOf f asked }
@@ -51,7 +51,7 @@ unfoldable pub partOf : Question → List ℕ → ℕ → List ℕ
 partOf q s i = cond (leb i 7) (listIn s (getD (q .at) i 0) (getD (q .at) (i + 1) 0)) []
 
 abbrev pub restOf : Question → List ℕ → List ℕ
-restOf q s = between s (getD (q .at) 8 0) (length s)
+restOf q s = numbersBetween s (getD (q .at) 8 0) (length s)
 
 -- ---- whether numbers are bytes where bytes are meant
 unfoldable pub listSound : Form → List ℕ → Question → ℕ → Bool
@@ -61,7 +61,7 @@ abbrev pub listsSound : Form → List ℕ → Question → Bool
 listsSound f asked q = every (listSound f asked q) 7
 
 unfoldable pub isSound : Form → List ℕ → Question → Bool → Bool
-isSound f asked q runs = not (eqb (f .places) 4) && (areBytes (between asked (f .wide) (f .singles)) false && (areBytes (partOf q asked 7) runs && listsSound f asked q))
+isSound f asked q runs = not (eqb (f .places) 4) && (areBytes (numbersBetween asked (f .wide) (f .singles)) false && (areBytes (partOf q asked 7) runs && listsSound f asked q))
 
 -- ---- how the texts are given
 -- how many numbers stand behind the text: a place; "the length n"; with a star also "a seed and how many texts there are"

@@ -8,9 +8,9 @@ use lib.Dec.{leb}
 use lib.ListN.{length, getD, set, replicate}
 use borrow.Author.Tests.{eq-eqb, ne-eqb, lt-ltb, le-ltb, le-leb, lt-leb}
 use Rattle.search.specs.Promise.{Gives}
-use Rattle.stored.specs.Parts.{between, afterList, listIn, areBytes}
-use Rattle.stored.specs.PartLaws.{Fronts, fronts-first, fronts-again, fronts-all, Holds, holds-again, holds-not}
-use Rattle.stored.specs.Form.{freed, nextEnd, endAt, endsOf, partOf, restOf, listSound, listsSound, isSound, behindText, isCapital, smallOf, wayBy, wayOf}
+use Rattle.stored.specs.Parts.{numbersBetween, afterList, listIn, areBytes}
+use Rattle.stored.specs.PartLaws.{Fronts, fronts-first, fronts-again, fronts-all, HoldsTo, holds-again, holds-not}
+use Rattle.stored.specs.Form.{freed, nextEnd, listEnd, endsOf, partOf, restOf, listSound, listsSound, isSound, behindText, isCapital, smallOf, wayBy, wayOf}
 use Rattle.stored.specs.declared.form.Form.{Form}
 use Rattle.stored.specs.declared.form.Question.{Question}
 use Rattle.stored.specs.declared.form.Way.{Way}
@@ -107,22 +107,22 @@ module _ (f : Form) where
 
     -- a loop that has found the first i ends
     pub record Parting (l : List ℕ) (end i : ℕ) : Type 0 where
-      pub written : Fronts (endAt f asked) 9 9 l i
-      pub here : end ≡ endAt f asked i
+      pub written : Fronts (listEnd f asked) 9 9 l i
+      pub here : end ≡ listEnd f asked i
 
     pub parting-first : Parting (replicate 9 0) (f .singles) 0
-    unfolding endAt
-    parting-first = record { written = fronts-first (endAt f asked) 9 9; here = refl }
+    unfolding listEnd
+    parting-first = record { written = fronts-first (listEnd f asked) 9 9; here = refl }
 
     pub parting-again : (l : List ℕ) (end i next : ℕ) → i < 9 → Gives (nextEnd f asked end i) next → Parting l end i → Parting (set l i end) next (i + 1)
-    unfolding endAt
+    unfolding listEnd
     parting-again l end i next h g w = record {
-      written = fronts-again (endAt f asked) 9 9 l i end h h (record { answer = w .here }) (w .written);
+      written = fronts-again (listEnd f asked) 9 9 l i end h h (record { answer = w .here }) (w .written);
       here = g .answer ∙ ap (λ (a : ℕ). nextEnd f asked a i) (w .here) ∙ rw add-one;
     }
 
     pub parting-all : (l : List ℕ) (end i : ℕ) → 9 ≤ i → Parting l end i → l ≡ endsOf f asked
-    parting-all l end i h w = fronts-all (endAt f asked) 9 9 l i h (w .written)
+    parting-all l end i h w = fronts-all (listEnd f asked) 9 9 l i h (w .written)
 
     -- whether its numbers are bytes
     module _ (q : Question) where
@@ -140,7 +140,7 @@ module _ (f : Form) where
         sound-bytes l y h k gl g = simp (lt-leb 7 i h, k, g .answer, gl .answer)
 
         module _ (y : Bool) (g : Gives (listSound f asked q i) y) where
-          pub lists-again : y ≡ true → i < 7 → Holds (listSound f asked q) 7 i → Holds (listSound f asked q) 7 (i + 1)
+          pub lists-again : y ≡ true → i < 7 → HoldsTo (listSound f asked q) 7 i → HoldsTo (listSound f asked q) 7 (i + 1)
           lists-again d h w = holds-again (listSound f asked q) 7 i h (sym (g .answer) ∙ d) w
 
           pub lists-not : y ≡ false → i < 7 → false ≡ listsSound f asked q
@@ -151,7 +151,7 @@ module _ (f : Form) where
         unfolding isSound
         sound-unknown d = simp (eq-eqb (f .places) 4 d)
 
-        module _ (s : List ℕ) (y : Bool) (gs : Gives (between asked (f .wide) (f .singles)) s) (gy : Gives (areBytes s false) y) where
+        module _ (s : List ℕ) (y : Bool) (gs : Gives (numbersBetween asked (f .wide) (f .singles)) s) (gy : Gives (areBytes s false) y) where
           pub sound-singles : y ≡ false → false ≡ isSound f asked q runs
           unfolding isSound
           sound-singles d = simp (← (gs .answer), ← (gy .answer), d, and-false)

@@ -8,8 +8,8 @@ use lib.Dec.{eqb, leb}
 use lib.ListN.{getD}
 use Rattle.search.specs.Search.{is, holds}
 use Rattle.stored.specs.Fold.{fold}
-use Rattle.stored.specs.Numbers.{noNumbers, said}
-use Rattle.stored.specs.Parts.{between, same}
+use Rattle.stored.specs.Numbers.{noNumbers, withNumber}
+use Rattle.stored.specs.Parts.{numbersBetween, same}
 use Rattle.stored.specs.declared.numbers.Numbers.{Numbers}
 use Rattle.stored.specs.declared.line.Line.{Line}
 use Rattle.stored.specs.declared.line.Reading.{Reading}
@@ -25,13 +25,13 @@ unfoldable pub withDigit : Reading → ℕ → Reading
 withDigit r d = record { numbers = r .numbers; asked = r .asked; equals = r .equals; value = cond (leb 4294967296 (r .value)) (r .value) (r .value * 10 + d); inside = true }
 
 -- a number that is too large finds no room
-abbrev pub overfull : Numbers → Numbers
-overfull n = record { cells = n .cells; count = n .count; over = true; cut = n .cut; sums = n .sums }
+abbrev pub spilled : Numbers → Numbers
+spilled n = record { cells = n .cells; count = n .count; over = true; cut = n .cut; sums = n .sums }
 
 -- "all that isn't a digit parts them"
 unfoldable pub partedOff : Reading → Reading
 partedOff r = cond (r .inside)
-    (record { numbers = cond (leb 4294967296 (r .value)) (overfull (r .numbers)) (said (r .numbers) (r .value)); asked = r .asked; equals = r .equals; value = 0; inside = false })
+    (record { numbers = cond (leb 4294967296 (r .value)) (spilled (r .numbers)) (withNumber (r .numbers) (r .value)); asked = r .asked; equals = r .equals; value = 0; inside = false })
     r
 
 -- "Numbers before the equals sign ask"
@@ -39,11 +39,11 @@ unfoldable pub withEquals : Reading → Reading
 withEquals r = record { numbers = r .numbers; asked = r .numbers .count; equals = cond (leb 2 (r .equals)) (r .equals) (r .equals + 1); value = r .value; inside = r .inside }
 
 -- the next byte: a digit, the equals sign, or another
-unfoldable pub withByte : Reading → ℕ → Reading
-withByte r b = cond (leb 48 b && leb b 57) (withDigit r (b - 48)) (cond (eqb b 61) (withEquals (partedOff r)) (partedOff r))
+unfoldable pub afterByte : Reading → ℕ → Reading
+afterByte r b = cond (leb 48 b && leb b 57) (withDigit r (b - 48)) (cond (eqb b 61) (withEquals (partedOff r)) (partedOff r))
 
 abbrev pub readAll : List ℕ → Reading
-readAll t = partedOff (fold withByte nothingRead t)
+readAll t = partedOff (fold afterByte nothingRead t)
 
 -- "A line is one letter and decimal numbers", and a star may follow the letter
 unfoldable pub lineOf : List ℕ → Line
@@ -58,4 +58,4 @@ kindOf l = cond (eqb (l .letter) 35) Comment (cond (l .numbers .over) Broken (co
 
 -- whether the numbers that answer are those of a reply
 unfoldable pub isStored : Line → Numbers → Bool
-isStored l n = not (n .over) && same (between (n .cells) 0 (n .count)) (between (l .numbers .cells) (l .asked) (l .numbers .count))
+isStored l n = not (n .over) && same (numbersBetween (n .cells) 0 (n .count)) (numbersBetween (l .numbers .cells) (l .asked) (l .numbers .count))

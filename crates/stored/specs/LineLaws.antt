@@ -10,9 +10,9 @@ use Rattle.search.specs.Promise.{Gives}
 use Rattle.search.specs.Search.{is, holds}
 use Rattle.stored.specs.Fold.{fold}
 use Rattle.stored.specs.FoldLaws.{Folds, folds-all}
-use Rattle.stored.specs.Numbers.{said}
-use Rattle.stored.specs.Parts.{between, same}
-use Rattle.stored.specs.Line.{nothingRead, withDigit, overfull, partedOff, withEquals, withByte, lineOf, headOf, kindOf, isStored}
+use Rattle.stored.specs.Numbers.{withNumber}
+use Rattle.stored.specs.Parts.{numbersBetween, same}
+use Rattle.stored.specs.Line.{nothingRead, withDigit, spilled, partedOff, withEquals, afterByte, lineOf, headOf, kindOf, isStored}
 use Rattle.stored.specs.declared.numbers.Numbers.{Numbers}
 use Rattle.stored.specs.declared.line.Line.{Line}
 use Rattle.stored.specs.declared.line.Reading.{Reading}
@@ -31,11 +31,11 @@ module _ (r : Reading) where
   digit-more d h = simp (lt-leb 4294967296 (r .value) h)
 
   pub parted-large : r .inside ≡ true → 4294967296 ≤ r .value
-      → record { numbers = overfull (r .numbers); asked = r .asked; equals = r .equals; value = 0; inside = false } ≡ partedOff r
+      → record { numbers = spilled (r .numbers); asked = r .asked; equals = r .equals; value = 0; inside = false } ≡ partedOff r
   unfolding partedOff
   parted-large e h = simp (e, le-leb 4294967296 (r .value) h)
 
-  pub parted-kept : (n : Numbers) → r .inside ≡ true → r .value < 4294967296 → Gives (said (r .numbers) (r .value)) n
+  pub parted-kept : (n : Numbers) → r .inside ≡ true → r .value < 4294967296 → Gives (withNumber (r .numbers) (r .value)) n
       → record { numbers = n; asked = r .asked; equals = r .equals; value = 0; inside = false } ≡ partedOff r
   unfolding partedOff
   parted-kept n e h g = simp (e, lt-leb 4294967296 (r .value) h, g .answer)
@@ -53,29 +53,29 @@ module _ (r : Reading) where
   equals-more h = simp (lt-leb 2 (r .equals) h)
 
   module _ (b : ℕ) where
-    pub byte-digit : (s : Reading) → 48 ≤ b → b ≤ 57 → Gives (withDigit r (b - 48)) s → s ≡ withByte r b
-    unfolding withByte
+    pub byte-digit : (s : Reading) → 48 ≤ b → b ≤ 57 → Gives (withDigit r (b - 48)) s → s ≡ afterByte r b
+    unfolding afterByte
     byte-digit s h k g = simp (le-leb 48 b h, le-leb b 57 k, g .answer)
 
     module _ (p : Reading) (g : Gives (partedOff r) p) where
-      pub byte-low : b < 48 → p ≡ withByte r b
-      unfolding withByte
+      pub byte-low : b < 48 → p ≡ afterByte r b
+      unfolding afterByte
       byte-low h = simp (lt-leb 48 b h, ne-eqb b 61 (λ d. omega (arith, d)), g .answer)
 
-      pub byte-equals : (s : Reading) → 57 < b → b ≡ 61 → Gives (withEquals p) s → s ≡ withByte r b
-      unfolding withByte
+      pub byte-equals : (s : Reading) → 57 < b → b ≡ 61 → Gives (withEquals p) s → s ≡ afterByte r b
+      unfolding afterByte
       byte-equals s h e k = simp (lt-leb b 57 h, and-false, eq-eqb b 61 e, k .answer, g .answer)
 
-      pub byte-high : 57 < b → (b ≡ 61 → ⊥) → p ≡ withByte r b
-      unfolding withByte
+      pub byte-high : 57 < b → (b ≡ 61 → ⊥) → p ≡ afterByte r b
+      unfolding afterByte
       byte-high h e = simp (lt-leb b 57 h, and-false, ne-eqb b 61 e, g .answer)
 
 -- ---- the whole line
-pub line-read : (t : List ℕ) (a r : Reading) (i : ℕ) (p : Reading) (x : ℕ) (y : Bool) → length t ≤ i → Gives nothingRead a → Folds withByte a t r i → Gives (partedOff r) p
+pub line-read : (t : List ℕ) (a r : Reading) (i : ℕ) (p : Reading) (x : ℕ) (y : Bool) → length t ≤ i → Gives nothingRead a → Folds afterByte a t r i → Gives (partedOff r) p
     → Gives (getD t 0 0) x → Gives (holds (is 42) t 1) y → record { letter = x; starred = y; numbers = p .numbers; asked = p .asked; equals = p .equals } ≡ lineOf t
 unfolding lineOf
 line-read t a r i p x y h ga w gp gx gy =
-    let z : p ≡ partedOff (fold withByte nothingRead t) = gp .answer ∙ ap partedOff (folds-all withByte a t r i h w ∙ ap (λ (q : Reading). fold withByte q t) (ga .answer)) in
+    let z : p ≡ partedOff (fold afterByte nothingRead t) = gp .answer ∙ ap partedOff (folds-all afterByte a t r i h w ∙ ap (λ (q : Reading). fold afterByte q t) (ga .answer)) in
     simp (z, gx .answer, gy .answer)
 
 -- ---- what a line is
@@ -121,7 +121,7 @@ module _ (l : Line) (n : Numbers) where
   unfolding isStored
   stores-over e = simp e
 
-  pub stores-same : (a b : List ℕ) (y : Bool) → n .over ≡ false → Gives (between (n .cells) 0 (n .count)) a → Gives (between (l .numbers .cells) (l .asked) (l .numbers .count)) b → Gives (same a b) y
+  pub stores-same : (a b : List ℕ) (y : Bool) → n .over ≡ false → Gives (numbersBetween (n .cells) 0 (n .count)) a → Gives (numbersBetween (l .numbers .cells) (l .asked) (l .numbers .count)) b → Gives (same a b) y
       → y ≡ isStored l n
   unfolding isStored
   stores-same a b y e ga gb g = simp (e, g .answer, ga .answer, gb .answer)

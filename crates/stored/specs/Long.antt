@@ -17,13 +17,13 @@ abbrev pub noText : Long
 noText = record { bytes = replicate 8200 0; size = 0 }
 
 -- one byte more, where there is room for it
-unfoldable pub withByte : Long → ℕ → Long
-withByte t b = cond (leb 8200 (t .size)) t (record { bytes = set (t .bytes) (t .size) b; size = t .size + 1 })
+unfoldable pub longWithByte : Long → ℕ → Long
+longWithByte t b = cond (leb 8200 (t .size)) t (record { bytes = set (t .bytes) (t .size) b; size = t .size + 1 })
 
 -- "a byte and how often it stands there"
 unfoldable pub withRun : Long → ℕ → ℕ → Long
 withRun t b zero = t
-withRun t b (suc n) = withRun (withByte t b) b n
+withRun t b (suc n) = withRun (longWithByte t b) b n
 
 -- "for each a byte and how often it stands there"; a last byte alone stands there never
 unfoldable pub inRuns : Long → List ℕ → Long

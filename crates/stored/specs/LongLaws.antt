@@ -15,17 +15,17 @@ use Rattle.search.specs.Promise.{Gives}
 use Rattle.search.specs.SearchLaws.{decide, past-end}
 use Rattle.stored.specs.Parts.{front, byteAt}
 use Rattle.stored.specs.PartLaws.{Fronts, fronts-first, fronts-again, fronts-all}
-use Rattle.stored.specs.Long.{noText, withByte, withRun, inRuns, nextDraw, drawAfter, drawnByte, drawnAt, drawnText}
+use Rattle.stored.specs.Long.{noText, longWithByte, withRun, inRuns, nextDraw, drawAfter, drawnByte, drawnAt, drawnText}
 use Rattle.stored.specs.declared.long.Long.{Long}
 
 -- ---- one byte more
 module _ (t : Long) (b : ℕ) where
-  pub byte-lost : 8200 ≤ t .size → t ≡ withByte t b
-  unfolding withByte
+  pub byte-lost : 8200 ≤ t .size → t ≡ longWithByte t b
+  unfolding longWithByte
   byte-lost h = simp (le-leb 8200 (t .size) h)
 
-  pub byte-kept : t .size < 8200 → record { bytes = set (t .bytes) (t .size) b; size = t .size + 1 } ≡ withByte t b
-  unfolding withByte
+  pub byte-kept : t .size < 8200 → record { bytes = set (t .bytes) (t .size) b; size = t .size + 1 } ≡ longWithByte t b
+  unfolding longWithByte
   byte-kept h = simp (lt-leb 8200 (t .size) h)
 
 -- ---- a run: a loop that has so many bytes left
@@ -36,7 +36,7 @@ module _ (t : Long) (b n : ℕ) where
   pub runs-first : Runs t b n t n
   runs-first = record { same = refl }
 
-  pub runs-again : (now : Long) (left : ℕ) (more : Long) → 0 < left → Gives (withByte now b) more → Runs t b n now left → Runs t b n more (left - 1)
+  pub runs-again : (now : Long) (left : ℕ) (more : Long) → 0 < left → Gives (longWithByte now b) more → Runs t b n now left → Runs t b n more (left - 1)
   unfolding withRun
   runs-again now left more h g w = record { same = w .same ∙ by left h }
     where

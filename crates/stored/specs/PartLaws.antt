@@ -15,24 +15,24 @@ use Rattle.search.specs.Promise.{Gives}
 use Rattle.search.specs.SearchLaws.{decide}
 use Rattle.common.specs.Rules.{tabulate}
 use Rattle.common.specs.TableLaws.{length-tabulate, tabulate-at}
-use Rattle.stored.specs.Parts.{between, afterList, front, every, isSecond, isByte, equalAt, same}
+use Rattle.stored.specs.Parts.{numbersBetween, afterList, front, every, isSecond, isByte, equalAt, same}
 
 -- ---- stretches
 module _ (s : List ℕ) (a e : ℕ) where
-  pub between-in : a ≤ e → e ≤ length s → take (e - a) (drop a s) ≡ between s a e
-  unfolding between
+  pub between-in : a ≤ e → e ≤ length s → take (e - a) (drop a s) ≡ numbersBetween s a e
+  unfolding numbersBetween
   between-in h k = simp (le-leb a e h, le-leb e (length s) k)
 
-  pub between-turned : e < a → [] ≡ between s a e
-  unfolding between
+  pub between-turned : e < a → [] ≡ numbersBetween s a e
+  unfolding numbersBetween
   between-turned h = simp (lt-leb a e h)
 
-  pub between-past : length s < e → [] ≡ between s a e
-  unfolding between
+  pub between-past : length s < e → [] ≡ numbersBetween s a e
+  unfolding numbersBetween
   between-past h = simp (lt-leb e (length s) h, and-false)
 
-  pub list-none : e ≤ a → [] ≡ between s (a + 1) e
-  unfolding between
+  pub list-none : e ≤ a → [] ≡ numbersBetween s (a + 1) e
+  unfolding numbersBetween
   list-none h = simp (lt-leb (a + 1) e (omega arith))
 
 -- ---- where a list ends
@@ -85,20 +85,20 @@ module _ (f : ℕ → ℕ) (e n : ℕ) where
       t k = cond (ltb k e) (f k) 0
 
 -- ---- a loop that has found a test to hold for all numbers below i, of n
-pub record Holds (t : ℕ → Bool) (n i : ℕ) : Type 0 where
+pub record HoldsTo (t : ℕ → Bool) (n i : ℕ) : Type 0 where
   pub below : every t i ≡ true
   pub within : i ≤ n
 
 module _ (t : ℕ → Bool) (n : ℕ) where
-  pub holds-first : Holds t n 0
+  pub holds-first : HoldsTo t n 0
   unfolding every
   holds-first = record { below = refl; within = omega arith }
 
-  pub holds-again : (i : ℕ) → i < n → t i ≡ true → Holds t n i → Holds t n (i + 1)
+  pub holds-again : (i : ℕ) → i < n → t i ≡ true → HoldsTo t n i → HoldsTo t n (i + 1)
   unfolding every
   holds-again i h e w = record { below = rw (add-one, every) (rw (w .below, e)); within = omega arith }
 
-  pub holds-all : (i : ℕ) → n ≤ i → Holds t n i → true ≡ every t n
+  pub holds-all : (i : ℕ) → n ≤ i → HoldsTo t n i → true ≡ every t n
   holds-all i h w = let z : i ≡ n = omega (arith, w .within) in sym (rw z at (w .below))
 
   pub holds-not : (i : ℕ) → i < n → t i ≡ false → false ≡ every t n
@@ -130,7 +130,7 @@ module _ (pairs : Bool) (k : ℕ) where
 
 -- a loop's test of one of them
 module _ (s : List ℕ) (pairs : Bool) (i : ℕ) (y : Bool) (g : Gives (isByte s pairs i) y) where
-  pub bytes-again : y ≡ true → i < length s → Holds (isByte s pairs) (length s) i → Holds (isByte s pairs) (length s) (i + 1)
+  pub bytes-again : y ≡ true → i < length s → HoldsTo (isByte s pairs) (length s) i → HoldsTo (isByte s pairs) (length s) (i + 1)
   bytes-again e h w = holds-again (isByte s pairs) (length s) i h (sym (g .answer) ∙ e) w
 
   pub bytes-not : y ≡ false → i < length s → false ≡ every (isByte s pairs) (length s)
@@ -143,7 +143,7 @@ module _ (a b : List ℕ) where
   same-length h = simp (ne-eqb (length a) (length b) h)
 
   module _ (i : ℕ) (e : length a ≡ length b) where
-    pub same-again : getD a i 0 ≡ getD b i 0 → i < length a → Holds (equalAt a b) (length a) i → Holds (equalAt a b) (length a) (i + 1)
+    pub same-again : getD a i 0 ≡ getD b i 0 → i < length a → HoldsTo (equalAt a b) (length a) i → HoldsTo (equalAt a b) (length a) (i + 1)
     unfolding equalAt
     same-again d h w = holds-again (equalAt a b) (length a) i h (eq-eqb (getD a i 0) (getD b i 0) d) w
 
@@ -151,6 +151,6 @@ module _ (a b : List ℕ) where
     unfolding same equalAt
     same-not d h = holds-not (equalAt a b) (length a) i h (ne-eqb (getD a i 0) (getD b i 0) d) ∙ sym (rw (eq-eqb (length a) (length b) e))
 
-    pub same-all : length a ≤ i → Holds (equalAt a b) (length a) i → true ≡ same a b
+    pub same-all : length a ≤ i → HoldsTo (equalAt a b) (length a) i → true ≡ same a b
     unfolding same
     same-all h w = holds-all (equalAt a b) (length a) i h w ∙ sym (rw (eq-eqb (length a) (length b) e))

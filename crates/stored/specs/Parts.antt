@@ -8,8 +8,8 @@ use lib.ListN.{length, getD, take, drop}
 use Rattle.common.specs.Rules.{tabulate}
 
 -- the numbers from place a up to, not including, place e; none where these aren't bounds
-unfoldable pub between : List ℕ → ℕ → ℕ → List ℕ
-between s a e = cond (leb a e && leb e (length s)) (take (e - a) (drop a s)) []
+unfoldable pub numbersBetween : List ℕ → ℕ → ℕ → List ℕ
+numbersBetween s a e = cond (leb a e && leb e (length s)) (take (e - a) (drop a s)) []
 
 -- where the list ends whose count stands at a: behind so many numbers, or at the run's end
 unfoldable pub afterList : List ℕ → ℕ → ℕ
@@ -17,7 +17,7 @@ afterList s a = cond (ltb a (length s) && ltb (getD s a 0) (length s - a)) (a + 
 
 -- the numbers of the list whose count stands at a and which ends at e
 abbrev pub listIn : List ℕ → ℕ → ℕ → List ℕ
-listIn s a e = between s (a + 1) e
+listIn s a e = numbersBetween s (a + 1) e
 
 -- a number as a byte
 abbrev pub byteAt : List ℕ → ℕ → ℕ

@@ -12,7 +12,7 @@ use Rattle.search.specs.Promise.{Gives}
 use borrow.Author.Tests.{ne-eqb}
 use Rattle.stored.specs.Fold.{fold}
 use Rattle.stored.specs.FoldLaws.{Folds, folds-all}
-use Rattle.stored.specs.Sums.{numberOf, fed, fedText, fedQuestion, fedAnswer}
+use Rattle.stored.specs.Sums.{clipped, fed, fedText, fedQuestion, fedAnswer}
 use Rattle.stored.specs.declared.sums.Sums.{Sums}
 
 -- the product of two numbers of 32 bits
@@ -32,7 +32,7 @@ module _ (s : Sums) (x : ℕ) (cut : Bool) where
 
 -- ---- a question
 module _ (s : Sums) (t : List ℕ) where
-  pub text-fed : (n : ℕ) (a r : Sums) (i : ℕ) → length t ≤ i → Gives (numberOf (length t)) n → Gives (fed s n) a → Folds fed a t r i → r ≡ fedText s t
+  pub text-fed : (n : ℕ) (a r : Sums) (i : ℕ) → length t ≤ i → Gives (clipped (length t)) n → Gives (fed s n) a → Folds fed a t r i → r ≡ fedText s t
   unfolding fedText
   text-fed n a r i h g k w = folds-all fed a t r i h w ∙ ap (λ (z : Sums). fold fed z t) (k .answer ∙ ap (fed s) (g .answer))
 
@@ -41,6 +41,6 @@ module _ (s : Sums) (t : List ℕ) where
     unfolding fedQuestion
     question-whole e = simp (e, w .answer)
 
-    pub question-placed : (n : ℕ) (r : Sums) → (places ≡ 0 → ⊥) → Gives (numberOf p) n → Gives (fed a n) r → r ≡ fedQuestion s t places p
+    pub question-placed : (n : ℕ) (r : Sums) → (places ≡ 0 → ⊥) → Gives (clipped p) n → Gives (fed a n) r → r ≡ fedQuestion s t places p
     unfolding fedQuestion
     question-placed n r e g k = simp (k .answer, g .answer, w .answer, ne-eqb places 0 e)

@@ -10,8 +10,8 @@ use Rattle.stored.specs.Fold.{fold}
 use Rattle.stored.specs.declared.sums.Sums.{Sums}
 
 -- a length or a place as a number of a list: one that is too large is cut
-abbrev pub numberOf : ℕ → ℕ
-numberOf n = min n 4294967295
+abbrev pub clipped : ℕ → ℕ
+clipped n = min n 4294967295
 
 abbrev pub noSums : Sums
 noSums = record { asked = 0; first = 0; second = 0; lift = 0; raise = 0 }
@@ -28,10 +28,10 @@ fed s x = record {
 
 -- "Each question feeds n, the bytes, the place where it has one"
 unfoldable pub fedText : Sums → List ℕ → Sums
-fedText s t = fold fed (fed s (numberOf (length t))) t
+fedText s t = fold fed (fed s (clipped (length t))) t
 
 unfoldable pub fedQuestion : Sums → List ℕ → ℕ → ℕ → Sums
-fedQuestion s t places p = cond (eqb places 0) (fedText s t) (fed (fedText s t) (numberOf p))
+fedQuestion s t places p = cond (eqb places 0) (fedText s t) (fed (fedText s t) (clipped p))
 
 -- a number of an answer, unless a refusal came before it; what one more in an earlier count adds moves on with it
 unfoldable pub fedAnswer : Sums → ℕ → Bool → Sums
@@ -59,4 +59,4 @@ countedSums s n = record {
 
 -- one more question
 abbrev pub oneMore : Sums → Sums
-oneMore s = record { asked = numberOf (s .asked + 1); first = s .first; second = s .second; lift = s .lift; raise = s .raise }
+oneMore s = record { asked = clipped (s .asked + 1); first = s .first; second = s .second; lift = s .lift; raise = s .raise }

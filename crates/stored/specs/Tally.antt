@@ -24,11 +24,11 @@ unfoldable pub differing : Tally → Tally
 differing t = record { line = t .line; section = t .section; head = t .head; full = t .full; blocks = t .blocks; inside = t .inside; differ = plus (t .differ) 1 }
 
 -- one more answer in full; a capital's is a block, whose first number says how many answers it holds
-unfoldable pub answered : Tally → ℕ → ℕ → Tally
-answered t letter x = cond (isCapital letter)
+unfoldable pub oneAnswered : Tally → ℕ → ℕ → Tally
+oneAnswered t letter x = cond (isCapital letter)
     (record { line = t .line; section = t .section; head = t .head; full = t .full; blocks = plus (t .blocks) 1; inside = plus (t .inside) x; differ = t .differ })
     (record { line = t .line; section = t .section; head = t .head; full = plus (t .full) 1; blocks = t .blocks; inside = t .inside; differ = t .differ })
 
 -- a line, and what was found
 unfoldable pub judgedBy : Tally → Line → Numbers → Tally
-judgedBy t l n = cond (eqb (n .count) 0) (differing t) (cond (isStored l n) (answered t (l .letter) (getD (n .cells) 0 0)) (differing (answered t (l .letter) (getD (n .cells) 0 0))))
+judgedBy t l n = cond (eqb (n .count) 0) (differing t) (cond (isStored l n) (oneAnswered t (l .letter) (getD (n .cells) 0 0)) (differing (oneAnswered t (l .letter) (getD (n .cells) 0 0))))

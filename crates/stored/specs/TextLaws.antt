@@ -14,7 +14,7 @@ use borrow.Author.Tests.{eq-eqb, ne-eqb, lt-ltb, le-ltb}
 use Rattle.search.specs.Promise.{Gives}
 use Rattle.stored.specs.Parts.{front}
 use Rattle.stored.specs.PartLaws.{Fronts, fronts-first, fronts-again, fronts-all}
-use Rattle.stored.specs.Texts.{nameIn, withoutDigit, shifted, letter, isOver, textOf, firstPlace, placesOf, spotOf}
+use Rattle.stored.specs.Texts.{nameIn, withoutDigit, shifted, letter, isOver, textOf, leastPlace, placesOf, spotOf}
 
 -- ---- digits
 module _ (alphabet : List ℕ) (n : ℕ) where
@@ -76,12 +76,12 @@ module _ (alphabet : List ℕ) (n e : ℕ) where
 
 -- ---- places
 module _ (places : ℕ) where
-  pub first-second : places ≡ 2 → 1 ≡ firstPlace places
-  unfolding firstPlace
+  pub first-second : places ≡ 2 → 1 ≡ leastPlace places
+  unfolding leastPlace
   first-second e = simp (eq-eqb places 2 e)
 
-  pub first-other : (places ≡ 2 → ⊥) → 0 ≡ firstPlace places
-  unfolding firstPlace
+  pub first-other : (places ≡ 2 → ⊥) → 0 ≡ leastPlace places
+  unfolding leastPlace
   first-other e = simp (ne-eqb places 2 e)
 
   module _ (len x : ℕ) (g : Gives (min len 8) x) where
@@ -106,7 +106,7 @@ module _ (turn places len each : ℕ) (g : Gives (placesOf places len) each) whe
   unfolding spotOf
   spot-none e = simp (← (g .answer), eq-eqb each 0 e)
 
-  pub spot-at : (first : ℕ) → (each ≡ 0 → ⊥) → Gives (firstPlace places) first → record { number = turn / each; place = turn % each + first } ≡ spotOf turn places len
+  pub spot-at : (first : ℕ) → (each ≡ 0 → ⊥) → Gives (leastPlace places) first → record { number = turn / each; place = turn % each + first } ≡ spotOf turn places len
   unfolding spotOf
   spot-at first e f = simp (← (g .answer), ne-eqb each 0 e, f .answer)
 

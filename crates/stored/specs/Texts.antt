@@ -39,8 +39,8 @@ textOf i alphabet len = record {
 }
 
 -- ---- "for each the places in rising order": as a whole (0), from the start (1), from the second byte (2), from the start to one past the end (3)
-unfoldable pub firstPlace : ℕ → ℕ
-firstPlace places = cond (eqb places 2) 1 0
+unfoldable pub leastPlace : ℕ → ℕ
+leastPlace places = cond (eqb places 2) 1 0
 
 unfoldable pub placesOf : ℕ → ℕ → ℕ
 placesOf places len = cond (eqb places 1) (min len 8 + 1) (cond (eqb places 2) (min len 8) (cond (eqb places 3) (min len 8 + 2) 1))
@@ -50,4 +50,4 @@ abbrev pub spotBy : ℕ → ℕ → ℕ → Spot
 spotBy turn each first = cond (eqb each 0) (record { number = 1; place = 0 }) (record { number = turn / each; place = turn % each + first })
 
 unfoldable pub spotOf : ℕ → ℕ → ℕ → Spot
-spotOf turn places len = spotBy turn (placesOf places len) (firstPlace places)
+spotOf turn places len = spotBy turn (placesOf places len) (leastPlace places)

@@ -3,7 +3,7 @@ use crate::numbers::Numbers;
 use common::refusal::Found;
 use common::refusal::Refusal;
 ghost use Rattle.search.specs.Promise.{Gives};
-ghost use Rattle.common.specs.Refusals.{numberOf as refusalNumber};
+ghost use Rattle.common.specs.Refusals.{numberOf};
 ghost use Rattle.stored.specs.Numbers.{saidValue, saidRefusal, saidFound, upToRefusal};
 
 // More steps than any stored run has. A run that doesn't end by then is cut, and differs.
@@ -17,7 +17,7 @@ impl Numbers {
     }
 
     pub fn refused(self, why: Refusal) -> Self
-        ensures { λ r. ⌜ Gives (saidRefusal self (refusalNumber why)) r ⌝ }
+        ensures { λ r. ⌜ Gives (saidRefusal self (numberOf why)) r ⌝ }
     {
         let mut all = self.and(0);
         all.cut = true;

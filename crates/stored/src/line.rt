@@ -7,7 +7,7 @@ use search::byte_at;
 use search::is_at;
 ghost use Prim.Native.Nat.{_-_};
 ghost use Rattle.search.specs.Promise.{Gives};
-ghost use Rattle.stored.specs.Line.{nothingRead, withDigit, partedOff, withEquals, withByte, lineOf, headOf, kindOf, isStored};
+ghost use Rattle.stored.specs.Line.{nothingRead, withDigit, partedOff, withEquals, afterByte, lineOf, headOf, kindOf, isStored};
 
 // Numbers are below this.
 const TOO_LARGE: u64 = 4294967296;
@@ -102,7 +102,7 @@ impl Reading {
 
     // Takes in the next byte.
     fn byte(self, b: u8) -> Self
-        ensures { λ r. ⌜ Gives (withByte self b) r ⌝ }
+        ensures { λ r. ⌜ Gives (afterByte self b) r ⌝ }
     {
         if b < b'0' {
             return self.parted();

@@ -4,7 +4,7 @@ use crate::parts::number_at;
 use crate::texts::named;
 use search::lesser;
 ghost use Rattle.search.specs.Promise.{Gives};
-ghost use Rattle.stored.specs.Long.{noText, withByte, withRun, inRuns, nextDraw, drawnByte, drawnText};
+ghost use Rattle.stored.specs.Long.{noText, longWithByte, withRun, inRuns, nextDraw, drawnByte, drawnText};
 
 // The room for a text.
 pub const ROOM: usize = 8200;
@@ -32,7 +32,7 @@ impl Long {
 
     // What finds no room is lost.
     fn with_byte(self, byte: u8) -> Self
-        ensures { λ r. ⌜ Gives (withByte self byte) r ⌝ }
+        ensures { λ r. ⌜ Gives (longWithByte self byte) r ⌝ }
     {
         let n = self.size;
         if n >= ROOM {

@@ -3,8 +3,8 @@ use crate::sums::Sums;
 use crate::sums::number_of;
 ghost use Rattle.search.specs.Promise.{Gives};
 ghost use Rattle.stored.specs.Fold.{fold};
-ghost use Rattle.stored.specs.Sums.{numberOf};
-ghost use Rattle.stored.specs.Numbers.{after, noNumbers, said, saidList, bit, saidSums, begun, ended};
+ghost use Rattle.stored.specs.Sums.{clipped};
+ghost use Rattle.stored.specs.Numbers.{afterSums, noNumbers, withNumber, saidList, bit, saidSums, entriesBegun, entriesEnded};
 
 // The most numbers that a line has.
 pub const MOST: usize = 128;
@@ -30,7 +30,7 @@ impl Numbers {
 
     // No number yet of an answer whose question was fed to these sums.
     pub fn after(sums: Sums) -> Self
-        ensures { λ r. ⌜ Gives (after sums) r ⌝ }
+        ensures { λ r. ⌜ Gives (afterSums sums) r ⌝ }
     {
         Numbers {
             cells: [0; MOST],
@@ -53,7 +53,7 @@ impl Numbers {
 
     // One function does it all: a large struct that goes through several calls is copied at each, and takes its time.
     pub fn and(self, x: u32) -> Self
-        ensures { λ r. ⌜ Gives (said self x) r ⌝ }
+        ensures { λ r. ⌜ Gives (withNumber self x) r ⌝ }
     {
         let mut all = self;
         let n = all.count;
@@ -71,19 +71,19 @@ impl Numbers {
     }
 
     pub fn byte(self, b: u8) -> Self
-        ensures { λ r. ⌜ Gives (said self b) r ⌝ }
+        ensures { λ r. ⌜ Gives (withNumber self b) r ⌝ }
     {
         self.and(b as u32)
     }
 
     pub fn size(self, n: usize) -> Self
-        ensures { λ r. ⌜ Gives (said self (numberOf n)) r ⌝ }
+        ensures { λ r. ⌜ Gives (withNumber self (clipped n)) r ⌝ }
     {
         self.and(number_of(n))
     }
 
     pub fn flag(self, on: bool) -> Self
-        ensures { λ r. ⌜ Gives (said self (bit on)) r ⌝ }
+        ensures { λ r. ⌜ Gives (withNumber self (bit on)) r ⌝ }
     {
         if on {
             return self.and(1);
@@ -92,7 +92,7 @@ impl Numbers {
     }
 
     pub fn all(self, run: &[u32]) -> Self
-        ensures { λ r. ⌜ Gives (fold said self (now (run .entry))) r ⌝ }
+        ensures { λ r. ⌜ Gives (fold withNumber self (now (run .entry))) r ⌝ }
     {
         let mut all = self;
         let mut i = 0;
@@ -125,7 +125,7 @@ impl Numbers {
 
     // An answer that begins with 1 and the count of the entries that follow; `counted` says how many these were.
     pub fn entries(self) -> Self
-        ensures { λ r. ⌜ Gives (begun self) r ⌝ }
+        ensures { λ r. ⌜ Gives (entriesBegun self) r ⌝ }
     {
         let mut all = self.and(1).and(0);
         let sums = all.sums;
@@ -134,7 +134,7 @@ impl Numbers {
     }
 
     pub fn counted(self, count: u32) -> Self
-        ensures { λ r. ⌜ Gives (ended self count) r ⌝ }
+        ensures { λ r. ⌜ Gives (entriesEnded self count) r ⌝ }
     {
         let mut all = self;
         all.cells[1] = count;

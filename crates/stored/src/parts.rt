@@ -2,7 +2,7 @@
 use crate::numbers::MOST;
 ghost use lib.ListN.{getD};
 ghost use Rattle.search.specs.Promise.{Gives};
-ghost use Rattle.stored.specs.Parts.{between, afterList, listIn, byteAt, bytesOf, isSecond, isByte, areBytes, same};
+ghost use Rattle.stored.specs.Parts.{numbersBetween, afterList, listIn, byteAt, bytesOf, isSecond, isByte, areBytes, same};
 
 // The number at place `i`, else 0.
 pub fn number_at(run: &[u32], i: usize) -> u32
@@ -36,7 +36,7 @@ pub fn as_bytes(run: &[u32]) -> [u8; MOST]
 
 // The numbers from `start` up to `end`; none where these aren't bounds.
 pub fn part(run: &[u32], start: usize, end: usize) -> &[u32]
-    ensures { λ r. ⌜ Gives (between (now (run .entry)) start end) (now r) ⌝ }
+    ensures { λ r. ⌜ Gives (numbersBetween (now (run .entry)) start end) (now r) ⌝ }
 {
     if start > end {
         return &run[0..0];
@@ -49,7 +49,7 @@ pub fn part(run: &[u32], start: usize, end: usize) -> &[u32]
 
 // The same of bytes.
 pub fn bytes_part(bytes: &[u8], start: usize, end: usize) -> &[u8]
-    ensures { λ r. ⌜ Gives (between (now (bytes .entry)) start end) (now r) ⌝ }
+    ensures { λ r. ⌜ Gives (numbersBetween (now (bytes .entry)) start end) (now r) ⌝ }
 {
     if start > end {
         return &bytes[0..0];

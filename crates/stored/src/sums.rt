@@ -4,7 +4,7 @@ use crate::texts::WHOLE;
 use search::lesser;
 ghost use Prim.Native.Nat.{_*_};
 ghost use Rattle.search.specs.Promise.{Gives};
-ghost use Rattle.stored.specs.Sums.{numberOf, noSums, fed, fedText, fedQuestion, fedAnswer, counting, countedSums, oneMore};
+ghost use Rattle.stored.specs.Sums.{clipped, noSums, fed, fedText, fedQuestion, fedAnswer, counting, countedSums, oneMore};
 
 pub struct Sums {
     pub asked: u32,
@@ -17,7 +17,7 @@ pub struct Sums {
 
 // A length or a place as a number of a list. One that is cut fits no stored answer: these are far below.
 pub(crate) fn number_of(n: usize) -> u32
-    ensures { λ r. ⌜ Gives (numberOf n) r ⌝ }
+    ensures { λ r. ⌜ Gives (clipped n) r ⌝ }
 {
     lesser(n, 4294967295) as u32
 }

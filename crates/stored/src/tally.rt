@@ -3,7 +3,7 @@ use crate::form::is_capital;
 use crate::line::Line;
 use crate::numbers::Numbers;
 ghost use Rattle.search.specs.Promise.{Gives};
-ghost use Rattle.stored.specs.Tally.{plus, newTally, onNextLine, differing, answered, judgedBy};
+ghost use Rattle.stored.specs.Tally.{plus, newTally, onNextLine, differing, oneAnswered, judgedBy};
 
 // Where no section has begun.
 pub const NO_SECTION: u32 = 4294967295;
@@ -64,7 +64,7 @@ impl Tally {
 
     // A block's first number says how many answers it holds.
     fn answers(self, letter: u8, first: u32) -> Self
-        ensures { λ r. ⌜ Gives (answered self letter first) r ⌝ }
+        ensures { λ r. ⌜ Gives (oneAnswered self letter first) r ⌝ }
     {
         let mut tally = self;
         if is_capital(letter) {

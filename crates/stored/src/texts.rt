@@ -2,7 +2,7 @@
 use search::byte_at;
 use search::lesser;
 ghost use Rattle.search.specs.Promise.{Gives};
-ghost use Rattle.stored.specs.Texts.{nameIn, withoutDigit, isOver, textOf, firstPlace, placesOf, spotOf};
+ghost use Rattle.stored.specs.Texts.{nameIn, withoutDigit, isOver, textOf, leastPlace, placesOf, spotOf};
 
 // The length of the longest.
 pub const LONGEST: usize = 8;
@@ -80,7 +80,7 @@ pub fn nth(number: usize, alphabet: &[u8], length: usize) -> Text
 
 // The first place.
 fn first_place(places: u8) -> u8
-    ensures { λ r. ⌜ Gives (firstPlace places) r ⌝ }
+    ensures { λ r. ⌜ Gives (leastPlace places) r ⌝ }
 {
     if places == FROM_SECOND {
         return 1;

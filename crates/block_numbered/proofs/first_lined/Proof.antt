@@ -3,7 +3,7 @@ use borrow.Author.Needs.{needs}
 use Prim.Native.Nat.{_-_}
 use lib.ListN.{length}
 use Rattle.common.specs.Items.{grammar, has}
-use Rattle.common.specs.Turn.{Stands}
+use Rattle.common.specs.Turning.{Stands}
 use Rattle.common.specs.TurnLaws.{stands-first, stands-less, stands-again, stands-stop, stands-found}
 use Rattle.block_numbered.specs.Numbered.{lineTurn, view}
 use Rattle.block_numbered.specs.NumberedLaws.{Lies, line-adv}

@@ -3,9 +3,10 @@ use borrow.Author.Needs.{needs}
 use Prim.Native.Nat.{_-_}
 use lib.ListN.{length, take}
 use Rattle.search.specs.Search.{oneOf}
-use Rattle.common.specs.Items.{grammar, Unled}
-use Rattle.common.specs.ItemLaws.{unled-first}
-use Rattle.common.specs.Turn.{Stands}
+use Rattle.common.specs.Items.{grammar}
+use Rattle.common.specs.Later.{Unled}
+use Rattle.common.specs.LaterLaws.{unled-first}
+use Rattle.common.specs.Turning.{Stands}
 use Rattle.common.specs.TurnLaws.{stands-first, stands-less, stands-again, stands-stop, stands-found}
 use Rattle.block_numbered.specs.Numbered.{streamTurn, view}
 use Rattle.block_numbered.specs.NumberedLaws.{Lies, stream-adv}

@@ -2,12 +2,12 @@
 use borrow.Author.Needs.{needs}
 use Prim.Native.Nat.{_-_}
 use lib.ListN.{length}
-use Rattle.block_numbered.specs.DigitLaws.{Reading, reading-low, reading-mul, reading-add, reading-rules}
+use Rattle.block_numbered.specs.DigitLaws.{DigitsReading, reading-low, reading-mul, reading-add, reading-rules}
 use Rattle.block_numbered.proofs.read_digits.Statement.{statement}
 use Rattle.block_numbered.proofs.read_digits.Tie as tie
 
 abbrev Inv-loop : tie.InvT-loop
-Inv-loop line from i₀ number₀ i number = Reading line from i number
+Inv-loop line from i₀ number₀ i number = DigitsReading line from i number
 
 abbrev μ-loop : tie.MeasureT-loop
 μ-loop line from i₀ number₀ i number = length line - i

@@ -1,7 +1,7 @@
 -- `stream_turn` meets its contract. Assumes nothing.
 use Rattle.block_numbered.specs.DigitLaws.{few-within}
 use Rattle.block_numbered.specs.NumberedLaws.{front-size, stream-rules}
-use Rattle.common.specs.ItemLaws.{led-rules}
+use Rattle.common.specs.LaterLaws.{led-rules}
 use borrow.Author.Needs.{needs}
 use Rattle.block_numbered.proofs.stream_turn.Statement.{statement}
 use Rattle.block_numbered.proofs.stream_turn.Tie as tie

@@ -1,12 +1,12 @@
 -- `open_from` meets its contract: the markers behind the open frames are stored. Assumes nothing.
 use Prim.Native.Nat.{_-_}
-use Rattle.cont.specs.MarkLaws.{mark-told, mark-fits, Opening, opening-first, opening-again, opening-last, opening-full}
+use Rattle.cont.specs.MarkLaws.{mark-told, mark-fits, OpeningFrames, opening-first, opening-again, opening-last, opening-full}
 use borrow.Author.Needs.{needs}
 use Rattle.cont.proofs.open_from.Statement.{statement}
 use Rattle.cont.proofs.open_from.Tie as tie
 
 abbrev Inv-loop : tie.InvT-loop
-Inv-loop src m from le open₀ held cur₀ n₀ «open» cur n = Opening m src le from held open₀ «open» cur n
+Inv-loop src m from le open₀ held cur₀ n₀ «open» cur n = OpeningFrames m src le from held open₀ «open» cur n
 
 abbrev μ-loop : tie.MeasureT-loop
 μ-loop src m from le open₀ held cur₀ n₀ «open» cur n = m .cap - n

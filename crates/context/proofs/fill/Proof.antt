@@ -1,5 +1,6 @@
 -- `fill` meets its contract. Assumes nothing.
-use Rattle.context.specs.BuildLaws.{fill-full, fill-counted, fill-roomy, room-counted, room-roomy}
+use Rattle.common.specs.ListLaws.{fill-full, fill-counted, room-counted}
+use Rattle.context.specs.BuildLaws.{fill-roomy, room-roomy}
 use borrow.Author.Needs.{needs}
 use Rattle.context.proofs.fill.Statement.{statement}
 use Rattle.context.proofs.fill.Tie as tie

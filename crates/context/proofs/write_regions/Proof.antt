@@ -4,8 +4,8 @@ use Prim.Native.Nat.{_-_}
 use lib.ListN.{length}
 use Rattle.rules.specs.Rows.{gramBy}
 use Rattle.region.specs.Region.{rowOf}
-use Rattle.region.specs.LoopLaws.{row-wide, Pouring, pouring-first, pouring-less, pouring-same}
-use Rattle.context.specs.BuildLaws.{writes-puts, writes-next, writes-end}
+use Rattle.region.specs.LoopLaws.{row-wide, Pouring, pouring-first, pouring-next, pouring-less, pouring-end, pouring-same}
+use Rattle.context.specs.BuildLaws.{region-fits}
 use Rattle.context.proofs.write_regions.Statement.{statement}
 use Rattle.context.proofs.write_regions.Tie as tie
 use Rattle.common.specs.Entry.{wide}
@@ -26,13 +26,13 @@ enum-known-r : tie.Need-enum-known-r Inv-loop μ-loop
 enum-known-r c = search needs
 
 put-region-requires : tie.Need-put-region-requires Inv-loop μ-loop
-put-region-requires c κs = search writes-puts
+put-region-requires c κs = search region-fits
 
 loop-less : tie.Need-loop-less Inv-loop μ-loop
 loop-less c = search pouring-less
 
 loop-again : tie.Need-loop-again Inv-loop μ-loop
-loop-again c = search writes-next
+loop-again c = search pouring-next
 
 enum-told : tie.Need-enum-told Inv-loop μ-loop
 enum-told c = search needs
@@ -41,7 +41,7 @@ same-length : tie.Need-same-length Inv-loop μ-loop
 same-length c = search pouring-same
 
 returns : tie.Need-returns Inv-loop μ-loop
-returns c = search writes-end
+returns c = search pouring-end
 
 pub write-regions-spec : {M : Type 1} → statement M
 write-regions-spec =

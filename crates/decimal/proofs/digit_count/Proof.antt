@@ -1,11 +1,11 @@
 -- `digit_count` meets its contract: each turn takes one digit away. Assumes nothing.
 use borrow.Author.Needs.{needs}
-use Rattle.decimal.specs.WritingLaws.{Counting, counting-first, counting-again, counting-end}
+use Rattle.decimal.specs.WritingLaws.{DigitCounting, counting-first, counting-again, counting-end}
 use Rattle.decimal.proofs.digit_count.Statement.{statement}
 use Rattle.decimal.proofs.digit_count.Tie as tie
 
 abbrev Inv-loop : tie.InvT-loop
-Inv-loop x rest₀ count₀ rest count = Counting x rest count
+Inv-loop x rest₀ count₀ rest count = DigitCounting x rest count
 
 abbrev μ-loop : tie.MeasureT-loop
 μ-loop x rest₀ count₀ rest count = rest

@@ -1,5 +1,5 @@
 -- `put_listing` meets its contract. Assumes nothing.
-use Rattle.listing.specs.ListingLaws.{listed-over, listed-entries}
+use Rattle.listing.specs.ListingLaws.{printed-over, printed-entries}
 use borrow.Author.Needs.{needs}
 use Rattle.listing.proofs.put_listing.Statement.{statement}
 use Rattle.listing.proofs.put_listing.Tie as tie
@@ -11,7 +11,7 @@ same-length : tie.Need-same-length
 same-length c = search needs
 
 returns : tie.Need-returns
-returns c = search listed-over
+returns c = search printed-over
 
 put-entries-requires : tie.Need-put-entries-requires
 put-entries-requires c κs = search needs
@@ -20,7 +20,7 @@ same-length-2 : tie.Need-same-length-2
 same-length-2 c = search needs
 
 returns-2 : tie.Need-returns-2
-returns-2 c = search listed-entries
+returns-2 c = search printed-entries
 
 pub put-listing-spec : {M : Type 1} → statement M
 put-listing-spec =

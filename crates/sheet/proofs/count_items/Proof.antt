@@ -2,13 +2,16 @@
 use borrow.Author.Needs.{needs}
 use lib.ListN.{length}
 use Rattle.feed.specs.Ahead.{ahead}
-use Rattle.sheet.specs.Parts.{left}
-use Rattle.sheet.specs.SheetLaws.{Tallied, tally-first, tally-end, tally-hidden, tally-shown, less-hidden, less-shown}
+use Rattle.common.specs.Entry.{rows, wide}
+use Rattle.sheet.specs.Parts.{left, Ready}
+use Rattle.sheet.specs.ShowLaws.{ready-hidden, ready-shown}
+use Rattle.sheet.specs.LeftLaws.{Tallied, tally-first, tally-end, tally-hidden, tally-shown, less-hidden, less-shown}
 use Rattle.sheet.proofs.count_items.Statement.{statement}
 use Rattle.sheet.proofs.count_items.Tie as tie
 
 abbrev Inv-loop : tie.InvT-loop
-Inv-loop src markers delims list count w₀ n₀ w n = Tallied markers delims list count src (left markers delims list count src w₀) w n
+Inv-loop src markers delims list count w₀ n₀ w n =
+    Tallied markers delims src (rows wide count list) (left markers delims src (rows wide count list) (w₀ .feed)) (w .feed) n × Ready markers delims list count src w
 
 abbrev μ-loop : tie.MeasureT-loop
 μ-loop src markers delims list count w₀ n₀ w n = length (ahead markers delims src (w .feed))
@@ -32,7 +35,7 @@ loop-less : tie.Need-loop-less Inv-loop μ-loop
 loop-less c = search less-hidden
 
 loop-again : tie.Need-loop-again Inv-loop μ-loop
-loop-again c = search tally-hidden
+loop-again c = search (tally-hidden, ready-hidden)
 
 enum-told-3 : tie.Need-enum-told-3 Inv-loop μ-loop
 enum-told-3 c = search needs
@@ -44,7 +47,7 @@ loop-less-2 : tie.Need-loop-less-2 Inv-loop μ-loop
 loop-less-2 c = search less-shown
 
 loop-again-2 : tie.Need-loop-again-2 Inv-loop μ-loop
-loop-again-2 c = search tally-shown
+loop-again-2 c = search (tally-shown, ready-shown)
 
 pub count-items-spec : {M : Type 1} → statement M
 count-items-spec =

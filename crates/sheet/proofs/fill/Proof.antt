@@ -1,6 +1,7 @@
 -- `fill` meets its contract. Assumes nothing.
 use borrow.Author.Needs.{needs}
-use Rattle.sheet.specs.SheetLaws.{started-ready, room-roomy, room-counted, fill-roomy, fill-full, fill-counted}
+use Rattle.common.specs.ListLaws.{room-counted}
+use Rattle.sheet.specs.SheetLaws.{started-ready, room-roomy, fill-roomy, fill-full, fill-counted}
 use Rattle.sheet.proofs.fill.Statement.{statement}
 use Rattle.sheet.proofs.fill.Tie as tie
 

@@ -4,8 +4,8 @@ use Rattle.sheet.specs.ShowLaws.{hid}
 use Rattle.sheet.proofs.hides.Statement.{statement}
 use Rattle.sheet.proofs.hides.Tie as tie
 
-place-of-requires : tie.Need-place-of-requires
-place-of-requires c κs = search needs
+content-start-requires : tie.Need-content-start-requires
+content-start-requires c κs = search needs
 
 covering-end-requires : tie.Need-covering-end-requires
 covering-end-requires c κs = search needs
@@ -17,4 +17,4 @@ returns : tie.Need-returns
 returns c = search hid
 
 pub hides-spec : {M : Type 1} → statement M
-hides-spec = tie.close (tie.spec place-of-requires covering-end-requires is-at-requires returns)
+hides-spec = tie.close (tie.spec content-start-requires covering-end-requires is-at-requires returns)

@@ -2,19 +2,24 @@
 use borrow.Author.Needs.{needs}
 use lib.ListN.{length}
 use Rattle.feed.specs.Ahead.{ahead}
-use Rattle.sheet.specs.Parts.{left}
-use Rattle.sheet.specs.SheetLaws.{Writing, write-first, write-end, write-hidden, write-room, write-shown, write-long, less-hidden, less-shown}
+use Rattle.common.specs.Entry.{rows, wide}
+use Rattle.sheet.specs.Sheet.{five}
+use Rattle.sheet.specs.SheetLaws.{five-numbers}
+use Rattle.sheet.specs.Parts.{left, Ready}
+use Rattle.sheet.specs.ShowLaws.{ready-hidden, ready-shown}
+use Rattle.sheet.specs.LeftLaws.{Writing, write-first, write-count, write-list, write-hidden, write-room, write-shown, write-long, less-hidden, less-shown}
 use Rattle.sheet.proofs.write_items.Statement.{statement}
 use Rattle.sheet.proofs.write_items.Tie as tie
 
 abbrev Inv-loop : tie.InvT-loop
-Inv-loop src markers delims list count out₀ w₀ n₀ out w n = Writing markers delims list count src (left markers delims list count src w₀) out₀ w out n
+Inv-loop src markers delims list count out₀ w₀ n₀ out w n =
+    Writing markers delims src (rows wide count list) five 5 (left markers delims src (rows wide count list) (w₀ .feed)) out₀ (w .feed) out n × Ready markers delims list count src w
 
 abbrev μ-loop : tie.MeasureT-loop
 μ-loop src markers delims list count out₀ w₀ n₀ out w n = length (ahead markers delims src (w .feed))
 
 loop-holds : tie.Need-loop-holds Inv-loop μ-loop
-loop-holds c = search write-first
+loop-holds c = search (write-first five 5 five-numbers)
 
 turn-requires : tie.Need-turn-requires Inv-loop μ-loop
 turn-requires c κs = search needs
@@ -23,10 +28,10 @@ enum-told : tie.Need-enum-told Inv-loop μ-loop
 enum-told c = search needs
 
 same-length : tie.Need-same-length Inv-loop μ-loop
-same-length c = search write-long
+same-length c = search (write-long five 5 five-numbers)
 
 returns : tie.Need-returns Inv-loop μ-loop
-returns c = search write-end
+returns c = search (write-count five 5 five-numbers, write-list five 5 five-numbers)
 
 enum-told-2 : tie.Need-enum-told-2 Inv-loop μ-loop
 enum-told-2 c = search needs
@@ -35,19 +40,19 @@ loop-less : tie.Need-loop-less Inv-loop μ-loop
 loop-less c = search less-hidden
 
 loop-again : tie.Need-loop-again Inv-loop μ-loop
-loop-again c = search write-hidden
+loop-again c = search (write-hidden five 5 five-numbers, ready-hidden)
 
 enum-known-seen : tie.Need-enum-known-seen Inv-loop μ-loop
 enum-known-seen c = search needs
 
 put-item-requires : tie.Need-put-item-requires Inv-loop μ-loop
-put-item-requires c κs = search write-room
+put-item-requires c κs = search (write-room five 5 five-numbers)
 
 loop-less-2 : tie.Need-loop-less-2 Inv-loop μ-loop
 loop-less-2 c = search less-shown
 
 loop-again-2 : tie.Need-loop-again-2 Inv-loop μ-loop
-loop-again-2 c = search write-shown
+loop-again-2 c = search (write-shown five 5 five-numbers, ready-shown)
 
 pub write-items-spec : {M : Type 1} → statement M
 write-items-spec =

@@ -1,22 +1,27 @@
 -- `count_items` meets its contract: a loop of turns that counts. Assumes nothing.
 use borrow.Author.Needs.{needs}
+use mathlib.Core.List.{map}
 use lib.ListN.{length}
 use Rattle.rules.specs.Rows.{gramBy}
 use Rattle.feed.specs.Ahead.{ahead}
-use Rattle.sheeting.specs.Sheeting.{left}
-use Rattle.sheeting.specs.SheetingLaws.{Tallied, tally-first, tally-end, tally-hidden, tally-shown, less-hidden, less-shown}
+use Rattle.region.specs.Region.{rowOf}
+use Rattle.region.specs.Regions.{regions}
+use Rattle.sheet.specs.LeftLaws.{Tallied, tally-first, tally-end, tally-hidden, tally-shown, less-hidden, less-shown}
+use Rattle.sheeting.specs.Sheeting.{leftBy, ReadyBy}
+use Rattle.sheeting.specs.SheetingLaws.{ready-first, ready-hidden, ready-shown}
 use Rattle.sheeting.proofs.count_items.Statement.{statement}
 use Rattle.sheeting.proofs.count_items.Tie as tie
 
 abbrev Inv-loop : tie.InvT-loop
 Inv-loop text markers delims alphabet fences rows dead₀ w₀ found₀ dead w found =
-    Tallied (gramBy alphabet fences rows) markers delims text (left (gramBy alphabet fences rows) markers delims text w₀) dead w found
+    Tallied markers delims text (map rowOf (regions (gramBy alphabet fences rows) text)) (leftBy (gramBy alphabet fences rows) markers delims text w₀) (w .feed) found
+    × ReadyBy (gramBy alphabet fences rows) markers delims text dead w
 
 abbrev μ-loop : tie.MeasureT-loop
 μ-loop text markers delims alphabet fences rows dead₀ w₀ found₀ dead w found = length (ahead markers delims text (w .feed))
 
 loop-holds : tie.Need-loop-holds Inv-loop μ-loop
-loop-holds c = search tally-first
+loop-holds c = search (tally-first, ready-first)
 
 turn-requires : tie.Need-turn-requires Inv-loop μ-loop
 turn-requires c κs = search needs
@@ -34,7 +39,7 @@ loop-less : tie.Need-loop-less Inv-loop μ-loop
 loop-less c = search less-hidden
 
 loop-again : tie.Need-loop-again Inv-loop μ-loop
-loop-again c = search tally-hidden
+loop-again c = search (tally-hidden, ready-hidden)
 
 enum-told-3 : tie.Need-enum-told-3 Inv-loop μ-loop
 enum-told-3 c = search needs
@@ -46,7 +51,7 @@ loop-less-2 : tie.Need-loop-less-2 Inv-loop μ-loop
 loop-less-2 c = search less-shown
 
 loop-again-2 : tie.Need-loop-again-2 Inv-loop μ-loop
-loop-again-2 c = search tally-shown
+loop-again-2 c = search (tally-shown, ready-shown)
 
 pub count-items-spec : {M : Type 1} → statement M
 count-items-spec =

@@ -1,6 +1,6 @@
 -- `turn` meets its contract: its three ways out. Assumes nothing.
 use borrow.Author.Needs.{needs}
-use Rattle.sheeting.specs.SheetingLaws.{item-stands, turned-end, turned-hidden, turned-shown}
+use Rattle.sheeting.specs.SheetingLaws.{item-hides, turned-end, turned-hidden, turned-shown}
 use Rattle.sheeting.proofs.turn.Statement.{statement}
 use Rattle.sheeting.proofs.turn.Tie as tie
 
@@ -13,11 +13,11 @@ enum-told c = search needs
 enum-known-head : tie.Need-enum-known-head
 enum-known-head c = search needs
 
-place-of-requires : tie.Need-place-of-requires
-place-of-requires c κs = search needs
+content-start-requires : tie.Need-content-start-requires
+content-start-requires c κs = search needs
 
 pass-requires : tie.Need-pass-requires
-pass-requires c κs = search item-stands
+pass-requires c κs = search item-hides
 
 hides-requires : tie.Need-hides-requires
 hides-requires c κs = search needs
@@ -38,7 +38,7 @@ turn-spec =
     take-requires
     enum-told
     enum-known-head
-    place-of-requires
+    content-start-requires
     pass-requires
     hides-requires
     returns

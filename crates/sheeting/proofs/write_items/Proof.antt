@@ -1,22 +1,27 @@
 -- `write_items` meets its contract: a loop of turns that writes. Assumes nothing.
 use borrow.Author.Needs.{needs}
+use mathlib.Core.List.{map}
 use lib.ListN.{length}
 use Rattle.rules.specs.Rows.{gramBy}
 use Rattle.feed.specs.Ahead.{ahead}
-use Rattle.sheeting.specs.Sheeting.{left}
-use Rattle.sheeting.specs.SheetingLaws.{Writing, write-first, write-end, write-hidden, write-room, write-shown, write-long, less-hidden, less-shown}
+use Rattle.region.specs.Region.{rowOf}
+use Rattle.region.specs.Regions.{regions}
+use Rattle.sheet.specs.LeftLaws.{Writing, write-first, write-count, write-list, write-hidden, write-room, write-shown, write-long, less-hidden, less-shown}
+use Rattle.sheeting.specs.Sheeting.{itemBytes, leftBy, ReadyBy}
+use Rattle.sheeting.specs.SheetingLaws.{item-size, ready-first, ready-hidden, ready-shown}
 use Rattle.sheeting.proofs.write_items.Statement.{statement}
 use Rattle.sheeting.proofs.write_items.Tie as tie
 
 abbrev Inv-loop : tie.InvT-loop
 Inv-loop text markers delims alphabet fences rows out₀ dead₀ w₀ found₀ out dead w found =
-    Writing (gramBy alphabet fences rows) markers delims text (left (gramBy alphabet fences rows) markers delims text w₀) out₀ dead w out found
+    Writing markers delims text (map rowOf (regions (gramBy alphabet fences rows) text)) itemBytes 20 (leftBy (gramBy alphabet fences rows) markers delims text w₀) out₀ (w .feed) out found
+    × ReadyBy (gramBy alphabet fences rows) markers delims text dead w
 
 abbrev μ-loop : tie.MeasureT-loop
 μ-loop text markers delims alphabet fences rows out₀ dead₀ w₀ found₀ out dead w found = length (ahead markers delims text (w .feed))
 
 loop-holds : tie.Need-loop-holds Inv-loop μ-loop
-loop-holds c = search write-first
+loop-holds c = search (write-first itemBytes 20 item-size, ready-first)
 
 turn-requires : tie.Need-turn-requires Inv-loop μ-loop
 turn-requires c κs = search needs
@@ -25,10 +30,10 @@ enum-told : tie.Need-enum-told Inv-loop μ-loop
 enum-told c = search needs
 
 same-length : tie.Need-same-length Inv-loop μ-loop
-same-length c = search write-long
+same-length c = search (write-long itemBytes 20 item-size)
 
 returns : tie.Need-returns Inv-loop μ-loop
-returns c = search write-end
+returns c = search (write-count itemBytes 20 item-size, write-list itemBytes 20 item-size)
 
 enum-told-2 : tie.Need-enum-told-2 Inv-loop μ-loop
 enum-told-2 c = search needs
@@ -37,19 +42,19 @@ loop-less : tie.Need-loop-less Inv-loop μ-loop
 loop-less c = search less-hidden
 
 loop-again : tie.Need-loop-again Inv-loop μ-loop
-loop-again c = search write-hidden
+loop-again c = search (write-hidden itemBytes 20 item-size, ready-hidden)
 
 enum-known-seen : tie.Need-enum-known-seen Inv-loop μ-loop
 enum-known-seen c = search needs
 
 put-item-requires : tie.Need-put-item-requires Inv-loop μ-loop
-put-item-requires c κs = search write-room
+put-item-requires c κs = search (write-room itemBytes 20 item-size)
 
 loop-less-2 : tie.Need-loop-less-2 Inv-loop μ-loop
 loop-less-2 c = search less-shown
 
 loop-again-2 : tie.Need-loop-again-2 Inv-loop μ-loop
-loop-again-2 c = search write-shown
+loop-again-2 c = search (write-shown itemBytes 20 item-size, ready-shown)
 
 pub write-items-spec : {M : Type 1} → statement M
 write-items-spec =

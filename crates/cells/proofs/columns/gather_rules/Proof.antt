@@ -3,13 +3,13 @@ use borrow.Author.Needs.{needs}
 use Prim.Native.Nat.{_-_, _/_}
 use lib.ListN.{length}
 use Rattle.rules.specs.RecordLaws.{Gathering, gather-first}
-use Rattle.cells.specs.ByteRules.{rulesOf}
+use Rattle.cells.specs.ByteRules.{fenceRulesOf}
 use Rattle.cells.specs.RuleLaws.{rules-again, rules-all}
 use Rattle.cells.proofs.columns.gather_rules.Statement.{statement}
 use Rattle.cells.proofs.columns.gather_rules.Tie as tie
 
 abbrev Inv-loop : tie.InvT-loop
-Inv-loop rules all₀ i₀ all i = Gathering (rulesOf rules) all i
+Inv-loop rules all₀ i₀ all i = Gathering (fenceRulesOf rules) all i
 
 abbrev μ-loop : tie.MeasureT-loop
 μ-loop rules all₀ i₀ all i = length rules / 2 - i

@@ -7,8 +7,8 @@ use Rattle.cont.proofs.ContIter.next.Tie as tie
 returns : tie.Need-returns
 returns c = search next-long
 
-outside-requires : tie.Need-outside-requires
-outside-requires c κs = search needs
+is-misplaced-requires : tie.Need-is-misplaced-requires
+is-misplaced-requires c κs = search needs
 
 returns-2 : tie.Need-returns-2
 returns-2 c = search next-misplaced
@@ -20,4 +20,4 @@ returns-3 : tie.Need-returns-3
 returns-3 c = search next-served
 
 pub next-spec : {M : Type 1} → statement M
-next-spec = tie.close (tie.spec returns outside-requires returns-2 step-requires returns-3)
+next-spec = tie.close (tie.spec returns is-misplaced-requires returns-2 step-requires returns-3)

@@ -1,8 +1,8 @@
 -- `in_order` meets its contract: a loop over rows that tests their places. Assumes nothing.
 use borrow.Author.Needs.{needs}
 use Prim.Native.Nat.{_-_}
-use Rattle.common.specs.Entry.{Shaping, wide}
-use Rattle.common.specs.EntryLaws.{shaping-first, shaping-end}
+use Rattle.common.specs.Entry.{wide}
+use Rattle.common.specs.EntryLaws.{Shaping, shaping-first, shaping-end}
 use Rattle.cover.specs.ShapeLaws.{tested-again, tested-early, tested-empty, tested-long}
 use Rattle.cover.proofs.shape.in_order.Statement.{statement}
 use Rattle.cover.proofs.shape.in_order.Tie as tie

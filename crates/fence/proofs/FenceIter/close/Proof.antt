@@ -2,12 +2,12 @@
 use borrow.Author.Needs.{needs}
 use Prim.Native.Nat.{_-_}
 use lib.ListN.{length}
-use Rattle.fence.specs.Laws.{Closes, close-rules}
+use Rattle.fence.specs.Laws.{FenceCloses, close-rules}
 use Rattle.fence.proofs.FenceIter.close.Statement.{statement}
 use Rattle.fence.proofs.FenceIter.close.Tie as tie
 
 abbrev Inv-loop : tie.InvT-loop
-Inv-loop self src count from search₀ search = Closes self count src from search
+Inv-loop self src count from search₀ search = FenceCloses self count src from search
 
 abbrev μ-loop : tie.MeasureT-loop
 μ-loop self src count from search₀ search = length src - search

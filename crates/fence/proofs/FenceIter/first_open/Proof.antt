@@ -2,7 +2,7 @@
 use borrow.Author.Needs.{needs}
 use Prim.Native.Nat.{_-_}
 use lib.ListN.{length}
-use Rattle.common.specs.Turn.{Stands}
+use Rattle.common.specs.Turning.{Stands}
 use Rattle.common.specs.TurnLaws.{stands-first, stands-less, stands-again, stands-stop, stands-found}
 use Rattle.fence.specs.Fence.{openTurn, view}
 use Rattle.fence.specs.Laws.{Lies, turn-adv}

@@ -1,6 +1,6 @@
 -- `next` meets its contract. Assumes nothing.
 use Rattle.common.specs.TurnLaws.{last-fits}
-use Rattle.fence.specs.Fence.{view}
+use Rattle.fence.specs.Fence.{rests}
 use Rattle.fence.specs.Laws.{Lies, lies-start, lies-end, turn-adv, next-long, next-outside, next-told}
 use borrow.Author.Needs.{needs}
 use Rattle.fence.proofs.FenceIter.next.Statement.{statement}
@@ -18,11 +18,11 @@ first-open-requires c κs = search needs
 enum-known-a : tie.Need-enum-known-a
 enum-known-a c = search needs
 
-cast-t16 : tie.Need-cast-t16
-cast-t16 c = search (last-fits Lies view (λ f. f .start), lies-start, turn-adv)
+cast-t15 : tie.Need-cast-t15
+cast-t15 c = search (last-fits Lies rests (λ f. f .start), lies-start, turn-adv)
 
-cast-t17 : tie.Need-cast-t17
-cast-t17 c = search (last-fits Lies view (λ f. f .end), lies-end, turn-adv)
+cast-t16 : tie.Need-cast-t16
+cast-t16 c = search (last-fits Lies rests (λ f. f .end), lies-end, turn-adv)
 
 at-requires : tie.Need-at-requires
 at-requires c κs = search needs
@@ -33,20 +33,11 @@ enum-known-v c = search needs
 at-requires-2 : tie.Need-at-requires-2
 at-requires-2 c κs = search needs
 
-enum-known-n : tie.Need-enum-known-n
-enum-known-n c = search needs
-
-at-requires-3 : tie.Need-at-requires-3
-at-requires-3 c κs = search needs
-
 returns-3 : tie.Need-returns-3
 returns-3 c = search next-told
 
 returns-4 : tie.Need-returns-4
 returns-4 c = search next-told
-
-returns-5 : tie.Need-returns-5
-returns-5 c = search next-told
 
 pub next-spec : {M : Type 1} → statement M
 next-spec =
@@ -56,13 +47,10 @@ next-spec =
     returns-2
     first-open-requires
     enum-known-a
+    cast-t15
     cast-t16
-    cast-t17
     at-requires
     enum-known-v
     at-requires-2
-    enum-known-n
-    at-requires-3
     returns-3
-    returns-4
-    returns-5)
+    returns-4)

@@ -1,11 +1,11 @@
 -- `fence_table` meets its contract: the table is filled from the last rule to the first. Assumes nothing.
 use borrow.Author.Needs.{needs}
-use Rattle.lines.specs.RuleLaws.{Filled, filled-first, filled-again, filled-all}
+use Rattle.lines.specs.RuleLaws.{TableFilled, filled-first, filled-again, filled-all}
 use Rattle.lines.proofs.fence_tests.fence_table.Statement.{statement}
 use Rattle.lines.proofs.fence_tests.fence_table.Tie as tie
 
 abbrev Inv-loop : tie.InvT-loop
-Inv-loop bytes mins fences₀ i₀ fences i = Filled bytes mins fences i
+Inv-loop bytes mins fences₀ i₀ fences i = TableFilled bytes mins fences i
 
 abbrev μ-loop : tie.MeasureT-loop
 μ-loop bytes mins fences₀ i₀ fences i = i

@@ -2,7 +2,7 @@
 use Prim.Native.Nat.{_-_}
 use Rattle.common.specs.Refusals.{toldSpan}
 use Rattle.fence.specs.declared.FenceIter.{FenceIter}
-use Rattle.listing.specs.Going.{Fencing}
+use Rattle.listing.specs.Going.{FencesGoing}
 use Rattle.listing.specs.ScannerLines.{fences-first}
 use Rattle.listing.specs.GoingLaws.{going-same, going-here, lines-less, lines-again, lines-end}
 use borrow.Author.Needs.{needs}
@@ -10,7 +10,7 @@ use Rattle.listing.proofs.scans.put_fences_of.Statement.{statement}
 use Rattle.listing.proofs.scans.put_fences_of.Tie as tie
 
 abbrev Inv-loop : tie.InvT-loop
-Inv-loop text byte out₀ n state₀ k₀ out state k = Fencing byte text n out₀ state out k
+Inv-loop text byte out₀ n state₀ k₀ out state k = FencesGoing byte text n out₀ state out k
 
 abbrev μ-loop : tie.MeasureT-loop
 μ-loop text byte out₀ n state₀ k₀ out state k = 1000000 - k

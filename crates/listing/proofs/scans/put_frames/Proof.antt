@@ -2,7 +2,7 @@
 use Prim.Native.Nat.{_-_}
 use Rattle.common.specs.Refusals.{toldSpan}
 use Rattle.cont.specs.declared.ContIter.{ContIter}
-use Rattle.listing.specs.Going.{Framing}
+use Rattle.listing.specs.Going.{FramesGoing}
 use Rattle.listing.specs.ScannerLines.{frames-first}
 use Rattle.listing.specs.GoingLaws.{going-same, going-here, lines-less, lines-again, lines-end}
 use borrow.Author.Needs.{needs}
@@ -10,7 +10,7 @@ use Rattle.listing.proofs.scans.put_frames.Statement.{statement}
 use Rattle.listing.proofs.scans.put_frames.Tie as tie
 
 abbrev Inv-loop : tie.InvT-loop
-Inv-loop text out₀ n state₀ k₀ out state k = Framing text n out₀ state out k
+Inv-loop text out₀ n state₀ k₀ out state k = FramesGoing text n out₀ state out k
 
 abbrev μ-loop : tie.MeasureT-loop
 μ-loop text out₀ n state₀ k₀ out state k = 1000000 - k

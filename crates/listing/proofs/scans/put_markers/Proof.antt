@@ -4,7 +4,7 @@ use Rattle.block_marker.specs.Marker.{scanner, told}
 use Rattle.block_marker.specs.MarkerRun.{lawful}
 use Rattle.listing.specs.Listing.{houseMarkers, markerLines}
 use Rattle.block_marker.specs.declared.BlockMarkerIter.{BlockMarkerIter}
-use Rattle.listing.specs.Going.{Itemizing}
+use Rattle.listing.specs.Going.{ItemsGoing}
 use Rattle.listing.specs.ScannerLines.{items-first}
 use Rattle.listing.specs.GoingLaws.{going-same, going-here, lines-less, lines-again, lines-end}
 use borrow.Author.Needs.{needs}
@@ -12,7 +12,7 @@ use Rattle.listing.proofs.scans.put_markers.Statement.{statement}
 use Rattle.listing.proofs.scans.put_markers.Tie as tie
 
 abbrev Inv-loop : tie.InvT-loop
-Inv-loop text set out₀ n state₀ k₀ out state k = Itemizing scanner set text 77 (markerLines text) n out₀ state out k
+Inv-loop text set out₀ n state₀ k₀ out state k = ItemsGoing scanner set text 77 (markerLines text) n out₀ state out k
 
 abbrev μ-loop : tie.MeasureT-loop
 μ-loop text set out₀ n state₀ k₀ out state k = 1000000 - k

@@ -1,7 +1,6 @@
 -- `put_regions` meets its contract. Assumes nothing.
 use Prim.Native.Nat.{_-_}
-use Rattle.listing.specs.Held.{Rowing}
-use Rattle.listing.specs.HeldLaws.{rowing-here, rowing-same, regions-first, regions-again, regions-end}
+use Rattle.listing.specs.HeldLaws.{Rowing, rowing-here, rowing-same, regions-first, regions-again, regions-end}
 use borrow.Author.Needs.{needs}
 use Rattle.listing.proofs.tables.put_regions.Statement.{statement}
 use Rattle.listing.proofs.tables.put_regions.Tie as tie

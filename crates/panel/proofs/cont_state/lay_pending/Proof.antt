@@ -2,13 +2,13 @@
 use borrow.Author.Needs.{needs}
 use Prim.Native.Nat.{_-_}
 use Rattle.cells.specs.ByteLaws.{Lays}
-use Rattle.panel.specs.ContState.{spanPair}
+use Rattle.common.specs.Refusals.{spanValues}
 use Rattle.panel.specs.ContStateLaws.{pending-first, pending-again, pending-all}
 use Rattle.panel.proofs.cont_state.lay_pending.Statement.{statement}
 use Rattle.panel.proofs.cont_state.lay_pending.Tie as tie
 
 abbrev Inv-loop : tie.InvT-loop
-Inv-loop pending all₀ i₀ all i = Lays spanPair 2 pending 39 i all₀ all
+Inv-loop pending all₀ i₀ all i = Lays spanValues 2 pending 39 i all₀ all
 
 abbrev μ-loop : tie.MeasureT-loop
 μ-loop pending all₀ i₀ all i = 32 - i

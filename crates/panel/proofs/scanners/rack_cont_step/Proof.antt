@@ -1,6 +1,5 @@
 -- `rack_cont_step` meets its contract. Assumes nothing.
-use Rattle.cont.specs.Cont.{answer, state}
-use Rattle.panel.specs.ContState.{contFrom, contCells, contLimits}
+use Rattle.panel.specs.ContState.{contStepper}
 use Rattle.panel.specs.ContStateLaws.{cont-room}
 use Rattle.panel.specs.StateLaws.{is-readable, step-long, step-unread, step-done}
 use borrow.Author.Needs.{needs}
@@ -8,7 +7,7 @@ use Rattle.panel.proofs.scanners.rack_cont_step.Statement.{statement}
 use Rattle.panel.proofs.scanners.rack_cont_step.Tie as tie
 
 returns : tie.Need-returns
-returns c = search (step-long contFrom contCells contLimits answer state)
+returns c = search (step-long contStepper)
 
 cont-fits-requires : tie.Need-cont-fits-requires
 cont-fits-requires c κs = search needs
@@ -35,13 +34,13 @@ same-length-2 : tie.Need-same-length-2
 same-length-2 c = search needs
 
 returns-2 : tie.Need-returns-2
-returns-2 c = search (step-done contFrom contCells contLimits answer state)
+returns-2 c = search (step-done contStepper)
 
 same-length-3 : tie.Need-same-length-3
 same-length-3 c = search needs
 
 returns-3 : tie.Need-returns-3
-returns-3 c = search (step-unread contFrom contCells contLimits answer state)
+returns-3 c = search (step-unread contStepper)
 
 pub rack-cont-step-spec : {M : Type 1} → statement M
 rack-cont-step-spec =

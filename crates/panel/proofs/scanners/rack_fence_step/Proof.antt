@@ -1,14 +1,13 @@
 -- `rack_fence_step` meets its contract. Assumes nothing.
 use mathlib.Core.Path.{refl}
-use Rattle.fence.specs.Fence.{answer, state}
-use Rattle.panel.specs.State.{fenceFrom, fenceCells, fenceLimits}
+use Rattle.panel.specs.State.{fenceCells, fenceLimits, fenceStepper}
 use Rattle.panel.specs.StateLaws.{is-readable, state-room, step-long, step-unread, step-done}
 use borrow.Author.Needs.{needs}
 use Rattle.panel.proofs.scanners.rack_fence_step.Statement.{statement}
 use Rattle.panel.proofs.scanners.rack_fence_step.Tie as tie
 
 returns : tie.Need-returns
-returns c = search (step-long fenceFrom fenceCells fenceLimits answer state)
+returns c = search (step-long fenceStepper)
 
 slice-aggregate-cells-fit : tie.Need-slice-aggregate-cells-fit
 slice-aggregate-cells-fit c = search needs
@@ -38,13 +37,13 @@ same-length-2 : tie.Need-same-length-2
 same-length-2 c = search needs
 
 returns-2 : tie.Need-returns-2
-returns-2 c = search (step-done fenceFrom fenceCells fenceLimits answer state)
+returns-2 c = search (step-done fenceStepper)
 
 same-length-3 : tie.Need-same-length-3
 same-length-3 c = search needs
 
 returns-3 : tie.Need-returns-3
-returns-3 c = search (step-unread fenceFrom fenceCells fenceLimits answer state)
+returns-3 c = search (step-unread fenceStepper)
 
 pub rack-fence-step-spec : {M : Type 1} → statement M
 rack-fence-step-spec =

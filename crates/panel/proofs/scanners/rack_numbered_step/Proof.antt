@@ -1,14 +1,13 @@
 -- `rack_numbered_step` meets its contract. Assumes nothing.
 use mathlib.Core.Path.{refl}
-use Rattle.block_numbered.specs.Numbered.{answer, state}
-use Rattle.panel.specs.State.{markerLimits, numberedFrom, numberedCells}
+use Rattle.panel.specs.State.{itemLimits, numberedCells, numberedStepper}
 use Rattle.panel.specs.StateLaws.{is-readable, state-room, set-long, set-unread, set-done}
 use borrow.Author.Needs.{needs}
 use Rattle.panel.proofs.scanners.rack_numbered_step.Statement.{statement}
 use Rattle.panel.proofs.scanners.rack_numbered_step.Tie as tie
 
 returns : tie.Need-returns
-returns c = search (set-long numberedFrom numberedCells markerLimits answer state)
+returns c = search (set-long numberedStepper)
 
 slice-aggregate-cells-fit : tie.Need-slice-aggregate-cells-fit
 slice-aggregate-cells-fit c = search needs
@@ -32,7 +31,7 @@ slice-aggregate-moved-numbered : tie.Need-slice-aggregate-moved-numbered
 slice-aggregate-moved-numbered c = search needs
 
 moved-numbered-requires : tie.Need-moved-numbered-requires
-moved-numbered-requires c κs = search (state-room numberedCells markerLimits (λ g. refl))
+moved-numbered-requires c κs = search (state-room numberedCells itemLimits (λ g. refl))
 
 same-length : tie.Need-same-length
 same-length c = search needs
@@ -41,13 +40,13 @@ same-length-2 : tie.Need-same-length-2
 same-length-2 c = search needs
 
 returns-2 : tie.Need-returns-2
-returns-2 c = search (set-done numberedFrom numberedCells markerLimits answer state)
+returns-2 c = search (set-done numberedStepper)
 
 same-length-3 : tie.Need-same-length-3
 same-length-3 c = search needs
 
 returns-3 : tie.Need-returns-3
-returns-3 c = search (set-unread numberedFrom numberedCells markerLimits answer state)
+returns-3 c = search (set-unread numberedStepper)
 
 pub rack-numbered-step-spec : {M : Type 1} → statement M
 rack-numbered-step-spec =

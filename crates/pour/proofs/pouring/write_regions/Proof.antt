@@ -3,9 +3,9 @@ use borrow.Author.Needs.{needs}
 use Prim.Native.Nat.{_-_}
 use lib.ListN.{length}
 use Rattle.rules.specs.Rows.{gramBy}
-use Rattle.region.specs.LoopLaws.{Pouring, pouring-first, pouring-room, pouring-less, pouring-same}
+use Rattle.region.specs.LoopLaws.{Pouring, pouring-first, pouring-room, pouring-next, pouring-less, pouring-end, pouring-same}
 use Rattle.pour.specs.Building.{regionBytes}
-use Rattle.pour.specs.PourLaws.{row-bytes, pours-next, pours-end}
+use Rattle.pour.specs.PourLaws.{row-bytes}
 use Rattle.pour.proofs.pouring.write_regions.Statement.{statement}
 use Rattle.pour.proofs.pouring.write_regions.Tie as tie
 use Rattle.cells.specs.Bytes.{rowBytes}
@@ -32,7 +32,7 @@ loop-less : tie.Need-loop-less Inv-loop μ-loop
 loop-less c = search pouring-less
 
 loop-again : tie.Need-loop-again Inv-loop μ-loop
-loop-again c = search pours-next
+loop-again c = search pouring-next
 
 enum-told : tie.Need-enum-told Inv-loop μ-loop
 enum-told c = search needs
@@ -41,7 +41,7 @@ same-length : tie.Need-same-length Inv-loop μ-loop
 same-length c = search pouring-same
 
 returns : tie.Need-returns Inv-loop μ-loop
-returns c = search pours-end
+returns c = search pouring-end
 
 pub write-regions-spec : {M : Type 1} → statement M
 write-regions-spec =

@@ -1,11 +1,11 @@
 -- `put_openers` meets its contract: rules are laid from the last to the first. Assumes nothing.
 use borrow.Author.Needs.{needs}
-use Rattle.rules.specs.RowLaws.{Opening, opening-first, opening-again, opening-all}
+use Rattle.rules.specs.RowLaws.{OpenersLaying, opening-first, opening-again, opening-all}
 use Rattle.rules.proofs.rows.put_openers.Statement.{statement}
 use Rattle.rules.proofs.rows.put_openers.Tie as tie
 
 abbrev Inv-loop : tie.InvT-loop
-Inv-loop rows₀ openers closers counts i₀ rows i = Opening openers closers counts rows₀ rows i
+Inv-loop rows₀ openers closers counts i₀ rows i = OpenersLaying openers closers counts rows₀ rows i
 
 abbrev μ-loop : tie.MeasureT-loop
 μ-loop rows₀ openers closers counts i₀ rows i = i

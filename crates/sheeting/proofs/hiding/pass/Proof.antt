@@ -3,8 +3,7 @@ use borrow.Author.Needs.{needs}
 use Prim.Native.Nat.{_-_}
 use lib.ListN.{length}
 use Rattle.rules.specs.Rows.{gramBy}
-use Rattle.sheeting.specs.Hiding.{Passing}
-use Rattle.sheeting.specs.HidingLaws.{passing-first, pass-found, pass-next, pass-less, pass-none}
+use Rattle.sheeting.specs.HidingLaws.{Passing, passing-first, pass-found, pass-next, pass-less, pass-none}
 use Rattle.sheeting.proofs.hiding.pass.Statement.{statement}
 use Rattle.sheeting.proofs.hiding.pass.Tie as tie
 

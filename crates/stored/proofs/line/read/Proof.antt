@@ -5,11 +5,11 @@ use Rattle.stored.proofs.line.read.Tie as tie
 use Prim.Native.Nat.{_-_}
 use lib.ListN.{length}
 use Rattle.stored.specs.FoldLaws.{Folds, folds-first, folds-again}
-use Rattle.stored.specs.Line.{withByte}
+use Rattle.stored.specs.Line.{afterByte}
 use Rattle.stored.specs.LineLaws.{line-read}
 
 abbrev Inv-loop : tie.InvT-loop
-Inv-loop text reading₀ i₀ reading i = Folds withByte reading₀ text reading i
+Inv-loop text reading₀ i₀ reading i = Folds afterByte reading₀ text reading i
 
 abbrev μ-loop : tie.MeasureT-loop
 μ-loop text reading₀ i₀ reading i = length text - i

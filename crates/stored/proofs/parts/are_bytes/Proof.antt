@@ -4,11 +4,11 @@ use Rattle.stored.proofs.parts.are_bytes.Statement.{statement}
 use Rattle.stored.proofs.parts.are_bytes.Tie as tie
 use Prim.Native.Nat.{_-_}
 use lib.ListN.{length}
-use Rattle.stored.specs.PartLaws.{Holds, holds-first, bytes-again, bytes-not, holds-all}
+use Rattle.stored.specs.PartLaws.{HoldsTo, holds-first, bytes-again, bytes-not, holds-all}
 use Rattle.stored.specs.Parts.{isByte}
 
 abbrev Inv-loop : tie.InvT-loop
-Inv-loop run pairs i₀ i = Holds (isByte run pairs) (length run) i
+Inv-loop run pairs i₀ i = HoldsTo (isByte run pairs) (length run) i
 
 abbrev μ-loop : tie.MeasureT-loop
 μ-loop run pairs i₀ i = length run - i

@@ -4,11 +4,11 @@ use Rattle.stored.proofs.parts.same.Statement.{statement}
 use Rattle.stored.proofs.parts.same.Tie as tie
 use Prim.Native.Nat.{_-_}
 use lib.ListN.{length}
-use Rattle.stored.specs.PartLaws.{Holds, holds-first, same-length, same-again, same-not, same-all}
+use Rattle.stored.specs.PartLaws.{HoldsTo, holds-first, same-length, same-again, same-not, same-all}
 use Rattle.stored.specs.Parts.{equalAt}
 
 abbrev Inv-loop : tie.InvT-loop
-Inv-loop a b i₀ i = Holds (equalAt a b) (length a) i
+Inv-loop a b i₀ i = HoldsTo (equalAt a b) (length a) i
 
 abbrev μ-loop : tie.MeasureT-loop
 μ-loop a b i₀ i = length a - i

@@ -4,11 +4,11 @@ use Rattle.stored.proofs.form.Form.lists_are_sound.Statement.{statement
 use Rattle.stored.proofs.form.Form.lists_are_sound.Tie as tie
 use Prim.Native.Nat.{_-_}
 use Rattle.stored.specs.Form.{listSound}
-use Rattle.stored.specs.PartLaws.{Holds, holds-first, holds-all}
+use Rattle.stored.specs.PartLaws.{HoldsTo, holds-first, holds-all}
 use Rattle.stored.specs.FormLaws.{lists-again, lists-not}
 
 abbrev Inv-loop : tie.InvT-loop
-Inv-loop self asked question i₀ i = Holds (listSound self asked question) 7 i
+Inv-loop self asked question i₀ i = HoldsTo (listSound self asked question) 7 i
 
 abbrev μ-loop : tie.MeasureT-loop
 μ-loop self asked question i₀ i = 7 - i

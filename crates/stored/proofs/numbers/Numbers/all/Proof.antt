@@ -5,10 +5,10 @@ use Rattle.stored.proofs.numbers.Numbers.all.Tie as tie
 use Prim.Native.Nat.{_-_}
 use lib.ListN.{length}
 use Rattle.stored.specs.FoldLaws.{Folds, folds-first, folds-again, folds-all}
-use Rattle.stored.specs.Numbers.{said}
+use Rattle.stored.specs.Numbers.{withNumber}
 
 abbrev Inv-loop : tie.InvT-loop
-Inv-loop run all₀ i₀ all i = Folds said all₀ run all i
+Inv-loop run all₀ i₀ all i = Folds withNumber all₀ run all i
 
 abbrev μ-loop : tie.MeasureT-loop
 μ-loop run all₀ i₀ all i = length run - i

@@ -5,11 +5,11 @@ use Rattle.stored.proofs.numbers.Numbers.bytes.Tie as tie
 use Prim.Native.Nat.{_-_}
 use lib.ListN.{length}
 use Rattle.stored.specs.FoldLaws.{Folds, folds-first, folds-again}
-use Rattle.stored.specs.Numbers.{said}
+use Rattle.stored.specs.Numbers.{withNumber}
 use Rattle.stored.specs.NumberLaws.{list-said}
 
 abbrev Inv-loop : tie.InvT-loop
-Inv-loop bytes all₀ i₀ all i = Folds said all₀ bytes all i
+Inv-loop bytes all₀ i₀ all i = Folds withNumber all₀ bytes all i
 
 abbrev μ-loop : tie.MeasureT-loop
 μ-loop bytes all₀ i₀ all i = length bytes - i

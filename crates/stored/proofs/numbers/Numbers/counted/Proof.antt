@@ -2,7 +2,7 @@
 use borrow.Author.Needs.{needs}
 use Rattle.stored.proofs.numbers.Numbers.counted.Statement.{statement}
 use Rattle.stored.proofs.numbers.Numbers.counted.Tie as tie
-use Rattle.stored.specs.Numbers.{ended}
+use Rattle.stored.specs.Numbers.{entriesEnded}
 
 element-write-all : tie.Need-element-write-all
 element-write-all c = search needs
@@ -11,7 +11,7 @@ counted-requires : tie.Need-counted-requires
 counted-requires c κs = search needs
 
 returns : tie.Need-returns
-unfolding ended
+unfolding entriesEnded
 returns c = record { answer = cc }
 
 pub counted-spec : {M : Type 1} → statement M

@@ -2,7 +2,7 @@
 use borrow.Author.Needs.{needs}
 use Rattle.stored.proofs.numbers.Numbers.entries.Statement.{statement}
 use Rattle.stored.proofs.numbers.Numbers.entries.Tie as tie
-use Rattle.stored.specs.Numbers.{begun}
+use Rattle.stored.specs.Numbers.{entriesBegun}
 
 and-requires : tie.Need-and-requires
 and-requires c κs = search needs
@@ -14,7 +14,7 @@ count-requires : tie.Need-count-requires
 count-requires c κs = search needs
 
 returns : tie.Need-returns
-unfolding begun
+unfolding entriesBegun
 returns c = record { answer = cc }
 
 pub entries-spec : {M : Type 1} → statement M

@@ -1,10 +1,12 @@
 -- Laws of what all of a list have. Assumes nothing.
 use mathlib.Core.List.{List, [], _∷_, _++_}
-use Prim.Native.Nat.{ℕ, zero, suc, _+_}
+use Prim.Native.Nat.{ℕ, zero, suc, _+_, _<_}
+use native.Mathlib.Omega.{arith}
 use lib.ListN.{getD, set, take, drop, replicate}
 use Rattle.common.specs.Entry.{putAt}
 use Rattle.common.specs.Rules.{tabulate}
-use Rattle.common.specs.Turn.{Each}
+use Rattle.common.specs.Turn.{gather}
+use Rattle.common.specs.Turning.{Each}
 
 module _ {A : Type 0} (P : A → Type 0) where
   pub each-append : (a b : List A) → Each P a → Each P b → Each P (a ++ b)
@@ -43,3 +45,12 @@ module _ {A : Type 0} (P : A → Type 0) where
   each-take zero l v = tt
   each-take (suc n) [] v = tt
   each-take (suc n) (x ∷ l) v = (v .0, each-take n l (v .1))
+
+  pub each-gather : (at : ℕ → List A) (n a : ℕ) → ((k : ℕ) → k < a + n → Each P (at k)) → Each P (gather at n a)
+  unfolding gather
+  each-gather at zero a w = tt
+  each-gather at (suc n) a w = each-append (at a) (gather at n (suc a)) (w a (omega arith)) (each-gather at n (suc a) (λ k h. w k (omega arith)))
+
+pub each-as : {A : Type 0} (P Q : A → Type 0) → ((a : A) → P a → Q a) → (l : List A) → Each P l → Each Q l
+each-as P Q f [] w = tt
+each-as P Q f (a ∷ l) w = (f a (w .0), each-as P Q f l (w .1))

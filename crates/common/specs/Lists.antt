@@ -1,0 +1,38 @@
+-- Lists in a run of numbers: an entry written to its row, all entries written over the front, and what is answered where they have room or not. Assumes nothing.
+-- The page: "Success writes the regions from place 0, returns their count and changes nothing beyond them."
+use mathlib.Core.Path.{_≡_}
+use mathlib.Core.Bool.{Bool, cond}
+use mathlib.Core.List.{List, [], _∷_}
+use Prim.Native.Nat.{ℕ, _+_, _*_}
+use lib.Dec.{ltb}
+use lib.ListN.{length}
+use Rattle.common.specs.Entry.{flatten, room, over, putAt}
+use Rattle.common.specs.Refusals.{Outcome, given, refuse}
+
+-- an entry written as row n of a list whose rows are all as long, and the next row's number
+pub record RowPut (row : List ℕ) (n : ℕ) (out out′ : List ℕ) (r : ℕ) : Type 0 where
+  pub next : r ≡ n + 1
+  pub list : out′ ≡ putAt (n * length row) row out
+
+-- a list's entries, each in the numbers that `flat` gives, written over the front of a run, and how many
+pub record Wrote {A : Type 0} (flat : A → List ℕ) (l : List A) (out out′ : List ℕ) (n : ℕ) : Type 0 where
+  pub count : n ≡ length l
+  pub list : out′ ≡ over (flatten flat l) out
+
+-- ---- entries of w numbers each, written where there is room for them
+-- 3: "the answer has more regions, or items, than there is room for"
+abbrev pub crowded : {A : Type 0} → ℕ → List A → List ℕ → Bool
+crowded w l out = ltb (room w out) (length l)
+
+-- that refusal, else the count
+abbrev pub filledAnswer : {A : Type 0} → ℕ → List A → List ℕ → Outcome
+filledAnswer w l out = refuse 3 (crowded w l out) (given (length l ∷ []))
+
+-- "Success writes the regions from place 0 … and changes nothing beyond them"; a refusal changes nothing
+abbrev pub filledList : {A : Type 0} → (A → List ℕ) → ℕ → List A → List ℕ → List ℕ
+filledList flat w l out = cond (crowded w l out) out (over (flatten flat l) out)
+
+-- what filling a run answers and leaves
+pub record Filled {A : Type 0} (flat : A → List ℕ) (w : ℕ) (l : List A) (out out′ : List ℕ) (o : Outcome) : Type 0 where
+  pub answer : o ≡ filledAnswer w l out
+  pub list : out′ ≡ filledList flat w l out
