@@ -33,9 +33,12 @@ oneToNine n = ltb 0 n && leb n 9
 abbrev pub few : ℕ → ℕ
 few n = cond (leb n 9) n 0
 
--- the item of digits and their delimiter, with the span of its content
+-- the item of a number and its delimiter, with the span of its content; and of the digits that write the number
+abbrev pub item : ℕ → ℕ → ℕ → ℕ → NumberedItem
+item number delimiter start end = record { number = number; delimiter = delimiter; span = record { start = start; end = end } }
+
 abbrev pub numbered : List ℕ → ℕ → ℕ → ℕ → NumberedItem
-numbered ds delimiter start end = record { number = valued ds; delimiter = delimiter; span = record { start = start; end = end } }
+numbered ds = item (valued ds)
 
 -- ---- all numbered items of a text, by the bytes of its lines
 -- the item of a line's bytes behind its digits ds, the first of them at k: an accepted delimiter, one separator or tab, and the rest of
@@ -99,12 +102,9 @@ abbrev pub lineTurn : ItemGrammar → List ℕ → ℕ → Turn NumberedItem
 lineTurn g s q = readTurn g (readLine g) s q
 
 -- ---- the step
--- an item's values: the start and end of its content, the delimiter byte and the number; and the item of its parts
+-- an item's values: the start and end of its content, the delimiter byte and the number
 abbrev pub values : NumberedItem → List ℕ
 values i = i .span .start ∷ i .span .end ∷ i .delimiter ∷ i .number ∷ []
-
-abbrev pub item : ℕ → ℕ → ℕ → ℕ → NumberedItem
-item number delimiter start end = record { number = number; delimiter = delimiter; span = record { start = start; end = end } }
 
 -- the scanner, by the fields of its state, its two scans and its items' values
 abbrev pub scanner : Scanner BlockNumberedIter NumberedItem

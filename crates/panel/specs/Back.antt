@@ -57,8 +57,8 @@ pub record Bounded (g : ContIter) : Type 0 where
 abbrev pub Byte : ℕ → Type 0
 Byte x = x ≤ 255
 
-abbrev pub Text : List ℕ → Type 0
-Text s = Each Byte s
+abbrev pub ByteRun : List ℕ → Type 0
+ByteRun s = Each Byte s
 
 -- the values that an answer run says: how many there are, and then these
 abbrev pub valuesIn : List ℕ → List ℕ

@@ -27,7 +27,7 @@ use Rattle.block_numbered.specs.declared.NumberedItem.{NumberedItem}
 use Rattle.block_numbered.specs.Numbered as numbered
 use Rattle.block_numbered.specs.NumberedRun.{lawful as numbered-lawful, fresh-items as numbered-items}
 use Rattle.panel.specs.State.{Made, Stepper, Stepped, itemLimits, itemCells, itemFields, markerCells, markerFrom, markerStepper, numberedCells, numberedFrom, numberedStepper}
-use Rattle.panel.specs.Back.{Holds, Byte, Text, valuesIn}
+use Rattle.panel.specs.Back.{Holds, Byte, ByteRun, valuesIn}
 use Rattle.common.specs.EachLaws.{each-getD, each-take, each-drop}
 use Rattle.panel.specs.BackLaws.{ItemHeld, made-back, item-small, item-fresh, item-next}
 use Rattle.panel.specs.RunLaws.{StepReady, Fit, fit-each, said-has, hosted-run}
@@ -87,11 +87,11 @@ from-byte P g make k n [] h v = tt
 from-byte P g make k n (x ∷ []) h v = tt
 from-byte P g make k n (x ∷ y ∷ l) h v = both (λ r. OnFound P (lineFound r n)) (g .accepts x && blank g y) (make x (k + 2) (k + 2 + length l) ∷ []) [] (λ u. h x (k + 2) (k + 2 + length l) (v .0)) (λ u. tt)
 
-line-bytes : (g : ItemGrammar) (s : List ℕ) (q : ℕ) → Text s → Each Byte (lineBytes g s q)
+line-bytes : (g : ItemGrammar) (s : List ℕ) (q : ℕ) → ByteRun s → Each Byte (lineBytes g s q)
 line-bytes g s q v = each-drop Byte q (take (lineEnd (g .eol) s q) s) (each-take Byte (lineEnd (g .eol) s q) s v)
 
 -- ---- the marker scanner
-module _ (s : List ℕ) (bytes : Text s) where
+module _ (s : List ℕ) (bytes : ByteRun s) where
   abbrev Marked : MarkerItem → Type 0
   Marked i = Byte (i .marker)
 
@@ -127,7 +127,7 @@ module _ (s : List ℕ) (bytes : Text s) where
       ∙ ap (take n) (marker-items (setOf bytes) s eol sep tab (length-tabulate (oneOf bytes) 256 0) apart)
 
 -- ---- the numbered scanner
-module _ (s : List ℕ) (bytes : Text s) where
+module _ (s : List ℕ) (bytes : ByteRun s) where
   abbrev Counted : NumberedItem → Type 0
   Counted i = Byte (i .delimiter)
 
