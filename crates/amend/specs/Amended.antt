@@ -66,23 +66,35 @@ unfoldable pub leftOpen : {T : Type 0} → ℕ → (List ℕ → List (Region T)
 leftOpen eol build len e = openEnd eol (follows len (e .second)) (e .text) (reaches (length (e .text)) (build (e .text)))
 
 -- ---- the answer, and the list that is left
+-- "For an amendment: 1 (old text, replacement), 6, 4, 1 (edited text), 5, 9, 7, 8, 3."
+-- The first seven, which the lengths, the rules, the list, the cuts and the bytes before them decide (of the rules 6 and 9 as they hold), else
+-- what follows
+unfoldable pub judged : ℕ → List ℕ → List ℕ → ℕ → Edit → Bool → Bool → Outcome → Outcome
+judged eol s l n e unequal marked o =
+    refuse 1 (tooLong s || tooLong (e .text))
+    (refuse 6 unequal
+    (refuse 4 (miscut s e)
+    (refuse 1 (tooLong (edited e s))
+    (refuse 5 (misshapen l n (length s))
+    (refuse 9 marked
+    (refuse 7 (offJoint eol s (regionsIn n l) (e .first) (e .second))
+    o))))))
+
+-- the last two, which the replacement and the room decide, 3 as for building, else the count
+unfoldable pub settledAnswer : ℕ → ℕ → (List ℕ → List Listed) → List Listed → Edit → List ℕ → Outcome
+settledAnswer eol len build l e out =
+    refuse 8 (leftOpen eol build len e) (filledAnswer wide (amendedRegions build len e l) out)
+
 module _ (g : Grammar) (c : Columns) (s l : List ℕ) (n : ℕ) (e : Edit) where
   -- the regions that an amendment of the list l, with n regions, is to leave
   abbrev pub amendedList : List Listed
   amendedList = amendedRegions (listRegions (gramOf g c)) (length s) e (regionsIn n l)
 
-  -- "For an amendment: 1 (old text, replacement), 6, 4, 1 (edited text), 5, 9, 7, 8, 3.", the last as for building
+  -- all nine, one after another
   unfoldable pub amendedAnswer : List ℕ → Outcome
   amendedAnswer out =
-      refuse 1 (tooLong s || tooLong (e .text))
-      (refuse 6 (unequal c)
-      (refuse 4 (miscut s e)
-      (refuse 1 (tooLong (edited e s))
-      (refuse 5 (misshapen l n (length s))
-      (refuse 9 (usesLineEnd g c)
-      (refuse 7 (offJoint (g .eol) s (regionsIn n l) (e .first) (e .second))
-      (refuse 8 (leftOpen (g .eol) (listRegions (gramOf g c)) (length s) e)
-      (filledAnswer wide amendedList out))))))))
+      judged (g .eol) s l n e (unequal c) (usesLineEnd g c)
+      (settledAnswer (g .eol) (length s) (listRegions (gramOf g c)) (regionsIn n l) e out)
 
 -- "A refusal returns its number alone; lists, states and cursors keep their values. … Success writes the regions from place 0, returns
 -- their count and changes nothing beyond them.": the run that an outcome leaves of `out`, where the regions are l

@@ -27,8 +27,8 @@ use Rattle.lines.specs.Fences.{fenceTable}
 use Rattle.joint.specs.Joint.{afterEmptyLine, lineEndIsMark}
 use Rattle.amend.specs.Amend.{Edit, joint}
 use Rattle.cover.specs.Shape.{misshapen}
-use Rattle.amend.specs.Amended.{regionsIn, listRegions, edit, edited, follows, miscut, usesLineEnd, offJoint, amendedAnswer, Amended}
-use Rattle.amend.specs.Parts.{judged, toldVerdict, Judged, CutsReady, settledAnswer, Settled}
+use Rattle.amend.specs.Amended.{regionsIn, listRegions, edit, edited, follows, miscut, usesLineEnd, offJoint, judged, settledAnswer, amendedAnswer, Amended}
+use Rattle.amend.specs.Parts.{toldVerdict, Judged, CutsReady, Settled}
 use Rattle.amend.specs.RowLaws.{orderly-told}
 use Rattle.amend.specs.JudgeLaws.{edited-length}
 use Rattle.amend.specs.declared.Verdict.{Verdict}
@@ -112,14 +112,10 @@ ready-told eol s l n first second r u m v e g =
 
 -- ---- the ways out of the entry
 module _ (g : Grammar) (c : Columns) (s l : List ℕ) (n : ℕ) (e : Edit) (out : List ℕ) where
-  as-judged : amendedAnswer g c s l n e out
-      ≡ judged (g .eol) s l n e (unequal c) (usesLineEnd g c) (settledAnswer (g .eol) (length s) (listRegions (gramOf g c)) (regionsIn n l) e out)
-  unfolding amendedAnswer judged settledAnswer
-  as-judged = refl
-
   module _ (u m : Bool) (v : Verdict) (hv : Judged (g .eol) s l n e u m v) (hu : Gives (unequal c) u) (hm : Gives (usesLineEnd g c) m) where
     as-told : amendedAnswer g c s l n e out ≡ judged (g .eol) s l n e u m (settledAnswer (g .eol) (length s) (listRegions (gramOf g c)) (regionsIn n l) e out)
-    as-told = as-judged ∙ rw (← (hu .answer), ← (hm .answer))
+    unfolding amendedAnswer
+    as-told = rw (← (hu .answer), ← (hm .answer))
 
     amended-stop : (q : Refusal) → v ≡ verdict.Refused q → Amended g c s l n e out out (refused (numberOf q))
     amended-stop q d =
@@ -171,27 +167,11 @@ line-alike eol s s′ k long same = by (decide (leb 2 k))
     by (inr u) = rw u
 
 module _ (g : Grammar) (c : Columns) (l : List ℕ) (n : ℕ) (e : Edit) (out : List ℕ) where
-  -- the answer, by what is asked of the old text
-  asked : ℕ → ℕ → Bool → Bool → Outcome
-  asked len long first second =
-      refuse 1 (ltb 4294967295 len || tooLong (e .text))
-      (refuse 6 (unequal c)
-      (refuse 4 (ltb (e .second) (e .first) || ltb len (e .second))
-      (refuse 1 (ltb 4294967295 long)
-      (refuse 5 (misshapen l n len)
-      (refuse 9 (usesLineEnd g c)
-      (refuse 7 (not (first && not (reaches (e .first) (regionsIn n l))) || (follows len (e .second) && not (second && not (reaches (e .second) (regionsIn n l)))))
-      (settledAnswer (g .eol) len (listRegions (gramOf g c)) (regionsIn n l) e out)))))))
-
-  is-asked : (s : List ℕ) → amendedAnswer g c s l n e out ≡ asked (length s) (length (edited e s)) (afterEmptyLine (g .eol) s (e .first)) (afterEmptyLine (g .eol) s (e .second))
-  unfolding amendedAnswer asked offJoint joint settledAnswer
-  is-asked s = refl
-
   answer-alike : (s s′ : List ℕ) → Alike s s′ e → amendedAnswer g c s l n e out ≡ amendedAnswer g c s′ l n e out
+  unfolding amendedAnswer judged offJoint joint
   answer-alike s s′ w =
       let size : length (edited e s) ≡ length (edited e s′) = simp (length-append, length-take, length-drop, w .long) in
-      is-asked s
-      ∙ rw (w .long, size, line-alike (g .eol) s s′ (e .first) (w .long) (w .first), line-alike (g .eol) s s′ (e .second) (w .long) (w .second)) (sym (is-asked s′))
+      rw (w .long, size, line-alike (g .eol) s s′ (e .first) (w .long) (w .first), line-alike (g .eol) s s′ (e .second) (w .long) (w .second))
 
 -- "Of the old text only its length and the two bytes before each cut are read": another old text that is alike there gives the same answer
 -- and leaves the same list

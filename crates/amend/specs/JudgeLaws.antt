@@ -9,8 +9,7 @@ use borrow.Author.Tests.{lt-ltb, le-ltb}
 use Rattle.search.specs.Promise.{Gives}
 use Rattle.common.specs.Refusals.{Outcome, refused, tooLong}
 use Rattle.cover.specs.Shape.{misshapen}
-use Rattle.amend.specs.Amended.{regionsIn, edit, edited, miscut, offJoint}
-use Rattle.amend.specs.Parts.{judged}
+use Rattle.amend.specs.Amended.{regionsIn, edit, edited, miscut, offJoint, judged}
 
 pub edited-length : (s : List ℕ) (first second : ℕ) (r : List ℕ) → first ≤ second → second ≤ length s → length (edited (edit first second r) s) ≡ length s - (second - first) + length r
 edited-length s first second r h k =

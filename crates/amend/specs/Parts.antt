@@ -1,19 +1,18 @@
 -- What the parts of an amendment ask and promise. Assumes nothing.
 -- The page's sentences stand in Amended.antt; here are its parts, a function each.
 use mathlib.Core.Path.{_≡_}
-use mathlib.Core.Bool.{Bool, false, _||_}
+use mathlib.Core.Bool.{Bool, false}
 use mathlib.Core.List.{List, [], _++_}
 use Prim.Native.Nat.{ℕ, _+_, _-_, _*_, _≤_}
 use lib.ListN.{length, drop}
 use Rattle.common.specs.Entry.{flatten, over, putAt, wide}
-use Rattle.common.specs.Refusals.{Outcome, given, refused, refuse, tooLong, numberOf}
+use Rattle.common.specs.Refusals.{Outcome, given, refused, numberOf}
 use Rattle.region.specs.Region.{up, reaches, InOrder, Listed, Caused, row}
 use Rattle.rules.specs.Grammar.{Gram}
 use Rattle.region.specs.Regions.{regions}
 use Rattle.amend.specs.Amend.{Edit, movedBy}
 use Rattle.cover.specs.Shape.{misshapen}
-use Rattle.common.specs.Lists.{filledAnswer}
-use Rattle.amend.specs.Amended.{regionsIn, listRegions, edited, amendedRegions, miscut, offJoint, leftOpen, leaves}
+use Rattle.amend.specs.Amended.{regionsIn, listRegions, amendedRegions, judged, settledAnswer, leaves}
 use Rattle.amend.specs.declared.Verdict.{Verdict}
 use Rattle.amend.specs.declared.Verdict.the-variants as verdict
 use Rattle.amend.specs.declared.Cuts.{Cuts}
@@ -63,23 +62,11 @@ pub record Owns (l : List Caused) (s : List ℕ) (by : ℕ) (out : List ℕ) (at
   pub room : at * wide + length l * wide ≤ length out
 
 -- ---- refusals
--- the first seven of `amendedAnswer`, which the lengths, the list, the cuts and the bytes before them decide, else what follows
-unfoldable pub judged : ℕ → List ℕ → List ℕ → ℕ → Edit → Bool → Bool → Outcome → Outcome
-judged eol s l n e unequal marked o =
-    refuse 1 (tooLong s || tooLong (e .text))
-    (refuse 6 unequal
-    (refuse 4 (miscut s e)
-    (refuse 1 (tooLong (edited e s))
-    (refuse 5 (misshapen l n (length s))
-    (refuse 9 marked
-    (refuse 7 (offJoint eol s (regionsIn n l) (e .first) (e .second))
-    o))))))
-
 abbrev pub toldVerdict : Verdict → Outcome
 toldVerdict verdict.Fine = given []
 toldVerdict (verdict.Refused r) = refused (numberOf r)
 
--- what a verdict says
+-- what a verdict says: the first seven refusals, and nothing behind them
 pub record Judged (eol : ℕ) (s l : List ℕ) (n : ℕ) (e : Edit) (unequal marked : Bool) (v : Verdict) : Type 0 where
   pub answer : toldVerdict v ≡ judged eol s l n e unequal marked (given [])
 
@@ -90,11 +77,6 @@ pub record CutsReady (l : List ℕ) (n : ℕ) (cuts : Cuts) (r : List ℕ) : Typ
   pub inside : cuts .second ≤ cuts .len
   pub short : cuts .len ≤ 4294967295
   pub small : cuts .len - (cuts .second - cuts .first) + length r ≤ 4294967295
-
--- its last two, which the replacement and the room decide, else the count
-unfoldable pub settledAnswer : ℕ → ℕ → (List ℕ → List Listed) → List Listed → Edit → List ℕ → Outcome
-settledAnswer eol len build l e out =
-    refuse 8 (leftOpen eol build len e) (filledAnswer wide (amendedRegions build len e l) out)
 
 -- what settling promises
 pub record Settled (eol len : ℕ) (build : List ℕ → List Listed) (l : List Listed) (e : Edit) (out out′ : List ℕ) (o : Outcome) : Type 0 where

@@ -20,8 +20,8 @@ use Rattle.region.specs.Ahead.{regions-few}
 use Rattle.joint.specs.Joint.{openEnd}
 use Rattle.amend.specs.Amend.{movedBy}
 use Rattle.common.specs.Lists.{crowded}
-use Rattle.amend.specs.Amended.{regionsIn, listRegions, edit, amendedRegions, leftOpen}
-use Rattle.amend.specs.Parts.{Orderly, regionsBetween, PutRows, Copies, Owns, surveyed, CutsReady, settledAnswer, Settled, parts, Roomy, Merged}
+use Rattle.amend.specs.Amended.{regionsIn, listRegions, edit, amendedRegions, leftOpen, settledAnswer}
+use Rattle.amend.specs.Parts.{Orderly, regionsBetween, PutRows, Copies, Owns, surveyed, CutsReady, Settled, parts, Roomy, Merged}
 use Rattle.amend.specs.Lists.{stay, retag-reaches}
 use Rattle.amend.specs.Starts.{order-longer, order-take, before-take, from-drop, order-from, before-few, unless-end}
 use Rattle.amend.specs.RowLaws.{orderly-longer, listed-length, listed-take, listed-drop, between-zero}

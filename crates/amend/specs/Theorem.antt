@@ -28,7 +28,7 @@ use Rattle.amend.specs.Several.{Fits, none, last, next}
 use Rattle.cover.specs.Cursor.{overfull}
 use Rattle.cover.specs.Shape.{misshapen}
 use Rattle.common.specs.Lists.{crowded}
-use Rattle.amend.specs.Amended.{regionsIn, listRegions, edited, amendedRegions, miscut, usesLineEnd, offJoint, leftOpen, amendedList, amendedAnswer, Amended}
+use Rattle.amend.specs.Amended.{regionsIn, listRegions, edited, amendedRegions, miscut, usesLineEnd, offJoint, leftOpen, amendedList, judged, settledAnswer, amendedAnswer, Amended}
 use Rattle.amend.specs.Starts.{unless-end}
 use Rattle.amend.specs.Edits.{relist-one}
 use Rattle.amend.specs.AmendedLaws.{refuse-pass}
@@ -109,7 +109,7 @@ pub record Accepted (g : Grammar) (c : Columns) (s l : List ℕ) (n : ℕ) (e : 
   pub count : k ≡ length (amendedList g c s l n e)
 
 pub accepted-told : (g : Grammar) (c : Columns) (s l : List ℕ) (n : ℕ) (e : Edit) (out : List ℕ) (k : ℕ) → given (k ∷ []) ≡ amendedAnswer g c s l n e out → Accepted g c s l n e out k
-unfolding amendedAnswer
+unfolding amendedAnswer judged settledAnswer
 accepted-told g c s l n e out k served =
     let v = k ∷ [] in
     let p1 = refuse-pass 0 (tooLong s || tooLong (e .text)) _ v (sym served) in

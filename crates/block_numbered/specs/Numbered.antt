@@ -7,8 +7,8 @@ use Prim.Native.Nat.{ℕ, _+_, _-_}
 use lib.Dec.{ltb, leb}
 use lib.ListN.{length, getD, take, drop}
 use lib.Seq.{slice}
-use Rattle.search.specs.Search.{either, oneOf, holds, find, back, lineEnd, nextLine}
-use Rattle.decimal.specs.Decimal.{digit, valued}
+use Rattle.search.specs.Search.{either, oneOf, holds, find, back, lineEnd, nextLine, digit}
+use Rattle.decimal.specs.Decimal.{valued}
 use Rattle.common.specs.Refusals.{Outcome, given, refused, tooLong, past, numberOf}
 use Rattle.common.specs.Turn.{Turn, go, stop, found, Step}
 use Rattle.common.specs.Items.{ItemGrammar, grammar, blank, has, Apart, leading, beyond, leads, itemFrom, itemsOf, readTurn, hitTurn, stepFor}

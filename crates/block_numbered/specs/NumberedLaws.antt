@@ -10,9 +10,9 @@ use lib.ListN.{length, getD, take, drop, length-take, length-drop}
 use lib.Seq.{getD-take, slice, length-slice, length-take-le, take-all, take-take, drop-drop}
 use borrow.Author.Tests.{lt-ltb, le-ltb, ltb-true, ltb-false, leb-true, leb-false}
 use Rattle.search.specs.Promise.{Gives}
-use Rattle.search.specs.Search.{is, either, other, holds, find, Sought, back, lineStart, lineEnd, nextLine}
+use Rattle.search.specs.Search.{is, either, other, holds, find, Sought, back, lineStart, lineEnd, nextLine, digit}
 use Rattle.search.specs.SearchLaws.{decide, clash, and-true, is-no, either-true, other-yes, other-no, other-false, holds-in, holds-true, find-ge, find-le, find-before, find-at, find-is, find-end, find-over, back-le, line-next}
-use Rattle.decimal.specs.Decimal.{digit, valued}
+use Rattle.decimal.specs.Decimal.{valued}
 use Rattle.common.specs.Turn.{go, stop, found, allFound}
 use Rattle.common.specs.Turning.{Ahead, Adv, Covers}
 use Rattle.common.specs.TurnLaws.{collect-covers}

@@ -6,8 +6,7 @@ use mathlib.Core.Bool.{Bool, true, _&&_}
 use mathlib.Core.List.{List}
 use Prim.Native.Nat.{ℕ, suc, _+_, _-_, _≤_, _<_}
 use lib.ListN.{length, take}
-use Rattle.search.specs.Search.{holds, find, back}
-use Rattle.decimal.specs.Decimal.{digit}
+use Rattle.search.specs.Search.{holds, find, back, digit}
 use Rattle.common.specs.Sets.{accepted}
 use Rattle.common.specs.Refusals.{read, unlessNone}
 use Rattle.common.specs.RefusalLaws.{read-refused}

@@ -5,13 +5,13 @@ use mathlib.Core.List.{List, [], _∷_}
 use Prim.Native.Nat.{ℕ, zero, suc, _+_, _<_}
 use native.Mathlib.Nat.{add-zero, zero-add, add-suc, suc-add, not-suc-le-zero}
 use native.Mathlib.Omega.{arith}
-use lib.Dec.{eqb, leb}
+use lib.Dec.{eqb}
 use lib.ListN.{length, getD}
 use borrow.Author.Tests.{eqb-true}
 use Rattle.search.specs.SearchLaws.{and-true, decide, clash}
 use Rattle.common.specs.Sets.{classOf, setOf, markerBytes, delimiterBytes, classSet}
 use Rattle.search.specs.Promise.{Gives}
-use Rattle.search.specs.Search.{oneOf}
+use Rattle.search.specs.Search.{oneOf, digit}
 use mathlib.Core.Logic.{_⊎_, inl, inr}
 use Rattle.common.specs.Rules.{tabulate}
 
@@ -61,8 +61,8 @@ apart b u = by (decide (eqb b 45)) (decide (eqb b 42)) (decide (eqb b 43))
 
 pub marker-set : (set : List Bool) → Gives (classSet 1) set → set ≡ setOf markerBytes
 unfolding numbered
-marker-set set h = h .answer ∙ ap (λ (f : ℕ → Bool). tabulate f 256 0) (fun-ext (λ b. first-class (oneOf markerBytes b) (oneOf delimiterBytes b) (leb 48 b && leb b 57)))
+marker-set set h = h .answer ∙ ap (λ (f : ℕ → Bool). tabulate f 256 0) (fun-ext (λ b. first-class (oneOf markerBytes b) (oneOf delimiterBytes b) (digit b)))
 
 pub delimiter-set : (set : List Bool) → Gives (classSet 2) set → set ≡ setOf delimiterBytes
 unfolding numbered
-delimiter-set set h = h .answer ∙ ap (λ (f : ℕ → Bool). tabulate f 256 0) (fun-ext (λ b. second-class (oneOf markerBytes b) (oneOf delimiterBytes b) (leb 48 b && leb b 57) (apart b)))
+delimiter-set set h = h .answer ∙ ap (λ (f : ℕ → Bool). tabulate f 256 0) (fun-ext (λ b. second-class (oneOf markerBytes b) (oneOf delimiterBytes b) (digit b) (apart b)))

@@ -2,12 +2,12 @@
 -- The page: "A set starts as 256 false entries and gains the accepted bytes", "1 for a marker, 2 for a delimiter, 4 for a digit, 0
 -- otherwise", "up to three accepted bytes in rising order, unused places 0, else none".
 use mathlib.Core.Path.{_≡_}
-use mathlib.Core.Bool.{Bool, true, false, cond, _&&_}
+use mathlib.Core.Bool.{Bool, true, false, cond}
 use mathlib.Core.List.{List, [], _∷_}
 use Prim.Native.Nat.{ℕ, zero, suc, _<_}
 use lib.Dec.{eqb, leb}
 use lib.ListN.{length, getD}
-use Rattle.search.specs.Search.{oneOf}
+use Rattle.search.specs.Search.{oneOf, digit}
 use Rattle.common.specs.Rules.{tabulate}
 use Rattle.common.specs.declared.sets.Probe.{Probe}
 
@@ -29,7 +29,7 @@ delimiterBytes = 46 ∷ 41 ∷ []
 
 -- "1 for a marker, 2 for a delimiter, 4 for a digit, 0 otherwise"
 abbrev pub classOf : ℕ → ℕ
-classOf b = cond (oneOf markerBytes b) 1 (cond (oneOf delimiterBytes b) 2 (cond (leb 48 b && leb b 57) 4 0))
+classOf b = cond (oneOf markerBytes b) 1 (cond (oneOf delimiterBytes b) 2 (cond (digit b) 4 0))
 
 -- the set of the bytes of a class
 abbrev pub classSet : ℕ → List Bool

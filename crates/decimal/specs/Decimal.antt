@@ -3,8 +3,9 @@
 use mathlib.Core.Bool.{Bool, true, false, _&&_}
 use mathlib.Core.List.{List, [], _∷_, _++_}
 use Prim.Native.Nat.{ℕ, zero, suc, _+_, _-_, _*_, _/_, _%_}
-use lib.Dec.{ltb, leb}
+use lib.Dec.{ltb}
 use lib.ListN.{length, replicate}
+use Rattle.search.specs.Search.{digit}
 use Rattle.decimal.specs.declared.Digits.{Digits}
 
 -- ---- a number is written
@@ -22,10 +23,6 @@ unfoldable pub digitsOf : ℕ → Digits
 digitsOf n = record { bytes = decimal n ++ replicate (10 - length (decimal n)) 0; count = length (decimal n) }
 
 -- ---- a number is read
--- "ASCII digits": whether a byte is one
-unfoldable pub digit : ℕ → Bool
-digit x = leb 48 x && leb x 57
-
 -- the number that digits write behind a number v, and that they write alone
 unfoldable pub valuedFrom : ℕ → List ℕ → ℕ
 valuedFrom v [] = v

@@ -10,9 +10,10 @@ use lib.Dec.{ltb, leb}
 use lib.ListN.{length, take, replicate, length-append}
 use lib.Seq.{take-append-seam}
 use borrow.Author.Tests.{lt-ltb, le-ltb, ltb-true, ltb-false, leb-true, le-leb, lt-leb}
+use Rattle.search.specs.Search.{digit}
 use Rattle.search.specs.Promise.{Gives}
 use Rattle.search.specs.SearchLaws.{decide, and-true}
-use Rattle.decimal.specs.Decimal.{decimalBy, decimal, digitsOf, digit, valuedFrom, valued, allDigits, numeral}
+use Rattle.decimal.specs.Decimal.{decimalBy, decimal, digitsOf, valuedFrom, valued, allDigits, numeral}
 
 -- ---- one digit
 -- a byte below 48 is none; of the others those to 57 are

@@ -9,9 +9,8 @@ use lib.Dec.{eqb, ltb}
 use lib.ListN.{length, getD, take}
 use borrow.Author.Tests.{ltb-true, eqb-true}
 use Rattle.common.specs.Rules.{tabulate}
-use Rattle.search.specs.Search.{find, oneOf, back, holds}
+use Rattle.search.specs.Search.{find, oneOf, back, holds, digit}
 use Rattle.search.specs.SearchLaws.{decide, clash, find-at}
-use Rattle.decimal.specs.Decimal.{digit}
 use Rattle.common.specs.Sets.{acceptedFrom}
 use Rattle.common.specs.Items.{ItemGrammar, blank, leads, hitTurn}
 use Rattle.common.specs.Scanning.{Scanner, byNeedles, turn}

@@ -7,9 +7,8 @@ use native.Mathlib.Omega.{arith}
 use lib.Dec.{leb}
 use borrow.Author.Tests.{leb-true, lt-ltb, ne-eqb}
 use Rattle.common.specs.Rules.{tabulate}
-use Rattle.search.specs.Search.{oneOf}
+use Rattle.search.specs.Search.{oneOf, digit}
 use Rattle.search.specs.SearchLaws.{and-true}
-use Rattle.decimal.specs.Decimal.{digit}
 use Rattle.common.specs.TableLaws.{length-tabulate, table-entry}
 use Rattle.common.specs.Items.{ItemGrammar, grammar, has, Apart}
 use Rattle.block_marker.specs.Marker as marker

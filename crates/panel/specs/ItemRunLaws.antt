@@ -7,8 +7,7 @@ use Prim.Native.Nat.{ℕ, _+_, _-_, _≤_}
 use native.Mathlib.Omega.{arith}
 use lib.Dec.{ltb}
 use lib.ListN.{length, take, drop}
-use Rattle.search.specs.Search.{find, holds, oneOf, back, lineEnd, nextLine}
-use Rattle.decimal.specs.Decimal.{digit}
+use Rattle.search.specs.Search.{find, holds, oneOf, back, lineEnd, nextLine, digit}
 use Rattle.common.specs.Items.{ItemGrammar, grammar, blank, has, Apart, leads, lineBytes, leading, beyond, itemFrom, lineFound, readTurn, stepFor}
 use Rattle.common.specs.ItemLaws.{both}
 use Rattle.common.specs.Scanning as scanning

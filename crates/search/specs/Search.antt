@@ -5,7 +5,7 @@ use mathlib.Core.Path.{_≡_}
 use mathlib.Core.Bool.{Bool, true, false, not, _||_, _&&_}
 use mathlib.Core.List.{List, [], _∷_}
 use Prim.Native.Nat.{ℕ, zero, suc, _+_, _-_, _≤_, min, max}
-use lib.Dec.{eqb, ltb}
+use lib.Dec.{eqb, ltb, leb}
 use lib.ListN.{length, getD}
 
 -- ---- tests of a byte
@@ -21,6 +21,10 @@ either b c x = eqb x b || eqb x c
 unfoldable pub oneOf : List ℕ → ℕ → Bool
 oneOf [] x = false
 oneOf (y ∷ ys) x = eqb x y || oneOf ys x
+
+-- "ASCII digits": whether it is one
+unfoldable pub digit : ℕ → Bool
+digit x = leb 48 x && leb x 57
 
 -- whether it fails a test
 unfoldable pub other : (ℕ → Bool) → ℕ → Bool

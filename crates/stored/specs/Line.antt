@@ -6,7 +6,7 @@ use mathlib.Core.List.{List}
 use Prim.Native.Nat.{ℕ, _+_, _-_, _*_}
 use lib.Dec.{eqb, leb}
 use lib.ListN.{getD}
-use Rattle.search.specs.Search.{is, holds}
+use Rattle.search.specs.Search.{is, holds, digit}
 use Rattle.stored.specs.Fold.{fold}
 use Rattle.stored.specs.Numbers.{noNumbers, withNumber}
 use Rattle.stored.specs.Parts.{numbersBetween, same}
@@ -40,7 +40,7 @@ withEquals r = record { numbers = r .numbers; asked = r .numbers .count; equals 
 
 -- the next byte: a digit, the equals sign, or another
 unfoldable pub afterByte : Reading → ℕ → Reading
-afterByte r b = cond (leb 48 b && leb b 57) (withDigit r (b - 48)) (cond (eqb b 61) (withEquals (partedOff r)) (partedOff r))
+afterByte r b = cond (digit b) (withDigit r (b - 48)) (cond (eqb b 61) (withEquals (partedOff r)) (partedOff r))
 
 abbrev pub readAll : List ℕ → Reading
 readAll t = partedOff (fold afterByte nothingRead t)

@@ -7,7 +7,7 @@ use native.Mathlib.Omega.{arith}
 use lib.ListN.{length, getD}
 use borrow.Author.Tests.{eq-eqb, ne-eqb, le-leb, lt-leb}
 use Rattle.search.specs.Promise.{Gives}
-use Rattle.search.specs.Search.{is, holds}
+use Rattle.search.specs.Search.{is, holds, digit}
 use Rattle.stored.specs.Fold.{fold}
 use Rattle.stored.specs.FoldLaws.{Folds, folds-all}
 use Rattle.stored.specs.Numbers.{withNumber}
@@ -54,20 +54,20 @@ module _ (r : Reading) where
 
   module _ (b : ℕ) where
     pub byte-digit : (s : Reading) → 48 ≤ b → b ≤ 57 → Gives (withDigit r (b - 48)) s → s ≡ afterByte r b
-    unfolding afterByte
+    unfolding afterByte digit
     byte-digit s h k g = simp (le-leb 48 b h, le-leb b 57 k, g .answer)
 
     module _ (p : Reading) (g : Gives (partedOff r) p) where
       pub byte-low : b < 48 → p ≡ afterByte r b
-      unfolding afterByte
+      unfolding afterByte digit
       byte-low h = simp (lt-leb 48 b h, ne-eqb b 61 (λ d. omega (arith, d)), g .answer)
 
       pub byte-equals : (s : Reading) → 57 < b → b ≡ 61 → Gives (withEquals p) s → s ≡ afterByte r b
-      unfolding afterByte
+      unfolding afterByte digit
       byte-equals s h e k = simp (lt-leb b 57 h, and-false, eq-eqb b 61 e, k .answer, g .answer)
 
       pub byte-high : 57 < b → (b ≡ 61 → ⊥) → p ≡ afterByte r b
-      unfolding afterByte
+      unfolding afterByte digit
       byte-high h e = simp (lt-leb b 57 h, and-false, ne-eqb b 61 e, g .answer)
 
 -- ---- the whole line

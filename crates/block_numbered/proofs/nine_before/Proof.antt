@@ -1,6 +1,6 @@
 -- `nine_before` meets its contract: a loop that walks back. Assumes nothing.
 use borrow.Author.Needs.{needs}
-use Rattle.decimal.specs.Decimal.{digit}
+use Rattle.search.specs.Search.{digit}
 use Rattle.block_numbered.specs.DigitLaws.{Walking, walking-rules}
 use Rattle.block_numbered.proofs.nine_before.Statement.{statement}
 use Rattle.block_numbered.proofs.nine_before.Tie as tie
