@@ -15,9 +15,9 @@ use lib.Seq.{getD-take, slice, slice-empty, length-slice, take-suc, take-nil, dr
 use borrow.Author.Tests.{leb-true, leb-false, le-leb, lt-leb, ltb-true, ltb-false, lt-ltb, le-ltb}
 use Rattle.search.specs.Promise.{Gives}
 use Rattle.search.specs.Search.{other, holds, find, back, digit}
-use Rattle.search.specs.SearchLaws.{decide, clash, and-true, other-yes, other-no, holds-in, holds-past, find-le, find-end, find-here, Seeks, seeks-first, seeks-again, Backs, backs-first, backs-told-again, backs-told-found, backs-end, back-le, back-past, back-run, back-stop}
+use Rattle.search.specs.SearchLaws.{decide, clash, and-true, other-yes, other-no, holds-in, holds-past, find-le, find-end, find-here, Seeks, seeks-first, seeks-again, Backs, backs-first, backs-told-again, backs-told-found, backs-end, back-le, back-past, back-run, back-stop, digit-most, digit-none}
 use Rattle.decimal.specs.Decimal.{valued, allDigits}
-use Rattle.decimal.specs.DecimalLaws.{digit-most, digit-none, valued-more, valued-none, valued-few}
+use Rattle.decimal.specs.DecimalLaws.{valued-more, valued-none, valued-few}
 use Rattle.common.specs.Items.{leading, beyond}
 use Rattle.common.specs.ItemLaws.{leading-yes, leading-no, beyond-yes, beyond-no, leading-is}
 use Rattle.block_numbered.specs.Numbered.{oneToNine, few, readDigits, digitsAt}

@@ -17,6 +17,7 @@ use find::find_any_of;
 use find::find_byte;
 use search::blank_end;
 use search::byte_at;
+use search::is_digit;
 use search::next_line;
 ghost use Prim.Native.Nat.{_≤_, _-_, min};
 ghost use lib.ListN.{length, take, drop};
@@ -78,15 +79,6 @@ enum NumberedFirst {
 struct DigitRun {
     number: u32,
     end: usize,
-}
-
-fn is_digit(x: u8) -> bool
-    ensures { λ r. ⌜ Gives (digit x) r ⌝ }
-{
-    if x < 48 {
-        return false;
-    }
-    x <= 57
 }
 
 // What a digit counts.

@@ -12,33 +12,10 @@ use lib.Seq.{take-append-seam}
 use borrow.Author.Tests.{lt-ltb, le-ltb, ltb-true, ltb-false, leb-true, le-leb, lt-leb}
 use Rattle.search.specs.Search.{digit}
 use Rattle.search.specs.Promise.{Gives}
-use Rattle.search.specs.SearchLaws.{decide, and-true}
+use Rattle.search.specs.SearchLaws.{decide, and-true, digit-bounds, digit-most}
 use Rattle.decimal.specs.Decimal.{decimalBy, decimal, digitsOf, valuedFrom, valued, allDigits, numeral}
 
 -- ---- one digit
--- a byte below 48 is none; of the others those to 57 are
-pub digit-low : (x : ℕ) → x < 48 → Gives (digit x) false
-unfolding digit
-digit-low x h = record { answer = simp (lt-leb 48 x h) }
-
-pub digit-rest : (x : ℕ) → 48 ≤ x → Gives (digit x) (leb x 57)
-unfolding digit
-digit-rest x h = record { answer = simp (le-leb 48 x h) }
-
--- a digit lies from 48 to 57
-pub digit-bounds : (x : ℕ) → digit x ≡ true → (48 ≤ x) × (x ≤ 57)
-unfolding digit
-digit-bounds x e = let w = and-true (leb 48 x) (leb x 57) e in (leb-true 48 x (w .0), leb-true x 57 (w .1))
-
--- it is worth nine at the most
-pub digit-most : (x : ℕ) → digit x ≡ true → x - 48 ≤ 9
-digit-most x e = omega (arith, digit-bounds x e)
-
--- 0, the byte past a text's end, is none
-pub digit-none : digit 0 ≡ false
-unfolding digit
-digit-none = refl
-
 -- 48 and a number below ten is one
 digit-written : (d : ℕ) → d < 10 → digit (48 + d) ≡ true
 unfolding digit

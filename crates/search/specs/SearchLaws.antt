@@ -10,9 +10,9 @@ use native.Mathlib.Omega.{arith}
 use lib.Dec.{eqb, ltb, leb}
 use lib.ListN.{length, getD, take, drop, length-append, length-take, drop-of-length-le, List·getD-append, List·getD-eq-default}
 use lib.Seq.{getD-append-add, drop-cons, getD-take}
-use borrow.Author.Tests.{eq-eqb, ne-eqb, eqb-true, eqb-false, lt-ltb, le-ltb, ltb-true, ltb-false, le-leb, lt-leb}
+use borrow.Author.Tests.{eq-eqb, ne-eqb, eqb-true, eqb-false, lt-ltb, le-ltb, ltb-true, ltb-false, leb-true, le-leb, lt-leb}
 use Rattle.search.specs.Promise.{Gives}
-use Rattle.search.specs.Search.{is, either, oneOf, other, holds, firstOf, firstPlace, find, Sought, back, lineStart, lineEnd, nextLine}
+use Rattle.search.specs.Search.{is, either, oneOf, digit, other, holds, firstOf, firstPlace, find, Sought, back, lineStart, lineEnd, nextLine}
 
 -- ---- truth values
 pub decide : (y : Bool) → (y ≡ true) ⊎ (y ≡ false)
@@ -78,6 +78,30 @@ either-true b c x e = by (decide (eqb x b)) (decide (eqb x c))
     by (inl u) v = inl (eqb-true x b u)
     by (inr u) (inl v) = inr (eqb-true x c v)
     by (inr u) (inr v) = absurd (clash e (rw (u, v)))
+
+-- ---- a digit
+-- a byte below 48 is none; of the others those to 57 are
+pub digit-low : (x : ℕ) → x < 48 → Gives (digit x) false
+unfolding digit
+digit-low x h = record { answer = simp (lt-leb 48 x h) }
+
+pub digit-rest : (x : ℕ) → 48 ≤ x → Gives (digit x) (leb x 57)
+unfolding digit
+digit-rest x h = record { answer = simp (le-leb 48 x h) }
+
+-- a digit lies from 48 to 57
+pub digit-bounds : (x : ℕ) → digit x ≡ true → (48 ≤ x) × (x ≤ 57)
+unfolding digit
+digit-bounds x e = let w = and-true (leb 48 x) (leb x 57) e in (leb-true 48 x (w .0), leb-true x 57 (w .1))
+
+-- it is worth nine at the most
+pub digit-most : (x : ℕ) → digit x ≡ true → x - 48 ≤ 9
+digit-most x e = omega (arith, digit-bounds x e)
+
+-- 0, the byte past a text's end, is none
+pub digit-none : digit 0 ≡ false
+unfolding digit
+digit-none = refl
 
 pub other-yes : (t : ℕ → Bool) (x : ℕ) → t x ≡ false → other t x ≡ true
 unfolding other

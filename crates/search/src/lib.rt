@@ -4,7 +4,7 @@ ghost use Prim.Native.Nat.{_+_, _<_, min};
 ghost use lib.Dec.{leb};
 ghost use lib.ListN.{getD};
 ghost use Rattle.search.specs.Promise.{Gives};
-ghost use Rattle.search.specs.Search.{Sought, find, is, either, other, holds, back, lineStart, nextLine};
+ghost use Rattle.search.specs.Search.{Sought, find, is, either, digit, other, holds, back, lineStart, nextLine};
 
 // The end of the run of `b` that begins at `from`: the first byte that is another, else the length.
 pub fn run_end(src: &[u8], from: usize, b: u8) -> usize
@@ -45,6 +45,16 @@ pub fn is_blank(x: u8, sep: u8, tab: u8) -> bool
         return true;
     }
     x == tab
+}
+
+// Whether a byte is an ASCII digit.
+pub fn is_digit(x: u8) -> bool
+    ensures { λ r. ⌜ Gives (digit x) r ⌝ }
+{
+    if x < b'0' {
+        return false;
+    }
+    x <= b'9'
 }
 
 // The end of the run of separators and tabs that begins at `from`.

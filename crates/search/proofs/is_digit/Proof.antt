@@ -1,7 +1,7 @@
 -- `is_digit` meets its contract. Assumes nothing.
-use Rattle.decimal.specs.DecimalLaws.{digit-low, digit-rest}
-use Rattle.block_numbered.proofs.is_digit.Statement.{statement}
-use Rattle.block_numbered.proofs.is_digit.Tie as tie
+use Rattle.search.specs.SearchLaws.{digit-low, digit-rest}
+use Rattle.search.proofs.is_digit.Statement.{statement}
+use Rattle.search.proofs.is_digit.Tie as tie
 
 returns : tie.Need-returns
 returns c = search digit-low
