@@ -8,7 +8,7 @@ use Prim.Native.Nat.{ℕ, _+_}
 use lib.Dec.{ltb}
 use lib.ListN.{length, take, drop}
 use Rattle.common.specs.Entry.{flatten, rows, over, wide}
-use Rattle.common.specs.Refusals.{Outcome, refuse, tooLong, past}
+use Rattle.common.specs.Refusals.{Outcome, refuse, leaves, tooLong, past}
 use Rattle.common.specs.declared.grammar.Grammar.{Grammar}
 use Rattle.region.specs.Region.{Region, up, reaches, keepBefore, keepFrom, Listed, row, unrow, tagOf}
 use Rattle.rules.specs.Grammar.{Gram}
@@ -96,12 +96,8 @@ module _ (g : Grammar) (c : Columns) (s l : List ℕ) (n : ℕ) (e : Edit) where
       judged (g .eol) s l n e (unequal c) (usesLineEnd g c)
       (settledAnswer (g .eol) (length s) (listRegions (gramOf g c)) (regionsIn n l) e out)
 
--- "A refusal returns its number alone; lists, states and cursors keep their values. … Success writes the regions from place 0, returns
--- their count and changes nothing beyond them.": the run that an outcome leaves of `out`, where the regions are l
-abbrev pub leaves : Outcome → List ℕ → List Listed → List ℕ
-leaves o out l = cond (ltb 0 (o .number)) out (over (flatten row l) out)
-
--- the promise of an amendment: its answer, and the list that it leaves
+-- the promise of an amendment: its answer, and the list that it leaves. "Success writes the regions from place 0, returns their count and
+-- changes nothing beyond them."
 pub record Amended (g : Grammar) (c : Columns) (s l : List ℕ) (n : ℕ) (e : Edit) (out out′ : List ℕ) (o : Outcome) : Type 0 where
   pub answer : o ≡ amendedAnswer g c s l n e out
-  pub list : out′ ≡ leaves (amendedAnswer g c s l n e out) out (amendedList g c s l n e)
+  pub list : out′ ≡ leaves (amendedAnswer g c s l n e out) out (over (flatten row (amendedList g c s l n e)) out)

@@ -1,13 +1,13 @@
 -- Laws of the amendment: the ways out of the entry, that its promise leaves one answer and one list, and that it sees little of the old text. Assumes nothing.
 use mathlib.Core.Path.{_≡_, refl, sym, ap, subst, _∙_}
-use mathlib.Core.Bool.{Bool, true, false, not, _||_, _&&_}
+use mathlib.Core.Bool.{Bool, true, false, _||_}
 use mathlib.Core.List.{List, []}
 use mathlib.Core.Logic.{_⊎_, inl, inr}
 use Prim.Native.Nat.{ℕ, suc, _+_, _-_, _≤_, _<_}
 use native.Mathlib.Omega.{arith}
-use lib.Dec.{ltb, leb}
+use lib.Dec.{eqb, ltb, leb}
 use lib.ListN.{length, getD, length-append, length-take, length-drop}
-use borrow.Author.Tests.{ltb-false, leb-true}
+use borrow.Author.Tests.{ltb-false, leb-true, ne-eqb}
 use Rattle.search.specs.Promise.{Gives}
 use Rattle.search.specs.Search.{holds}
 use Rattle.search.specs.SearchLaws.{decide, neither}
@@ -17,7 +17,6 @@ use Rattle.common.specs.declared.grammar.Grammar.{Grammar}
 use Rattle.common.specs.declared.refusal.Refusal.{Refusal}
 use Rattle.common.specs.declared.refusal.Answer.{Answer}
 use Rattle.common.specs.declared.refusal.Found.the-variants as found
-use Rattle.region.specs.Region.{reaches}
 use Rattle.rules.specs.Grammar.{Gram}
 use Rattle.rules.specs.Columns.{Columns, inlineRules, columns, unequal, alphabetOf, gramOf}
 use Rattle.rules.specs.Rows.{gramBy, Folded}
@@ -27,7 +26,7 @@ use Rattle.lines.specs.Fences.{fenceTable}
 use Rattle.joint.specs.Joint.{afterEmptyLine, lineEndIsMark}
 use Rattle.amend.specs.Amend.{Edit, joint}
 use Rattle.cover.specs.Shape.{misshapen}
-use Rattle.amend.specs.Amended.{regionsIn, listRegions, edit, edited, follows, miscut, usesLineEnd, offJoint, judged, settledAnswer, amendedAnswer, Amended}
+use Rattle.amend.specs.Amended.{regionsIn, listRegions, edit, edited, miscut, usesLineEnd, offJoint, judged, settledAnswer, amendedAnswer, Amended}
 use Rattle.amend.specs.Parts.{toldVerdict, Judged, CutsReady, Settled}
 use Rattle.amend.specs.RowLaws.{orderly-told}
 use Rattle.amend.specs.JudgeLaws.{edited-length}
@@ -42,14 +41,8 @@ not-given q e =
     let y : _≡_ {A = ℕ} 0 1 = cc in
     omega arith
 
-number-positive : (q : Refusal) → ltb 0 (numberOf q) ≡ true
-number-positive q = by (decide (ltb 0 (numberOf q)))
-  where
-    by : (ltb 0 (numberOf q) ≡ true) ⊎ (ltb 0 (numberOf q) ≡ false) → ltb 0 (numberOf q) ≡ true
-    by (inl u) = u
-    by (inr u) =
-        let z : numberOf q ≡ 0 = omega (arith, ltb-false 0 (numberOf q) u) in
-        absurd (not-given q (ap refused z))
+number-some : (q : Refusal) → eqb (numberOf q) 0 ≡ false
+number-some q = ne-eqb (numberOf q) 0 (λ z. not-given q (ap refused z))
 
 -- what a chain refuses before its end it refuses with any end
 refuse-same : (k : Outcome) (n : ℕ) (b : Bool) (o o′ : Outcome) → (o ≡ k → o′ ≡ k) → refuse n b o ≡ k → refuse n b o′ ≡ k
@@ -120,7 +113,7 @@ module _ (g : Grammar) (c : Columns) (s l : List ℕ) (n : ℕ) (e : Edit) (out 
     amended-stop : (q : Refusal) → v ≡ verdict.Refused q → Amended g c s l n e out out (refused (numberOf q))
     amended-stop q d =
         let a : amendedAnswer g c s l n e out ≡ refused (numberOf q) = as-told ∙ judged-stop (g .eol) s l n e u m q _ (sym (hv .answer) ∙ ap toldVerdict d) in
-        record { answer = sym a; list = rw (a, number-positive q) }
+        record { answer = sym a; list = rw (a, number-some q) }
 
     amended-on : (out′ : List ℕ) (o : Outcome) → v ≡ verdict.Fine → Settled (g .eol) (length s) (listRegions (gramOf g c)) (regionsIn n l) e out out′ o → Amended g c s l n e out out′ o
     amended-on out′ o d w =

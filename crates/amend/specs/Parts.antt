@@ -6,13 +6,13 @@ use mathlib.Core.List.{List, [], _++_}
 use Prim.Native.Nat.{ℕ, _+_, _-_, _*_, _≤_}
 use lib.ListN.{length, drop}
 use Rattle.common.specs.Entry.{flatten, over, putAt, wide}
-use Rattle.common.specs.Refusals.{Outcome, given, refused, numberOf}
+use Rattle.common.specs.Refusals.{Outcome, given, refused, leaves, numberOf}
 use Rattle.region.specs.Region.{up, reaches, InOrder, Listed, Caused, row}
 use Rattle.rules.specs.Grammar.{Gram}
 use Rattle.region.specs.Regions.{regions}
 use Rattle.amend.specs.Amend.{Edit, movedBy}
 use Rattle.cover.specs.Shape.{misshapen}
-use Rattle.amend.specs.Amended.{regionsIn, listRegions, amendedRegions, judged, settledAnswer, leaves}
+use Rattle.amend.specs.Amended.{regionsIn, listRegions, amendedRegions, judged, settledAnswer}
 use Rattle.amend.specs.declared.Verdict.{Verdict}
 use Rattle.amend.specs.declared.Verdict.the-variants as verdict
 use Rattle.amend.specs.declared.Cuts.{Cuts}
@@ -81,7 +81,7 @@ pub record CutsReady (l : List ℕ) (n : ℕ) (cuts : Cuts) (r : List ℕ) : Typ
 -- what settling promises
 pub record Settled (eol len : ℕ) (build : List ℕ → List Listed) (l : List Listed) (e : Edit) (out out′ : List ℕ) (o : Outcome) : Type 0 where
   pub answer : o ≡ settledAnswer eol len build l e out
-  pub list : out′ ≡ leaves (settledAnswer eol len build l e out) out (amendedRegions build len e l)
+  pub list : out′ ≡ leaves (settledAnswer eol len build l e out) out (over (flatten row (amendedRegions build len e l)) out)
 
 -- ---- writing
 -- the rows before, the replacement's own, and the rows from `after` on

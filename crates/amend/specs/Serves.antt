@@ -12,6 +12,7 @@ use borrow.Author.Tests.{le-ltb, lt-ltb, le-leb, ne-eqb, ltb-true, ltb-false, eq
 use Rattle.search.specs.Search.{is, holds}
 use Rattle.search.specs.SearchLaws.{decide, is-yes, holds-in, neither}
 use Rattle.common.specs.Entry.{room, wide}
+use Rattle.common.specs.Lists.{buildAnswer}
 use Rattle.common.specs.Refusals.{given, tooLong, told}
 use Rattle.common.specs.RefusalLaws.{answer-unique}
 use Rattle.common.specs.declared.grammar.Grammar.{Grammar}
@@ -155,7 +156,7 @@ built-agrees {g} {c} {old} {run} {l} {n} {e} {out} {out′} {blank} {fresh} {r} 
 -- building answers the count of the text's regions where the text is within the limit, the columns agree and there is room
 pub build-serves : {g : Grammar} {c : Columns} {s out l : List ℕ} {a : Answer} → length s ≤ 4294967295 → unequal c ≡ false → length (regions (gramOf g c) s) ≤ room wide out
     → Built g c s out l (told a) → a ≡ Value (length (regions (gramOf g c) s))
-unfolding builtAnswer
+unfolding builtAnswer buildAnswer
 build-serves {g} {c} {s} {out} {l} {a} h u r b =
     let k = length (regions (gramOf g c) s) in
     let x : given (k ∷ []) ≡ builtAnswer g c s out = rw (le-ltb 4294967295 (length s) h, u, le-ltb (room wide out) k r) in

@@ -27,7 +27,7 @@ use Rattle.amend.specs.Amend.{Edit, joint}
 use Rattle.amend.specs.Several.{Fits, none, last, next}
 use Rattle.cover.specs.Cursor.{overfull}
 use Rattle.cover.specs.Shape.{misshapen}
-use Rattle.common.specs.Lists.{crowded}
+use Rattle.common.specs.Lists.{crowded, buildAnswer}
 use Rattle.amend.specs.Amended.{regionsIn, listRegions, edited, amendedRegions, miscut, usesLineEnd, offJoint, leftOpen, amendedList, judged, settledAnswer, amendedAnswer, Amended}
 use Rattle.amend.specs.Starts.{unless-end}
 use Rattle.amend.specs.Edits.{relist-one}
@@ -59,7 +59,7 @@ pub record BuiltLeft (g : Grammar) (c : Columns) (s out l : List ℕ) (n : ℕ) 
 
 module _ {g : Grammar} {c : Columns} {s out l : List ℕ} {n : ℕ} (b : Built g c s out l (told (Value n))) where
   pub built-told : BuiltLeft g c s out l n
-  unfolding builtAnswer builtList
+  unfolding builtAnswer buildAnswer builtList
   built-told =
       let R = regions (gramOf g c) s in
       let p = refuse-pass 0 (tooLong s) (refuse 6 (unequal c) (refuse 3 (crowded wide R out) (given (length R ∷ [])))) (n ∷ []) (sym (b .answer)) in
@@ -194,14 +194,14 @@ module _ (g : Grammar) (c : Columns) (s l : List ℕ) (n : ℕ) (e : Edit) (out 
     free = le-ltb (room wide blank) (length afresh) (omega (arith, size))
 
     answered : a ≡ Value k
-    unfolding builtAnswer afresh
+    unfolding builtAnswer buildAnswer afresh
     answered =
         let x : told a ≡ given (length afresh ∷ []) = b .answer ∙ simp (tested .short, tested .equal, free) in
         let y : told (Value k) ≡ given (length afresh ∷ []) = ap (λ (j : ℕ). given (j ∷ [])) size in
         answer-unique {o = given (length afresh ∷ [])} (record { answer = x }) (record { answer = y })
 
     built : fresh ≡ over (flatten rowOf afresh) blank
-    unfolding builtList afresh
+    unfolding builtAnswer buildAnswer builtList afresh
     built = b .list ∙ simp (tested .short, tested .equal, free)
 
     at-each : (i : ℕ) → i < k * wide → getD fresh i 0 ≡ getD out′ i 0

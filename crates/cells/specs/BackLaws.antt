@@ -12,9 +12,9 @@ use lib.Seq.{drop-drop}
 use borrow.Author.Tests.{eq-eqb, eqb-true}
 use Rattle.search.specs.SearchLaws.{decide}
 use Rattle.common.specs.Entry.{flatten, rows, over}
-use Rattle.common.specs.Refusals.{Outcome}
+use Rattle.common.specs.Refusals.{Outcome, served}
 use Rattle.cells.specs.Bytes.{four, fromFour, cells}
-use Rattle.cells.specs.Reply.{served, fitted, answered, Replied}
+use Rattle.cells.specs.Reply.{fitted, answered, Replied}
 use Rattle.cells.specs.ByteLaws.{four-back, length-four}
 
 -- a list of numbers of 32 bits

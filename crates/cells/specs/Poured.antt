@@ -2,17 +2,17 @@
 -- The page: "For building: 1, 6, 3.", "Success writes the regions from place 0, returns their count and changes nothing beyond them." and "there
 -- each number of a list is four bytes, low byte first."
 use mathlib.Core.Path.{_≡_}
-use mathlib.Core.Bool.{Bool, cond}
+use mathlib.Core.Bool.{Bool}
 use mathlib.Core.List.{List, []}
 use Prim.Native.Nat.{ℕ}
 use Rattle.common.specs.Entry.{flatten, over}
-use Rattle.common.specs.Lists.{filledAnswer}
-use Rattle.common.specs.Refusals.{Outcome, refuse, tooLong}
+use Rattle.common.specs.Lists.{filledAnswer, buildAnswer}
+use Rattle.common.specs.Refusals.{Outcome, leaves}
 use Rattle.common.specs.declared.grammar.Grammar.{Grammar}
 use Rattle.region.specs.Region.{Caused}
 use Rattle.region.specs.Regions.{regions}
 use Rattle.rules.specs.Columns.{Columns, gramOf}
-use Rattle.cells.specs.Reply.{served, fitted, Replied}
+use Rattle.cells.specs.Reply.{fitted, Replied}
 
 -- the runs that an entry writes to
 pub record ListRuns : Type 0 where
@@ -22,20 +22,16 @@ pub record ListRuns : Type 0 where
 -- a reply, and a list that is written on success alone
 pub record Poured (o : Outcome) (l : List ℕ) (before after : ListRuns) (r : ℕ) : Type 0 where
   pub reply : Replied o (before .answer) (after .answer) r
-  pub left : after .list ≡ cond (served (fitted o (before .answer))) (over l (before .list)) (before .list)
+  pub left : after .list ≡ leaves (fitted o (before .answer)) (before .list) (over l (before .list))
 
 -- a list's entries poured into a run, w bytes each
 abbrev pub PouredAs : {A : Type 0} → (A → List ℕ) → ℕ → List A → ListRuns → ListRuns → ℕ → Type 0
 PouredAs flat w l before after r = Poured (filledAnswer w l (before .list)) (flatten flat l) before after r
 
 -- ---- building
--- "For building: 1, 6, 3.", of a list whose entries have w bytes each
-unfoldable pub buildAnswer : {A : Type 0} → ℕ → Bool → List A → List ℕ → ListRuns → Outcome
-buildAnswer w bad l s before = refuse 1 (tooLong s) (refuse 6 bad (filledAnswer w l (before .list)))
-
--- the same with the list that is left
+-- "For building: 1, 6, 3.", of a list whose entries have w bytes each, with the list that is left
 abbrev pub BuiltAs : {A : Type 0} → (A → List ℕ) → ℕ → Bool → List A → List ℕ → ListRuns → ListRuns → ℕ → Type 0
-BuiltAs flat w bad l s before after r = Poured (buildAnswer w bad l s before) (flatten flat l) before after r
+BuiltAs flat w bad l s before after r = Poured (buildAnswer w bad l s (before .list)) (flatten flat l) before after r
 
 -- the regions that columns build
 abbrev pub builtBy : Grammar → Columns → List ℕ → List Caused

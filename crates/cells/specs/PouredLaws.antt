@@ -11,9 +11,9 @@ use Rattle.search.specs.Promise.{Gives}
 use Rattle.search.specs.SearchLaws.{decide}
 use Rattle.common.specs.Entry.{flatten}
 use Rattle.common.specs.Refusals.{Outcome, given, refused, differ}
-use Rattle.common.specs.Lists.{Wrote, filledAnswer}
+use Rattle.common.specs.Lists.{Wrote, filledAnswer, buildAnswer}
 use Rattle.cells.specs.Reply.{fitted, Replied}
-use Rattle.cells.specs.Poured.{ListRuns, Poured, PouredAs, buildAnswer, BuiltAs}
+use Rattle.cells.specs.Poured.{ListRuns, Poured, PouredAs, BuiltAs}
 use Rattle.cells.specs.ByteRules.{ColumnRuns, RuleRuns, uneven, unevenColumns, unevenRules}
 use Rattle.cells.specs.ReplyLaws.{replied-unique, refused-by, reply-short, enough, too-short}
 
@@ -57,7 +57,7 @@ module _ {A : Type 0} (flat : A → List ℕ) (w : ℕ) (l : List A) (lent : Lis
 
 -- ---- the ways out of building
 module _ {A : Type 0} (flat : A → List ℕ) (w : ℕ) (bad : Bool) (l : List A) (s : List ℕ) (lent : ListRuns) where
-  off : (n : ℕ) → eqb n 0 ≡ false → buildAnswer w bad l s lent ≡ refused n → BuiltAs flat w bad l s lent lent n
+  off : (n : ℕ) → eqb n 0 ≡ false → buildAnswer w bad l s (lent .list) ≡ refused n → BuiltAs flat w bad l s lent lent n
   off n e x = subst (λ (o : Outcome). Poured o (flatten flat l) lent lent n) (sym x) (poured-off n (flatten flat l) lent e)
 
   pub build-long : 4294967295 < length s → BuiltAs flat w bad l s lent lent 1
@@ -71,7 +71,7 @@ module _ {A : Type 0} (flat : A → List ℕ) (w : ℕ) (bad : Bool) (l : List A
   pub build-good : (after : ListRuns) (r : ℕ) → length s ≤ 4294967295 → bad ≡ false → PouredAs flat w l lent after r → BuiltAs flat w bad l s lent after r
   unfolding buildAnswer
   build-good after r h e d =
-      let x : buildAnswer w bad l s lent ≡ filledAnswer w l (lent .list) = simp (le-ltb 4294967295 (length s) h, e) in
+      let x : buildAnswer w bad l s (lent .list) ≡ filledAnswer w l (lent .list) = simp (le-ltb 4294967295 (length s) h, e) in
       subst (λ (o : Outcome). Poured o (flatten flat l) lent after r) (sym x) d
 
 or-right : (a b : Bool) → b ≡ true → (a || b) ≡ true

@@ -4,10 +4,10 @@ use mathlib.Core.Path.{_≡_}
 use mathlib.Core.Bool.{Bool, cond}
 use mathlib.Core.List.{List, _∷_}
 use Prim.Native.Nat.{ℕ, _+_}
-use lib.Dec.{eqb, ltb}
+use lib.Dec.{ltb}
 use lib.ListN.{length}
 use Rattle.common.specs.Entry.{flatten, over, putAt}
-use Rattle.common.specs.Refusals.{Outcome, refuse}
+use Rattle.common.specs.Refusals.{Outcome, refuse, served, leaves}
 use Rattle.cells.specs.Bytes.{four}
 
 -- numbers set from place k on; all other places stay as they are
@@ -26,17 +26,13 @@ written vs = flatten four (length vs ∷ vs)
 abbrev pub short : Outcome → List ℕ → Bool
 short o run = ltb (length run) (length (written (o .values)))
 
--- whether an answer is no refusal
-abbrev pub served : Outcome → Bool
-served o = eqb (o .number) 0
-
 -- an answer, where it has to be written to a run
 unfoldable pub fitted : Outcome → List ℕ → Outcome
 fitted o run = cond (served o) (refuse 3 (short o run) o) o
 
 -- "writes its values to a lent answer run on success alone"; "A refusal changes no byte of any lent run"
 unfoldable pub answered : Outcome → List ℕ → List ℕ
-answered o run = cond (served (fitted o run)) (over (written (o .values)) run) run
+answered o run = leaves (fitted o run) run (over (written (o .values)) run)
 
 -- "An entry returns 0 or the refusal's number and writes its values to a lent answer run on success alone"
 pub record Replied (o : Outcome) (run run′ : List ℕ) (r : ℕ) : Type 0 where

@@ -9,7 +9,7 @@ use lib.ListN.{length}
 use lib.Seq.{slice}
 use Rattle.search.specs.Search.{either, find, back, lineStart, lineEnd, nextLine}
 use Rattle.common.specs.Rules.{entry}
-use Rattle.common.specs.Refusals.{Outcome, given, refuse, unlessNone, tooLong, past}
+use Rattle.common.specs.Refusals.{Outcome, given, refuse, leaves, unlessNone, tooLong, past}
 use Rattle.common.specs.Turn.{Turn, go, stop, found, between, Step, yields, ends}
 
 -- what lines of items are read by: line end, separator, tab, and the test of accepted bytes
@@ -89,6 +89,10 @@ abbrev pub hitTurn : {A : Type 0} → ItemGrammar → (ℕ → Turn A) → List 
 hitTurn g hit s q = cond (ltb (find (g .accepts) s q) (length s)) (hit (find (g .accepts) s q)) (stop q)
 
 -- ---- a scanner's step, by its scan's answer
+-- "For a scanner: 1, 2.", else what follows; of a state that may be misplaced in its text
+abbrev pub unlessRefused : List ℕ → Bool → Outcome → Outcome
+unlessRefused s misplaced o = refuse 1 (tooLong s) (refuse 2 misplaced o)
+
 module _ {A : Type 0} where
   -- what the answer says, by the values of a thing found
   abbrev pub said : (A → List ℕ) → Turn A → Outcome
@@ -102,13 +106,13 @@ module _ {A : Type 0} where
   placeOf (stop v) = v
   placeOf (found a n) = n
 
-  -- the step's answer from a place p of a text: "For a scanner: 1, 2."
+  -- the step's answer from a place p of a text
   abbrev pub answerBy : (A → List ℕ) → List ℕ → ℕ → Turn A → Outcome
-  answerBy values s p t = refuse 1 (tooLong s) (refuse 2 (past s p) (said values t))
+  answerBy values s p t = unlessRefused s (past s p) (said values t)
 
   -- the state after it: a refusal hands the state back as it was
   abbrev pub stateBy : {S : Type 0} → (S → ℕ → S) → S → List ℕ → ℕ → Turn A → S
-  stateBy at g s p t = cond (tooLong s || past s p) g (at g (placeOf t))
+  stateBy at g s p t = leaves (unlessRefused s (past s p) (given [])) g (at g (placeOf t))
 
 -- the step that an answer's values make, with the state after it, where `back` is the thing of such values: no values are the end
 abbrev pub stepFor : {A S : Type 0} → (List ℕ → A) → List ℕ → S → Step A S

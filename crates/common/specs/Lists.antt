@@ -1,13 +1,13 @@
 -- Lists in a run of numbers: an entry written to its row, all entries written over the front, and what is answered where they have room or not. Assumes nothing.
 -- The page: "Success writes the regions from place 0, returns their count and changes nothing beyond them."
 use mathlib.Core.Path.{_≡_}
-use mathlib.Core.Bool.{Bool, cond}
+use mathlib.Core.Bool.{Bool}
 use mathlib.Core.List.{List, [], _∷_}
 use Prim.Native.Nat.{ℕ, _+_, _*_}
 use lib.Dec.{ltb}
 use lib.ListN.{length}
 use Rattle.common.specs.Entry.{flatten, room, over, putAt}
-use Rattle.common.specs.Refusals.{Outcome, given, refuse}
+use Rattle.common.specs.Refusals.{Outcome, given, refuse, leaves, tooLong}
 
 -- an entry written as row n of a list whose rows are all as long, and the next row's number
 pub record RowPut (row : List ℕ) (n : ℕ) (out out′ : List ℕ) (r : ℕ) : Type 0 where
@@ -30,7 +30,11 @@ filledAnswer w l out = refuse 3 (crowded w l out) (given (length l ∷ []))
 
 -- "Success writes the regions from place 0 … and changes nothing beyond them"; a refusal changes nothing
 abbrev pub filledList : {A : Type 0} → (A → List ℕ) → ℕ → List A → List ℕ → List ℕ
-filledList flat w l out = cond (crowded w l out) out (over (flatten flat l) out)
+filledList flat w l out = leaves (filledAnswer w l out) out (over (flatten flat l) out)
+
+-- "For building: 1, 6, 3.", of a text and of the list that rules make of it, where columns may differ
+unfoldable pub buildAnswer : {A : Type 0} → ℕ → Bool → List A → List ℕ → List ℕ → Outcome
+buildAnswer w differing l s out = refuse 1 (tooLong s) (refuse 6 differing (filledAnswer w l out))
 
 -- what filling a run answers and leaves
 pub record Filled {A : Type 0} (flat : A → List ℕ) (w : ℕ) (l : List A) (out out′ : List ℕ) (o : Outcome) : Type 0 where

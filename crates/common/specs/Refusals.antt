@@ -1,6 +1,6 @@
 -- The numbers of refusals, and what an answer says: its number, 0 where the input is served, and its values. Assumes nothing.
 -- The page: the table of refusals, and "A refusal returns its number alone".
-use mathlib.Core.Bool.{Bool, true, false, not}
+use mathlib.Core.Bool.{Bool, true, false, not, cond}
 use mathlib.Core.List.{List, [], _∷_}
 use Prim.Native.Nat.{ℕ}
 use lib.Dec.{eqb, ltb}
@@ -43,6 +43,14 @@ refused n = record { number = n; values = [] }
 abbrev pub refuse : ℕ → Bool → Outcome → Outcome
 refuse n true o = refused n
 refuse n false o = o
+
+-- whether an outcome is no refusal
+abbrev pub served : Outcome → Bool
+served o = eqb (o .number) 0
+
+-- "A refusal returns its number alone; lists, states and cursors keep their values.": what an outcome leaves of a value, which success makes another
+abbrev pub leaves : {A : Type 0} → Outcome → A → A → A
+leaves o old new = cond (served o) new old
 
 abbrev pub told : Answer → Outcome
 told (answer.Value v) = given (v ∷ [])

@@ -6,8 +6,9 @@ use Prim.Native.Nat.{ℕ, zero, suc, _+_, _-_, min}
 use lib.Dec.{ltb}
 use lib.ListN.{length, getD, drop, replicate}
 use Rattle.search.specs.Search.{find, is, holds, lineStart, lineEnd, nextLine}
-use Rattle.common.specs.Refusals.{Outcome, given, refuse, tooLong, spanValues}
+use Rattle.common.specs.Refusals.{Outcome, given, leaves, spanValues}
 use Rattle.common.specs.Entry.{putAt}
+use Rattle.common.specs.Items.{unlessRefused}
 use Rattle.common.specs.Turn.{Step, yields, ends}
 use Rattle.common.specs.declared.span.Span.{Span}
 use Rattle.cont.specs.declared.Framing.{Framing}
@@ -229,8 +230,8 @@ misplaced g s =
 
 -- "For a scanner: 1, 2."
 unfoldable pub answer : ContIter → List ℕ → Outcome
-answer g s = refuse 1 (tooLong s) (refuse 2 (misplaced g s) (spanOf (stepped g s)))
+answer g s = unlessRefused s (misplaced g s) (spanOf (stepped g s))
 
 -- a refusal hands the state back as it was
 unfoldable pub state : ContIter → List ℕ → ContIter
-state g s = cond (tooLong s || misplaced g s) g (stateOf (stepped g s))
+state g s = leaves (unlessRefused s (misplaced g s) (given [])) g (stateOf (stepped g s))

@@ -1,12 +1,11 @@
 -- What building answers and writes. Assumes nothing.
 -- The page: "For building: 1, 6, 3." and "Success writes the regions from place 0, returns their count and changes nothing beyond them."
 use mathlib.Core.Path.{_≡_}
-use mathlib.Core.Bool.{cond}
 use mathlib.Core.List.{List, []}
 use Prim.Native.Nat.{ℕ}
-use Rattle.common.specs.Entry.{wide}
-use Rattle.common.specs.Lists.{filledAnswer, filledList}
-use Rattle.common.specs.Refusals.{Outcome, refuse, tooLong}
+use Rattle.common.specs.Entry.{flatten, over, wide}
+use Rattle.common.specs.Lists.{buildAnswer}
+use Rattle.common.specs.Refusals.{Outcome, leaves}
 use Rattle.common.specs.declared.grammar.Grammar.{Grammar}
 use Rattle.region.specs.Region.{rowOf}
 use Rattle.region.specs.Regions.{regions}
@@ -14,10 +13,11 @@ use Rattle.rules.specs.Columns.{Columns, unequal, gramOf}
 
 -- ---- "For building: 1, 6, 3."
 unfoldable pub builtAnswer : Grammar → Columns → List ℕ → List ℕ → Outcome
-builtAnswer g c s out = refuse 1 (tooLong s) (refuse 6 (unequal c) (filledAnswer wide (regions (gramOf g c) s) out))
+builtAnswer g c s out = buildAnswer wide (unequal c) (regions (gramOf g c) s) s out
 
+-- the list that is left; a refusal changes nothing
 unfoldable pub builtList : Grammar → Columns → List ℕ → List ℕ → List ℕ
-builtList g c s out = cond (tooLong s) out (cond (unequal c) out (filledList rowOf wide (regions (gramOf g c) s) out))
+builtList g c s out = leaves (builtAnswer g c s out) out (over (flatten rowOf (regions (gramOf g c) s)) out)
 
 -- the promise of building: its answer, and the list that it leaves
 pub record Built (g : Grammar) (c : Columns) (s out out′ : List ℕ) (o : Outcome) : Type 0 where

@@ -20,7 +20,7 @@ use Rattle.rules.specs.RowLaws.{gram-same}
 use Rattle.rules.specs.declared.search_bytes.Alphabet.{Alphabet}
 use Rattle.region.specs.Region.{rowOf}
 use Rattle.region.specs.Regions.{regions}
-use Rattle.common.specs.Lists.{Wrote, Filled}
+use Rattle.common.specs.Lists.{Wrote, Filled, buildAnswer}
 use Rattle.common.specs.ListLaws.{fill-done}
 use Rattle.region.specs.Room.{RowFits}
 use Rattle.region.specs.Ahead.{regions-few}
@@ -50,18 +50,18 @@ room-roomy g s out most hm h = omega (arith, regions-few g s)
 -- ---- the ways out of building: b says whether columns differ
 module _ (g : Grammar) (c : Columns) (s out : List ℕ) where
   pub built-long : 4294967295 < length s → Built g c s out out (refused 1)
-  unfolding builtAnswer builtList
+  unfolding builtAnswer buildAnswer builtList
   built-long h = record { answer = simp (lt-ltb 4294967295 (length s) h); list = simp (lt-ltb 4294967295 (length s) h) }
 
   module _ (b : Bool) (short : length s ≤ 4294967295) where
     pub built-differ : b ≡ true → Gives (unequal c) b → Built g c s out out (refused 6)
-    unfolding builtAnswer builtList
+    unfolding builtAnswer buildAnswer builtList
     built-differ e d =
         let z : unequal c ≡ true = sym (d .answer) ∙ e in
         record { answer = simp (le-ltb 4294967295 (length s) short, z); list = simp (le-ltb 4294967295 (length s) short, z) }
 
     built-all : (out′ : List ℕ) (a : Outcome) → b ≡ false → Gives (unequal c) b → Filled rowOf wide (regions (gramOf g c) s) out out′ a → Built g c s out out′ a
-    unfolding builtAnswer builtList
+    unfolding builtAnswer buildAnswer builtList
     built-all out′ a e d v =
         let z : unequal c ≡ false = sym (d .answer) ∙ e in
         record { answer = v .answer ∙ simp (le-ltb 4294967295 (length s) short, z); list = v .list ∙ simp (le-ltb 4294967295 (length s) short, z) }

@@ -14,7 +14,7 @@ use Rattle.common.specs.declared.grammar.Grammar.{Grammar}
 use Rattle.rules.specs.Columns.{Columns, gramOf, unequal}
 use Rattle.region.specs.Region.{Caused, rowOf}
 use Rattle.region.specs.Regions.{regions}
-use Rattle.common.specs.Lists.{crowded, Filled}
+use Rattle.common.specs.Lists.{crowded, Filled, buildAnswer}
 use Rattle.region.specs.Ahead.{regions-shaped}
 use Rattle.cover.specs.Cursor.{coverage, coverRun, Rising}
 use Rattle.cover.specs.CursorLaws.{fresh-plain}
@@ -26,7 +26,7 @@ not-refused n k e = let z : _≡_ {A = ℕ} 1 0 = ap (λ (o : Outcome). length (
 
 -- what building gives was not refused
 built-fits : (g : Grammar) (c : Columns) (s out out′ : List ℕ) (n : ℕ) → Built g c s out out′ (given (n ∷ [])) → Filled rowOf wide (regions (gramOf g c) s) out out′ (given (n ∷ []))
-unfolding builtAnswer builtList
+unfolding builtAnswer buildAnswer builtList
 built-fits g c s out out′ n b = by (decide (tooLong s)) (decide (unequal c))
   where
     by : (tooLong s ≡ true) ⊎ (tooLong s ≡ false) → (unequal c ≡ true) ⊎ (unequal c ≡ false) → Filled rowOf wide (regions (gramOf g c) s) out out′ (given (n ∷ []))

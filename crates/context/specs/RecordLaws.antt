@@ -1,13 +1,14 @@
 -- Laws of building by fence rules as records: by the kept rules' columns it is building by the run's own. Assumes nothing.
 use mathlib.Core.Path.{_≡_, refl, sym as inv, subst, _∙_}
-use mathlib.Core.Bool.{Bool, cond}
+use mathlib.Core.Bool.{Bool}
 use mathlib.Core.List.{List, [], _∷_}
 use Prim.Native.Nat.{ℕ, _-_, min}
 use lib.Dec.{ltb}
 use lib.ListN.{length, take, drop}
 use Rattle.search.specs.Promise.{Gives}
 use Rattle.common.specs.Entry.{flatten, room, over, wide}
-use Rattle.common.specs.Refusals.{Outcome, given, refuse, tooLong}
+use Rattle.common.specs.Lists.{buildAnswer}
+use Rattle.common.specs.Refusals.{Outcome, given, refuse, leaves, tooLong}
 use Rattle.common.specs.declared.grammar.Grammar.{Grammar}
 use Rattle.rules.specs.Columns.{inlineRules, columns, unequalInline, unequal, gramOf}
 use Rattle.rules.specs.DifferLaws.{differ-inline}
@@ -23,14 +24,14 @@ use Rattle.context.specs.Build.{builtAnswer, builtList, Built}
 -- building by the kept rules that were gathered from records
 module _ (rules : List FenceRule) {g : Grammar} {f : Gathered} {y t o k n s out out′ : List ℕ} {a : Outcome} where
   pub records-built : AllGathered rules f → Built g (columns (keptBytes f) (keptMins f) y t o k n) s out out′ a → Built g (columns (ruleBytes rules) (ruleMins rules) y t o k n) s out out′ a
-  unfolding builtAnswer builtList
+  unfolding builtAnswer buildAnswer builtList
   records-built w b = record { answer = b .answer ∙ (λ j. answer (same j) (count j)); list = b .list ∙ (λ j. list (same j) (count j) (flat j)) }
     where
       answer : Bool → ℕ → Outcome
       answer bad m = refuse 1 (tooLong s) (refuse 6 bad (refuse 3 (ltb (room wide out) m) (given (m ∷ []))))
 
       list : Bool → ℕ → List ℕ → List ℕ
-      list bad m l = cond (tooLong s) out (cond bad out (cond (ltb (room wide out) m) out (over l out)))
+      list bad m l = leaves (answer bad m) out (over l out)
 
       even : (bytes mins : List ℕ) → length bytes ≡ length mins → unequalInline (inlineRules y t o k n) ≡ unequal (columns bytes mins y t o k n)
       even bytes mins e = differ-inline bytes mins y t o k n (unequalInline (inlineRules y t o k n)) e (record { answer = refl })

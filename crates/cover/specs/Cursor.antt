@@ -9,7 +9,7 @@ use lib.Dec.{ltb, leb}
 use lib.ListN.{getD}
 use Rattle.search.specs.Search.{firstPlace}
 use Rattle.common.specs.Entry.{room, wide, startOf, stopOf}
-use Rattle.common.specs.Refusals.{Outcome, given, refuse, toldFound}
+use Rattle.common.specs.Refusals.{Outcome, given, refuse, leaves, toldFound}
 use Rattle.cover.specs.declared.cursor.CoverPair.{CoverPair}
 
 -- ---- a list of entries of w numbers each, of which the first two are a region
@@ -42,7 +42,7 @@ coverAnswer w l count index place = refuse 5 (overfull w l count) (given (endAt 
 
 -- the next index; a refused cursor keeps its value
 unfoldable pub coverNext : ℕ → List ℕ → ℕ → ℕ → ℕ → ℕ
-coverNext w l count index place = cond (overfull w l count) index (passed w l count index place)
+coverNext w l count index place = leaves (coverAnswer w l count index place) index (passed w l count index place)
 
 -- ---- plain coverage
 -- whether a region holds a place: its start is at or before it, its end after it

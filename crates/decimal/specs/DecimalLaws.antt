@@ -9,9 +9,8 @@ use native.Mathlib.Omega.{arith}
 use lib.Dec.{ltb, leb}
 use lib.ListN.{length, take, replicate, length-append}
 use lib.Seq.{take-append-seam}
-use borrow.Author.Tests.{lt-ltb, le-ltb, ltb-true, ltb-false, leb-true, le-leb, lt-leb}
+use borrow.Author.Tests.{lt-ltb, le-ltb, ltb-true, ltb-false, le-leb}
 use Rattle.search.specs.Search.{digit}
-use Rattle.search.specs.Promise.{Gives}
 use Rattle.search.specs.SearchLaws.{decide, and-true, digit-bounds, digit-most}
 use Rattle.decimal.specs.Decimal.{decimalBy, decimal, digitsOf, valuedFrom, valued, allDigits, numeral}
 

@@ -10,6 +10,7 @@ use Rattle.search.specs.Promise.{Gives}
 use Rattle.search.specs.SearchLaws.{clash}
 use Rattle.common.specs.Grammars.{house}
 use Rattle.common.specs.Entry.{flatten, rows, over, wide}
+use Rattle.common.specs.Lists.{buildAnswer}
 use Rattle.common.specs.EntryLaws.{length-flatten, rows-flatten, holds-shaped}
 use Rattle.common.specs.Refusals.{Outcome, given, refused, numberOf, told}
 use Rattle.common.specs.RefusalLaws.{number-some}
@@ -48,7 +49,7 @@ few-regions s h = omega (arith, regions-few (gramOf house houseRules) s)
 
 module _ (s list list′ : List ℕ) (g : Grammar) (a : Answer) (e : Gives house g) (h : length s ≤ 8192) (size : length list ≡ wide * 4097) (w : Built g houseRules s list list′ (told a)) where
   built-is : (told a ≡ given (length (houseRegions s) ∷ [])) × (list′ ≡ over (flatten rowOf (houseRegions s)) list)
-  unfolding builtAnswer builtList houseRegions
+  unfolding builtAnswer buildAnswer builtList houseRegions
   built-is =
       let short = le-ltb 4294967295 (length s) (omega arith) in
       let roomy = le-ltb (length list / wide) (length (region.regions (gramOf house houseRules) s)) (omega (arith, few-regions s h)) in

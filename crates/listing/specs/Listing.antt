@@ -10,7 +10,7 @@ use lib.Dec.{eqb, ltb}
 use lib.ListN.{length}
 use Rattle.common.specs.Entry.{flatten, over}
 use Rattle.common.specs.Grammars.{house}
-use Rattle.common.specs.Refusals.{Outcome, given, refuse, spanValues}
+use Rattle.common.specs.Refusals.{Outcome, given, refuse, leaves, spanValues}
 use Rattle.common.specs.Sets.{setOf, markerBytes, delimiterBytes}
 use Rattle.common.specs.declared.span.Span.{Span}
 use Rattle.fence.specs.Fence as fence
@@ -108,7 +108,7 @@ listingAnswer s out = refuse 3 (ltb (length out) (length (printed s))) (given (l
 
 -- the listing over the front of the run, and nothing beyond it changed; a refusal changes nothing
 unfoldable pub listingRun : List ℕ → List ℕ → List ℕ
-listingRun s out = cond (ltb (length out) (length (printed s))) out (over (printed s) out)
+listingRun s out = leaves (listingAnswer s out) out (over (printed s) out)
 
 pub record Printed (s out out′ : List ℕ) (o : Outcome) : Type 0 where
   pub answer : o ≡ listingAnswer s out

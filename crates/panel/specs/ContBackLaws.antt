@@ -1,7 +1,7 @@
 -- Laws of the state of the scanner of frames read back from its bytes: what an entry wrote, the next entry reads. Assumes nothing.
 -- The page: "each number of a list is four bytes, low byte first.", "each step takes a state and gives the answer with the next state".
 use mathlib.Core.Path.{_≡_, refl, sym, ap, _∙_}
-use mathlib.Core.Bool.{true, false, cond, _||_}
+use mathlib.Core.Bool.{true, false, cond}
 use mathlib.Core.List.{List, [], _∷_, _++_}
 use mathlib.Core.Logic.{_⊎_, inl, inr}
 use Prim.Native.Nat.{ℕ, zero, suc, _+_, _-_, _*_, _≤_, _<_}
@@ -19,7 +19,8 @@ use Rattle.common.specs.TableLaws.{length-tabulate}
 use Rattle.common.specs.Turn.{Step, yields, ends}
 use Rattle.common.specs.Turning.{Each}
 use Rattle.common.specs.ItemLaws.{both}
-use Rattle.common.specs.Refusals.{tooLong, spanValues}
+use Rattle.common.specs.Refusals.{given, leaves, tooLong, spanValues}
+use Rattle.common.specs.Items.{unlessRefused}
 use Rattle.common.specs.declared.span.Span.{Span}
 use Rattle.cont.specs.declared.ContIter.{ContIter}
 use Rattle.cont.specs.declared.Framing.{Framing}
@@ -386,7 +387,7 @@ pub cont-next : (g : ContIter) (s : List ℕ) → Bounded g → Bounded (cont.st
 unfolding cont.state
 cont-next g s w = by (decide (tooLong s)) (decide (cont.misplaced g s))
   where
-    by : (tooLong s ≡ true) ⊎ (tooLong s ≡ false) → (cont.misplaced g s ≡ true) ⊎ (cont.misplaced g s ≡ false) → Bounded (cond (tooLong s || cont.misplaced g s) g (cont.stateOf (cont.stepped g s)))
+    by : (tooLong s ≡ true) ⊎ (tooLong s ≡ false) → (cont.misplaced g s ≡ true) ⊎ (cont.misplaced g s ≡ false) → Bounded (leaves (unlessRefused s (cont.misplaced g s) (given [])) g (cont.stateOf (cont.stepped g s)))
     by (inl u) v = rw u w
     by (inr u) (inl v) = rw (u, v) w
     by (inr u) (inr v) = rw (u, v) (cont-steps g s w (served g s {y = false} refl (record { answer = sym v }) (ltb-false 4294967295 (length s) u)) .0 .0)

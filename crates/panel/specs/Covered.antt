@@ -4,10 +4,9 @@
 use mathlib.Core.Bool.{cond}
 use mathlib.Core.List.{List, [], _∷_}
 use Prim.Native.Nat.{ℕ}
-use Rattle.common.specs.Refusals.{Outcome}
+use Rattle.common.specs.Refusals.{Outcome, served}
 use Rattle.cover.specs.Cursor.{coverAnswer, coverNext}
 use Rattle.cells.specs.Bytes.{cells}
-use Rattle.cells.specs.Reply.{served}
 use Rattle.common.specs.Entry.{wide}
 
 -- an answer's values behind an index; a refusal has none

@@ -28,11 +28,11 @@ use Rattle.cells.specs.ReplyLaws.{reply-refused}
 -- ---- one region, from a up to b
 module _ (a b place : ℕ) where
   one-passed : b ≤ place → coverNext wide (a ∷ b ∷ []) 1 0 place ≡ 1
-  unfolding coverNext passed
+  unfolding coverAnswer coverNext passed
   one-passed h = first-next (endsAfter wide (a ∷ b ∷ []) place) 0 1 (omega arith) (le-ltb place b h) ∙ first-end (endsAfter wide (a ∷ b ∷ []) place) 1 1 (omega arith)
 
   one-here : place < b → coverNext wide (a ∷ b ∷ []) 1 0 place ≡ 0
-  unfolding coverNext passed
+  unfolding coverAnswer coverNext passed
   one-here h = first-here (endsAfter wide (a ∷ b ∷ []) place) 0 1 (omega arith) (lt-ltb place b h)
 
   one-answer : place < b → coverAnswer wide (a ∷ b ∷ []) 1 0 place ≡ given (endAt wide (a ∷ b ∷ []) 1 0 place)

@@ -7,7 +7,7 @@ use Prim.Native.Nat.{ℕ, _*_}
 use lib.Dec.{eqb}
 use lib.ListN.{length, getD}
 use Rattle.common.specs.Entry.{flatten}
-use Rattle.common.specs.Refusals.{Outcome, refuse, tooLong}
+use Rattle.common.specs.Refusals.{Outcome, refuse, leaves, tooLong}
 use Rattle.common.specs.Scanning.{Fields}
 use Rattle.fence.specs.declared.FenceIter.{FenceIter}
 use Rattle.fence.specs.Fence as fence
@@ -16,7 +16,7 @@ use Rattle.block_marker.specs.Marker as marker
 use Rattle.block_numbered.specs.declared.BlockNumberedIter.{BlockNumberedIter}
 use Rattle.block_numbered.specs.Numbered as numbered
 use Rattle.cells.specs.Bytes.{four, cells, asFlag, readable}
-use Rattle.cells.specs.Reply.{served, fitted, Replied}
+use Rattle.cells.specs.Reply.{fitted, Replied}
 
 -- ---- `new`: it writes the cells of a fresh state
 abbrev pub sized : List ℕ → List ℕ → Bool
@@ -35,7 +35,7 @@ pub record StateRuns : Type 0 where
 -- "on success writes the next state back and the answer"
 pub record Moved (o : Outcome) (next : List ℕ) (before after : StateRuns) (r : ℕ) : Type 0 where
   pub reply : Replied o (before .answer) (after .answer) r
-  pub left : after .state ≡ cond (served (fitted o (before .answer))) (flatten four next) (before .state)
+  pub left : after .state ≡ leaves (fitted o (before .answer)) (before .state) (flatten four next)
 
 -- a scanner with states in cells: the state that cells make, a state's cells, a limit for each of them, and what a step over a
 -- text answers and leaves

@@ -11,6 +11,7 @@ use borrow.Author.Tests.{ltb-false}
 use Rattle.search.specs.SearchLaws.{decide}
 use Rattle.common.specs.Entry.{flatten, room, over, wide}
 use Rattle.common.specs.EntryLaws.{flatten-append}
+use Rattle.common.specs.Lists.{buildAnswer}
 use Rattle.common.specs.Refusals.{tooLong}
 use Rattle.region.specs.Region.{Caused, InOrder, rowOf}
 use Rattle.region.specs.Regions.{regions}
@@ -18,7 +19,7 @@ use Rattle.region.specs.Ahead.{regions-in-order}
 use Rattle.rules.specs.Grammar.{Gram}
 use Rattle.cells.specs.Bytes.{four, cells, rowBytes}
 use Rattle.cells.specs.BackLaws.{Narrow, cells-over, reply-served}
-use Rattle.cells.specs.Poured.{ListRuns, buildAnswer, BuiltAs}
+use Rattle.cells.specs.Poured.{ListRuns, BuiltAs}
 use Rattle.cells.specs.CellLaws.{length-cells}
 use Rattle.pour.specs.Building.{regionBytes}
 
@@ -45,7 +46,7 @@ pub room-back : (out : List ℕ) → length out / rowBytes ≡ room wide (cells 
 room-back out = omega (arith, length-cells out)
 
 -- ---- the entries
-short-of : (bad : Bool) (l : List Caused) (s : List ℕ) (before : ListRuns) → buildAnswer rowBytes bad l s before .number ≡ 0 → length s ≤ 4294967295
+short-of : (bad : Bool) (l : List Caused) (s : List ℕ) (before : ListRuns) → buildAnswer rowBytes bad l s (before .list) .number ≡ 0 → length s ≤ 4294967295
 unfolding buildAnswer
 short-of bad l s before e = by (decide (tooLong s))
   where
@@ -58,6 +59,6 @@ short-of bad l s before e = by (decide (tooLong s))
 -- building into a list in bytes that returns 0 has left, read as numbers, the regions over the front of the run's numbers
 pub built-back : (g : Gram) (bad : Bool) (s : List ℕ) (before after : ListRuns) → BuiltAs regionBytes rowBytes bad (regions g s) s before after 0 → cells (after .list) ≡ over (flatten rowOf (regions g s)) (cells (before .list))
 built-back g bad s before after w =
-    let o = buildAnswer rowBytes bad (regions g s) s before in
+    let o = buildAnswer rowBytes bad (regions g s) s (before .list) in
     let v = reply-served o (before .answer) (sym (w .reply .number)) in
     ap cells (w .left ∙ rw (v .0)) ∙ regions-back g s (before .list) (short-of bad (regions g s) s before (v .1))

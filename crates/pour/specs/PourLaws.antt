@@ -9,7 +9,7 @@ use lib.ListN.{length, take, drop}
 use borrow.Author.Tests.{le-leb}
 use Rattle.search.specs.Promise.{Gives}
 use Rattle.common.specs.Entry.{flatten, over}
-use Rattle.common.specs.Refusals.{given, refuse}
+use Rattle.common.specs.Refusals.{given, refuse, served}
 use Rattle.lines.specs.Fences.{fenceTable}
 use Rattle.common.specs.declared.grammar.Grammar.{Grammar}
 use Rattle.region.specs.Region.{Caused}
@@ -26,7 +26,7 @@ use Rattle.rules.specs.RowLaws.{gram-same}
 use Rattle.rules.specs.declared.search_bytes.Alphabet.{Alphabet}
 use Rattle.rules.specs.declared.records.Gathered.{Gathered}
 use Rattle.cells.specs.Bytes.{four, cells, rowBytes}
-use Rattle.cells.specs.Reply.{LaidIf, Replied, served, fitted}
+use Rattle.cells.specs.Reply.{LaidIf, Replied, fitted}
 use Rattle.cells.specs.Poured.{ListRuns, PouredAs, builtBy}
 use Rattle.pour.specs.Building.{regionBytes, PouredBy}
 use Rattle.cells.specs.ByteRules.{inlineIn, InlineRuns, ColumnRuns, RuleRuns, columnsIn, fenceRulesOf, ruleColumnsIn}
