@@ -10,7 +10,7 @@ use lib.Dec.{ltb}
 use lib.ListN.{length, getD, drop, length-map, length-append, length-drop, List·getD-append}
 use borrow.Author.Tests.{le-ltb, ltb-false, not-false}
 use Rattle.search.specs.SearchLaws.{decide, neither}
-use Rattle.common.specs.Entry.{flatten, rows, room, over, wide}
+use Rattle.common.specs.Entry.{flatten, rows, room, over, wide, overfull}
 use Rattle.common.specs.EntryLaws.{length-flatten, rows-flatten, fits-room, holds-shaped, flatten-map}
 use Rattle.common.specs.Refusals.{Outcome, given, refuse, tooLong, past, told}
 use Rattle.common.specs.RefusalLaws.{answer-unique}
@@ -25,7 +25,6 @@ use Rattle.rules.specs.Columns.{unequal}
 use Rattle.context.specs.Build.{builtAnswer, builtList, Built}
 use Rattle.amend.specs.Amend.{Edit, joint}
 use Rattle.amend.specs.Several.{Fits, none, last, next}
-use Rattle.cover.specs.Cursor.{overfull}
 use Rattle.cover.specs.Shape.{misshapen}
 use Rattle.common.specs.Lists.{crowded, buildAnswer}
 use Rattle.amend.specs.Amended.{regionsIn, listRegions, edited, amendedRegions, miscut, usesLineEnd, offJoint, leftOpen, amendedList, judged, settledAnswer, amendedAnswer, Amended}

@@ -33,6 +33,10 @@ stopOf row = getD row 1 0
 abbrev pub room : ℕ → List ℕ → ℕ
 room w l = length l / w
 
+-- whether a number of such rows is over that
+abbrev pub overfull : ℕ → List ℕ → ℕ → Bool
+overfull w l n = ltb (room w l) n
+
 -- the test that rows are in order, apart, none of them empty, from `from` on and up to len
 abbrev pub shaped : ℕ → ℕ → List (List ℕ) → Bool
 shaped from len [] = true

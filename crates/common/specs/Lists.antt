@@ -4,9 +4,8 @@ use mathlib.Core.Path.{_≡_}
 use mathlib.Core.Bool.{Bool}
 use mathlib.Core.List.{List, [], _∷_}
 use Prim.Native.Nat.{ℕ, _+_, _*_}
-use lib.Dec.{ltb}
 use lib.ListN.{length}
-use Rattle.common.specs.Entry.{flatten, room, over, putAt}
+use Rattle.common.specs.Entry.{flatten, over, overfull, putAt}
 use Rattle.common.specs.Refusals.{Outcome, given, refuse, leaves, tooLong}
 
 -- an entry written as row n of a list whose rows are all as long, and the next row's number
@@ -22,7 +21,7 @@ pub record Wrote {A : Type 0} (flat : A → List ℕ) (l : List A) (out out′ :
 -- ---- entries of w numbers each, written where there is room for them
 -- 3: "the answer has more regions, or items, than there is room for"
 abbrev pub crowded : {A : Type 0} → ℕ → List A → List ℕ → Bool
-crowded w l out = ltb (room w out) (length l)
+crowded w l out = overfull w out (length l)
 
 -- that refusal, else the count
 abbrev pub filledAnswer : {A : Type 0} → ℕ → List A → List ℕ → Outcome

@@ -8,7 +8,7 @@ use Prim.Native.Nat.{ℕ, _+_, _*_, _≤_, _<_}
 use lib.Dec.{ltb, leb}
 use lib.ListN.{getD}
 use Rattle.search.specs.Search.{firstPlace}
-use Rattle.common.specs.Entry.{room, wide, startOf, stopOf}
+use Rattle.common.specs.Entry.{wide, startOf, stopOf, overfull}
 use Rattle.common.specs.Refusals.{Outcome, given, refuse, leaves, toldFound}
 use Rattle.cover.specs.declared.cursor.CoverPair.{CoverPair}
 
@@ -32,11 +32,7 @@ passed w l count index place = firstPlace (endsAfter w l place) index count
 unfoldable pub endAt : ℕ → List ℕ → ℕ → ℕ → ℕ → List ℕ
 endAt w l count k place = cond (ltb k count && leb (startAt w l k) place) (stopAt w l k ∷ []) []
 
--- "a list's stated count is over its room"
-abbrev pub overfull : ℕ → List ℕ → ℕ → Bool
-overfull w l count = ltb (room w l) count
-
--- "For a cursor: 5."; else an end, or none
+-- "For a cursor: 5.", "a list's stated count is over its room"; else an end, or none
 unfoldable pub coverAnswer : ℕ → List ℕ → ℕ → ℕ → ℕ → Outcome
 coverAnswer w l count index place = refuse 5 (overfull w l count) (given (endAt w l count (passed w l count index place) place))
 

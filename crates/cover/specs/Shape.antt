@@ -4,8 +4,7 @@
 use mathlib.Core.Bool.{Bool, not, _||_}
 use mathlib.Core.List.{List}
 use Prim.Native.Nat.{ℕ}
-use Rattle.common.specs.Entry.{rows, shaped, wide}
-use Rattle.cover.specs.Cursor.{overfull}
+use Rattle.common.specs.Entry.{rows, shaped, wide, overfull}
 
 -- 5: "a list's stated count is over its room; for an amendment or a work sheet also: regions unsorted, overlapping, empty (end not after
 -- start) or past the text", of a text of length len

@@ -8,9 +8,8 @@ use lib.ListN.{length, getD}
 use borrow.Author.Tests.{lt-ltb, le-ltb, ltb-false, not-false}
 use Rattle.search.specs.SearchLaws.{neither}
 use Rattle.search.specs.Promise.{Gives}
-use Rattle.common.specs.Entry.{rows, room, shaped, Shaped, wide}
+use Rattle.common.specs.Entry.{rows, room, shaped, Shaped, wide, overfull}
 use Rattle.common.specs.EntryLaws.{Shaping, shaped-holds, shaping-again, shaping-early, shaping-empty, shaping-long}
-use Rattle.cover.specs.Cursor.{overfull}
 use Rattle.cover.specs.Shape.{misshapen}
 
 -- ---- the loop that tests: a and b are the numbers that were read of row k
