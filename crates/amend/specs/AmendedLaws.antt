@@ -5,18 +5,17 @@ use mathlib.Core.List.{List, []}
 use mathlib.Core.Logic.{_⊎_, inl, inr}
 use Prim.Native.Nat.{ℕ, suc, _+_, _-_, _≤_, _<_}
 use native.Mathlib.Omega.{arith}
-use lib.Dec.{eqb, ltb, leb}
+use lib.Dec.{ltb, leb}
 use lib.ListN.{length, getD, length-append, length-take, length-drop}
-use borrow.Author.Tests.{ltb-false, leb-true, ne-eqb}
+use borrow.Author.Tests.{eq-eqb, ltb-false, leb-true}
 use Rattle.search.specs.Promise.{Gives}
 use Rattle.search.specs.Search.{holds}
-use Rattle.search.specs.SearchLaws.{decide, neither}
+use Rattle.search.specs.SearchLaws.{decide, clash, neither}
 use Rattle.common.specs.Refusals.{Outcome, given, refused, refuse, tooLong, past, numberOf, told}
-use Rattle.common.specs.RefusalLaws.{answer-unique, found-unique}
+use Rattle.common.specs.RefusalLaws.{number-some, answer-unique}
 use Rattle.common.specs.declared.grammar.Grammar.{Grammar}
 use Rattle.common.specs.declared.refusal.Refusal.{Refusal}
 use Rattle.common.specs.declared.refusal.Answer.{Answer}
-use Rattle.common.specs.declared.refusal.Found.the-variants as found
 use Rattle.rules.specs.Grammar.{Gram}
 use Rattle.rules.specs.Columns.{Columns, inlineRules, columns, unequal, alphabetOf, gramOf}
 use Rattle.rules.specs.Rows.{gramBy, Folded}
@@ -36,13 +35,7 @@ use Rattle.amend.specs.declared.Verdict.the-variants as verdict
 -- ---- chains of refusals
 -- a refusal is not served
 not-given : (q : Refusal) → refused (numberOf q) ≡ given [] → ⊥
-not-given q e =
-    let z : found.Refused q ≡ found.Nothing = found-unique {o = given []} {r = found.Refused q} {r′ = found.Nothing} (record { answer = e }) (record { answer = refl }) in
-    let y : _≡_ {A = ℕ} 0 1 = cc in
-    omega arith
-
-number-some : (q : Refusal) → eqb (numberOf q) 0 ≡ false
-number-some q = ne-eqb (numberOf q) 0 (λ z. not-given q (ap refused z))
+not-given q e = clash (eq-eqb (numberOf q) 0 (ap (λ (o : Outcome). o .number) e)) (number-some q)
 
 -- what a chain refuses before its end it refuses with any end
 refuse-same : (k : Outcome) (n : ℕ) (b : Bool) (o o′ : Outcome) → (o ≡ k → o′ ≡ k) → refuse n b o ≡ k → refuse n b o′ ≡ k
