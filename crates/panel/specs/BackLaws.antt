@@ -30,11 +30,11 @@ use Rattle.block_marker.specs.MarkerRun.{lawful as marker-lawful}
 use Rattle.block_numbered.specs.declared.BlockNumberedIter.{BlockNumberedIter}
 use Rattle.block_numbered.specs.Numbered as numbered
 use Rattle.block_numbered.specs.NumberedRun.{lawful as numbered-lawful}
-use Rattle.cells.specs.Bytes.{four, cells, asFlag, within, readable}
+use Rattle.cells.specs.Bytes.{four, cells, fourfold, asFlag, within, readable}
 use Rattle.cells.specs.ByteLaws.{length-four}
 use Rattle.cells.specs.BackLaws.{Narrow, cells-four, reply-served}
 use Rattle.cells.specs.CellLaws.{within-at}
-use Rattle.panel.specs.State.{sized, Made, StateRuns, Stepper, stepAnswer, Stepped, fenceLimits, fenceCells, fenceFrom, itemLimits, itemCells, itemFields, markerCells, markerFrom, numberedCells, numberedFrom}
+use Rattle.panel.specs.State.{Made, StateRuns, Stepper, stepAnswer, Stepped, fenceLimits, fenceCells, fenceFrom, itemLimits, itemCells, itemFields, markerCells, markerFrom, numberedCells, numberedFrom}
 use Rattle.panel.specs.Back.{Small, Held, Holds}
 
 -- ---- cells within limits
@@ -92,9 +92,9 @@ module _ {G : Type 0} (from : List ℕ → G) (show : G → List ℕ) (limits : 
 
     -- what `new` wrote
     pub made-back : (run run′ : List ℕ) → Made (show g) run run′ 0 → Holds from show limits run′ g
-    made-back run run′ d = subst (λ (x : List ℕ). Holds from show limits x g) (sym (d .left ∙ by (decide (sized (show g) run)))) held-back
+    made-back run run′ d = subst (λ (x : List ℕ). Holds from show limits x g) (sym (d .left ∙ by (decide (fourfold run (show g))))) held-back
       where
-        by : (sized (show g) run ≡ true) ⊎ (sized (show g) run ≡ false) → cond (sized (show g) run) (flatten four (show g)) run ≡ flatten four (show g)
+        by : (fourfold run (show g) ≡ true) ⊎ (fourfold run (show g) ≡ false) → cond (fourfold run (show g)) (flatten four (show g)) run ≡ flatten four (show g)
         by (inl u) = rw u
         by (inr u) =
             let z : _≡_ {A = ℕ} 0 2 = d .number ∙ rw u in

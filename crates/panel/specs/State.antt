@@ -3,7 +3,7 @@
 use mathlib.Core.Path.{_≡_}
 use mathlib.Core.Bool.{Bool, not, cond}
 use mathlib.Core.List.{List, [], _∷_}
-use Prim.Native.Nat.{ℕ, _*_}
+use Prim.Native.Nat.{ℕ}
 use lib.Dec.{eqb}
 use lib.ListN.{length, getD}
 use Rattle.common.specs.Entry.{flatten}
@@ -15,16 +15,13 @@ use Rattle.block_marker.specs.declared.BlockMarkerIter.{BlockMarkerIter}
 use Rattle.block_marker.specs.Marker as marker
 use Rattle.block_numbered.specs.declared.BlockNumberedIter.{BlockNumberedIter}
 use Rattle.block_numbered.specs.Numbered as numbered
-use Rattle.cells.specs.Bytes.{four, cells, asFlag, readable}
+use Rattle.cells.specs.Bytes.{four, cells, fourfold, asFlag, readable}
 use Rattle.cells.specs.Reply.{served, fitted, Replied}
 
 -- ---- `new`: it writes the cells of a fresh state
-abbrev pub sized : List ℕ → List ℕ → Bool
-sized next run = eqb (length run) (length next * 4)
-
 pub record Made (next run run′ : List ℕ) (r : ℕ) : Type 0 where
-  pub number : r ≡ cond (sized next run) 0 2
-  pub left : run′ ≡ cond (sized next run) (flatten four next) run
+  pub number : r ≡ cond (fourfold run next) 0 2
+  pub left : run′ ≡ cond (fourfold run next) (flatten four next) run
 
 -- ---- a step
 -- the runs that a step writes to
