@@ -86,27 +86,27 @@ module _ (g : Gram) (lines : Linewise (g .eol) (g .fences)) (a b : List ℕ) (en
   from : ℕ
   from = nextLine (length a) (lineEnd (g .eol) a p)
 
-  shuts : List ℕ → ℕ → Bool
-  shuts s q = g .fences .shuts (getD a p 0) (g .fences .size a p) s q
+  closesFence : List ℕ → ℕ → Bool
+  closesFence s q = g .fences .shuts (getD a p 0) (g .fences .size a p) s q
 
-  shuts-same : (q : ℕ) → from ≤ q → q < length a → shuts (a ++ b) q ≡ shuts a q
-  unfolding shuts
+  shuts-same : (q : ℕ) → from ≤ q → q < length a → closesFence (a ++ b) q ≡ closesFence a q
+  unfolding closesFence
   shuts-same q m l = lines .shuts (getD a p 0) (g .fences .size a p) .within a b ends q l
 
-  shut-as : shutPlace g (a ++ b) p ≡ firstPlace (shuts (a ++ b)) from (length (a ++ b))
-  unfolding shutPlace shuts from
+  shut-as : shutPlace g (a ++ b) p ≡ firstPlace (closesFence (a ++ b)) from (length (a ++ b))
+  unfolding shutPlace closesFence from
   shut-as =
       let n : nextLine (length (a ++ b)) (lineEnd (g .eol) a p) ≡ nextLine (length a) (lineEnd (g .eol) a p) = omega (arith, length-append a b, line-in (g .eol) a b ends p h) in
       simp (List·getD-append a b 0 p h, lines .size .within a b ends p h, line-same (g .eol) a b ends p h, n)
 
   shut-same : shutPlace g a p < length a → shutPlace g (a ++ b) p ≡ shutPlace g a p
-  unfolding shutPlace shuts from
-  shut-same l = shut-as ∙ first-prefix (shuts a) (shuts (a ++ b)) from (length a) (length (a ++ b)) (omega (arith, length-append a b)) shuts-same l
+  unfolding shutPlace closesFence from
+  shut-same l = shut-as ∙ first-prefix (closesFence a) (closesFence (a ++ b)) from (length a) (length (a ++ b)) (omega (arith, length-append a b)) shuts-same l
 
   shut-over : length a ≤ shutPlace g a p → length a ≤ shutPlace g (a ++ b) p
-  unfolding shutPlace shuts from
+  unfolding shutPlace closesFence from
   shut-over l =
-      omega (arith, shut-as, first-past (shuts a) (shuts (a ++ b)) from (length a) (length (a ++ b)) (omega arith) (omega (arith, length-append a b)) shuts-same l, first-ge (shuts (a ++ b)) (length a) (length (a ++ b)))
+      omega (arith, shut-as, first-past (closesFence a) (closesFence (a ++ b)) from (length a) (length (a ++ b)) (omega arith) (omega (arith, length-append a b)) shuts-same l, first-ge (closesFence (a ++ b)) (length a) (length (a ++ b)))
 
   fencedTo-same : (q : ℕ) → q < length a → fencedTo g (a ++ b) p true q ≡ fencedTo g a p true q
   fencedTo-same q l =
@@ -203,8 +203,8 @@ module _ (g : Gram) (lines : Linewise (g .eol) (g .fences)) (a b : List ℕ) (tw
           simp (paragraph-same j h, le-ltb (find (is x) (a ++ b) j) u (omega arith), le-ltb (find (is x) a j) u (omega arith), and-false)
 
   -- ---- the search for a close
-  Stays : Turn ℕ → Type 0
-  Stays t = Leads (λ n. n + 2 ≤ length a) (λ t. Unit {0}) t
+  LeadsInside : Turn ℕ → Type 0
+  LeadsInside t = Leads (λ n. n + 2 ≤ length a) (λ t. Unit {0}) t
 
   symAfter-same : (c count j : ℕ) (t : Hit) → Met (g .eol) a c j t → symAfter g (a ++ b) c count t ≡ symAfter g a c count t
   symAfter-same c count j (At q) m =
@@ -213,18 +213,18 @@ module _ (g : Gram) (lines : Linewise (g .eol) (g .fences)) (a b : List ℕ) (tw
       simp (escaped-same q (omega arith), find-prefix (other (is c)) a b q (omega arith))
   symAfter-same c count j (End u) m = refl
 
-  symAfter-stays : (c count j : ℕ) (t : Hit) → Met (g .eol) a c j t → Stays (symAfter g a c count t)
-  unfolding Stays
+  symAfter-stays : (c count j : ℕ) (t : Hit) → Met (g .eol) a c j t → LeadsInside (symAfter g a c count t)
+  unfolding LeadsInside
   symAfter-stays c count j (At q) m =
       let l = far q (m .1) (λ z. m .3 (inv (m .2) ∙ z)) in
-      both Stays (escaped g a q) _ _ (λ u. omega arith) (λ u. both Stays (eqb (find (other (is c)) a q - q) count) _ _ (λ v. tt) (λ v. run-in c q (m .3) (omega arith)))
+      both LeadsInside (escaped g a q) _ _ (λ u. omega arith) (λ u. both LeadsInside (eqb (find (other (is c)) a q - q) count) _ _ (λ v. tt) (λ v. run-in c q (m .3) (omega arith)))
   symAfter-stays c count j (End u) m = tt
 
   symTurn-same : (c count j : ℕ) → j + 2 ≤ length a → symTurn g (a ++ b) c count j ≡ symTurn g a c count j
   unfolding symTurn
   symTurn-same c count j h = ap (symAfter g (a ++ b) c count) (nextOf-same c j h) ∙ symAfter-same c count j (nextOf g a c j) (next-met (g .eol) (g .fences .enters a) a c j (omega arith))
 
-  symTurn-stays : (c count j : ℕ) → j + 2 ≤ length a → Stays (symTurn g a c count j)
+  symTurn-stays : (c count j : ℕ) → j + 2 ≤ length a → LeadsInside (symTurn g a c count j)
   unfolding symTurn
   symTurn-stays c count j h = symAfter-stays c count j (nextOf g a c j) (next-met (g .eol) (g .fences .enters a) a c j (omega arith))
 
@@ -232,25 +232,25 @@ module _ (g : Gram) (lines : Linewise (g .eol) (g .fences)) (a b : List ℕ) (tw
   asymAfter-same c j (At q) m = simp (escaped-same q (omega arith))
   asymAfter-same c j (End u) m = refl
 
-  asymAfter-stays : (c j : ℕ) (t : Hit) → Met (g .eol) a c j t → Stays (asymAfter g a t)
-  unfolding Stays
+  asymAfter-stays : (c j : ℕ) (t : Hit) → Met (g .eol) a c j t → LeadsInside (asymAfter g a t)
+  unfolding LeadsInside
   asymAfter-stays c j (At q) m =
       let l = far q (m .1) (λ z. m .3 (inv (m .2) ∙ z)) in
-      both Stays (escaped g a q) _ _ (λ u. omega arith) (λ u. tt)
+      both LeadsInside (escaped g a q) _ _ (λ u. omega arith) (λ u. tt)
   asymAfter-stays c j (End u) m = tt
 
   asymTurn-same : (c j : ℕ) → j + 2 ≤ length a → asymTurn g (a ++ b) c j ≡ asymTurn g a c j
   unfolding asymTurn
   asymTurn-same c j h = ap (asymAfter g (a ++ b)) (nextOf-same c j h) ∙ asymAfter-same c j (nextOf g a c j) (next-met (g .eol) (g .fences .enters a) a c j (omega arith))
 
-  asymTurn-stays : (c j : ℕ) → j + 2 ≤ length a → Stays (asymTurn g a c j)
+  asymTurn-stays : (c j : ℕ) → j + 2 ≤ length a → LeadsInside (asymTurn g a c j)
   unfolding asymTurn
   asymTurn-stays c j h = asymAfter-stays c j (nextOf g a c j) (next-met (g .eol) (g .fences .enters a) a c j (omega arith))
 
   -- ---- a pair whose opening run is of c
-  openPair-same : (c p count : ℕ) (k : Cause) (i : ℕ) (close close′ : ℕ → Turn ℕ) → Adv Meets close (length a) → ((q : ℕ) → q + 2 ≤ length a → close′ q ≡ close q) → ((q : ℕ) → q + 2 ≤ length a → Stays (close q)) → p < length a → getD a p 0 ≡ c → (c ≡ g .eol → ⊥)
+  openPair-same : (c p count : ℕ) (k : Cause) (i : ℕ) (close close′ : ℕ → Turn ℕ) → Adv Meets close (length a) → ((q : ℕ) → q + 2 ≤ length a → close′ q ≡ close q) → ((q : ℕ) → q + 2 ≤ length a → LeadsInside (close q)) → p < length a → getD a p 0 ≡ c → (c ≡ g .eol → ⊥)
       → openPair g (a ++ b) p count k i close′ (find (other (is c)) (a ++ b) p) ≡ openPair g a p count k i close (find (other (is c)) a p)
-  unfolding Stays
+  unfolding LeadsInside
   openPair-same c p count k i close close′ adv same stays h e d =
       let l = far p h (λ z. d (inv e ∙ z)) in
       let r = find (other (is c)) a p in
@@ -261,30 +261,30 @@ module _ (g : Gram) (lines : Linewise (g .eol) (g .fences)) (a b : List ℕ) (tw
       simp (find-prefix (other (is c)) a b p (omega arith), escaped-same p (omega arith), closes)
 
   -- ---- the turn at a trigger: no end, and a region that starts in a
-  Starts : Turn Caused → Type 0
-  Starts (go n) = Unit {0}
-  Starts (stop v) = ⊥
-  Starts (found r n) = r .start < length a
+  StartsInside : Turn Caused → Type 0
+  StartsInside (go n) = Unit {0}
+  StartsInside (stop v) = ⊥
+  StartsInside (found r n) = r .start < length a
 
-  pairOf-starts : (k : Cause) (i p r : ℕ) (t : Turn ℕ) → p < length a → Starts (pairOf k i p r t)
-  unfolding Starts
+  pairOf-starts : (k : Cause) (i p r : ℕ) (t : Turn ℕ) → p < length a → StartsInside (pairOf k i p r t)
+  unfolding StartsInside
   pairOf-starts k i p r (go n) h = tt
   pairOf-starts k i p r (stop v) h = tt
   pairOf-starts k i p r (found e n) h = h
 
-  openPair-starts : (p count : ℕ) (k : Cause) (i : ℕ) (close : ℕ → Turn ℕ) (r : ℕ) → p < length a → Starts (openPair g a p count k i close r)
-  unfolding Starts
+  openPair-starts : (p count : ℕ) (k : Cause) (i : ℕ) (close : ℕ → Turn ℕ) (r : ℕ) → p < length a → StartsInside (openPair g a p count k i close r)
+  unfolding StartsInside
   openPair-starts p count k i close r h =
-      both Starts (escaped g a p) _ _ (λ t. tt) (λ t. both Starts (eqb (r - p) count) _ _ (λ u. pairOf-starts k i p r (firstTurn close (length a) r) h) (λ u. tt))
+      both StartsInside (escaped g a p) _ _ (λ t. tt) (λ t. both StartsInside (eqb (r - p) count) _ _ (λ u. pairOf-starts k i p r (firstTurn close (length a) r) h) (λ u. tt))
 
-  inline-starts : (p c : ℕ) (u : Rule) → p < length a → Starts (inline g a p c u)
-  unfolding inline Starts
+  inline-starts : (p c : ℕ) (u : Rule) → p < length a → StartsInside (inline g a p c u)
+  unfolding inline StartsInside
   inline-starts p c plain h = tt
   inline-starts p c (sym i count) h = openPair-starts p count Symmetric i (symTurn g a c count) (find (other (is c)) a p) h
   inline-starts p c (asym i k count) h = openPair-starts p count Asymmetric i (asymTurn g a k) (find (other (is c)) a p) h
 
-  decides-same : (step′ : ℕ → Turn Caused) (q : ℕ) (t : Turn Caused) → Starts t → step′ q ≡ t → Decides step′ (length a) q t
-  unfolding Starts
+  decides-same : (step′ : ℕ → Turn Caused) (q : ℕ) (t : Turn Caused) → StartsInside t → step′ q ≡ t → Decides step′ (length a) q t
+  unfolding StartsInside
   decides-same step′ q (go n) i e = e
   decides-same step′ q (stop v) i e = absurd i
   decides-same step′ q (found r n) i e =

@@ -95,8 +95,3 @@ pub record Roomy (g : Gram) (l : List ℕ) (split : Split) (cuts : Cuts) (r out 
   pub kept : Copies l 0 (split .before) 0 0 out 0
   pub own : Owns (regions g r) r (cuts .first) out (split .before)
   pub moved : Copies l (split .after) (split .count) (cuts .second) (cuts .first + length r) out (split .before + length (regions g r))
-
--- and promises: their number, and the list
-pub record Merged (g : Gram) (l : List ℕ) (split : Split) (cuts : Cuts) (r out out′ : List ℕ) (k : ℕ) : Type 0 where
-  pub count : k ≡ length (parts g l split cuts r)
-  pub list : out′ ≡ over (flatten row (parts g l split cuts r)) out

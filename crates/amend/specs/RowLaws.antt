@@ -3,7 +3,7 @@ use mathlib.Core.Path.{_≡_, refl, sym, ap, subst, _∙_}
 use mathlib.Core.Bool.{Bool, false}
 use mathlib.Core.List.{List, [], _∷_, map}
 use Prim.Native.Nat.{ℕ, zero, suc, _+_, _-_, _*_, _/_, _≤_, _<_}
-use native.Mathlib.Nat.{sub-zero}
+use native.Mathlib.Nat.{sub-zero, add-zero}
 use native.Mathlib.Omega.{arith}
 use lib.Dec.{leb}
 use lib.ListN.{length, getD, take, drop, length-map, List·getD-map}
@@ -15,6 +15,7 @@ use Rattle.region.specs.Region.{move, reaches, keepBefore, InOrder, Listed, row
 use Rattle.region.specs.Ahead.{order-later}
 use Rattle.common.specs.Lists.{RowPut}
 use Rattle.region.specs.Room.{RowFits}
+use Rattle.cover.specs.Cursor.{startAt, stopAt}
 use Rattle.cover.specs.Shape.{misshapen}
 use Rattle.cover.specs.ShapeLaws.{shape-fits, shape-order}
 use Rattle.amend.specs.Amend.{movedBy}
@@ -29,7 +30,11 @@ nowhere = unrow []
 
 -- the region that row i says
 abbrev pub rowAt : ℕ → List ℕ → Listed
-rowAt i l = record { start = getD l (i * wide + 0) 0; stop = getD l (i * wide + 1) 0; tag = tt }
+rowAt i l = record { start = startAt wide l i; stop = stopAt wide l i; tag = tt }
+
+-- where it starts, as a row's number 0
+start-zeroth : (i : ℕ) (l : List ℕ) → getD l (i * wide + 0) 0 ≡ startAt wide l i
+start-zeroth i l = ap (λ (k : ℕ). getD l k 0) (add-zero (i * wide))
 
 pub listed-length : (n : ℕ) (l : List ℕ) → length (regionsIn n l) ≡ n
 unfolding regionsIn
@@ -46,8 +51,8 @@ module _ (n i : ℕ) (l : List ℕ) (h : i < n) where
 
   row-says : unrow (take wide (drop (i * wide) l)) ≡ rowAt i l
   row-says =
-      let a : startOf (take wide (drop (i * wide) l)) ≡ getD l (i * wide + 0) 0 = getD-take wide (drop (i * wide) l) 0 0 (omega arith) ∙ getD-drop (i * wide) l 0 0 in
-      let b : stopOf (take wide (drop (i * wide) l)) ≡ getD l (i * wide + 1) 0 = getD-take wide (drop (i * wide) l) 1 0 (omega arith) ∙ getD-drop (i * wide) l 1 0 in
+      let a : startOf (take wide (drop (i * wide) l)) ≡ startAt wide l i = getD-take wide (drop (i * wide) l) 0 0 (omega arith) ∙ getD-drop (i * wide) l 0 0 ∙ start-zeroth i l in
+      let b : stopOf (take wide (drop (i * wide) l)) ≡ stopAt wide l i = getD-take wide (drop (i * wide) l) 1 0 (omega arith) ∙ getD-drop (i * wide) l 1 0 in
       rw (a, b)
 
   -- the row that stands at i, and those behind it
@@ -212,7 +217,7 @@ module _ {l : List ℕ} {from to down up row : ℕ} {out₀ : List ℕ} where
 
       -- what was read of row i may be moved
       pub start-moves : (a : ℕ) → Gives (getD l (i * wide + 0) 0) a → Moves a down up
-      start-moves a g = record { low = omega (arith, g .answer, one .0); high = omega (arith, g .answer, one .0, one .1, one .2) }
+      start-moves a g = record { low = omega (arith, g .answer, start-zeroth i l, one .0); high = omega (arith, g .answer, start-zeroth i l, one .0, one .1, one .2) }
 
       pub stop-moves : (b : ℕ) → Gives (getD l (i * wide + 1) 0) b → Moves b down up
       stop-moves b g = record { low = omega (arith, g .answer, one .0, one .1); high = omega (arith, g .answer, one .0, one .1, one .2) }
@@ -222,17 +227,18 @@ module _ {l : List ℕ} {from to down up row : ℕ} {out₀ : List ℕ} where
         copying-puts gx gy ga gb =
             record {
               room = omega (arith, next .room);
-              low = omega (arith, gx .answer, ga .answer, one .0, one .1, one .2);
+              low = omega (arith, gx .answer, ga .answer, start-zeroth i l, one .0, one .1, one .2);
               high = omega (arith, gy .answer, gb .answer, one .0, one .1, one .2);
             }
 
         pub copying-again : (m′ : ℕ) (out′ : List ℕ) → RowPut (x ∷ y ∷ []) m out out′ m′ → Gives (a + up - down) x → Gives (b + up - down) y → Gives (getD l (i * wide + 0) 0) a → Gives (getD l (i * wide + 1) 0) b
             → Copying l from to down up row out₀ out′ (i + 1) m′
         copying-again m′ out′ p gx gy ga gb =
-            let q : RowPut ((getD l (i * wide + 0) 0 + up - down) ∷ (getD l (i * wide + 1) 0 + up - down) ∷ []) m out out′ m′ = rw (← (ga .answer), ← (gb .answer), ← (gx .answer), ← (gy .answer)) p in
+            let e : a ≡ startAt wide l i = ga .answer ∙ start-zeroth i l in
+            let q : RowPut ((startAt wide l i + up - down) ∷ (stopAt wide l i + up - down) ∷ []) m out out′ m′ = rw (← e, ← (gb .answer), ← (gx .answer), ← (gy .answer)) p in
             record {
               ahead = omega arith;
               inside = w .inside;
-              order = order-later down (getD l (i * wide + 1) 0) (4294967295 + down - up) (regionsBetween (i + 1) to l) (omega (arith, one .0, one .1)) (one .3);
+              order = order-later down (stopAt wide l i) (4294967295 + down - up) (regionsBetween (i + 1) to l) (omega (arith, one .0, one .1)) (one .3);
               putting = putting-put (move (λ x. x + up - down) (rowAt i l)) next q;
             }

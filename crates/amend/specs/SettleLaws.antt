@@ -19,9 +19,9 @@ use Rattle.region.specs.Regions.{regions}
 use Rattle.region.specs.Ahead.{regions-few}
 use Rattle.joint.specs.Joint.{openEnd}
 use Rattle.amend.specs.Amend.{movedBy}
-use Rattle.common.specs.Lists.{crowded}
+use Rattle.common.specs.Lists.{crowded, Wrote}
 use Rattle.amend.specs.Amended.{regionsIn, listRegions, edit, amendedRegions, leftOpen, settledAnswer}
-use Rattle.amend.specs.Parts.{Orderly, regionsBetween, PutRows, Copies, Owns, surveyed, CutsReady, Settled, parts, Roomy, Merged}
+use Rattle.amend.specs.Parts.{Orderly, regionsBetween, PutRows, Copies, Owns, surveyed, CutsReady, Settled, parts, Roomy}
 use Rattle.amend.specs.Lists.{stay, retag-reaches}
 use Rattle.amend.specs.Starts.{order-longer, order-take, before-take, from-drop, order-from, before-few, unless-end}
 use Rattle.amend.specs.RowLaws.{orderly-longer, listed-length, listed-take, listed-drop, between-zero}
@@ -85,7 +85,7 @@ module _ {g : Gram} {l : List ℕ} {split : Split} {cuts : Cuts} {r out : List �
             room = omega (arith, w .moved .room, a .next, b .next, rows-kept, rows-own, put-rows-long a, put-rows-long b);
           }
 
-      pub all-written : {k : ℕ} {out‴ : List ℕ} → PutRows (movedBy (cuts .second) (cuts .first + length r) (regionsBetween (split .after) (split .count) l)) own out″ out‴ k → Merged g l split cuts r out out‴ k
+      pub all-written : {k : ℕ} {out‴ : List ℕ} → PutRows (movedBy (cuts .second) (cuts .first + length r) (regionsBetween (split .after) (split .count) l)) own out″ out‴ k → Wrote row (parts g l split cuts r) out out‴ k
       unfolding parts
       all-written {k} {out‴} c =
           let A = map (move (λ x. x + 0 - 0)) (regionsBetween 0 (split .before) l) in
@@ -196,7 +196,7 @@ module _ (g : Gram) (l : List ℕ) (n : ℕ) (cuts : Cuts) (r : List ℕ) (ready
           let f : crowded wide (amendedRegions (listRegions g) (cuts .len) (edit (cuts .first) (cuts .second) r) (regionsIn n l)) out ≡ true = lt-ltb (length out / wide) (length (amendedRegions (listRegions g) (cuts .len) (edit (cuts .first) (cuts .second) r) (regionsIn n l))) (omega (arith, total, counted)) in
           record { answer = simp (shut, f); list = simp (shut, f) }
 
-      pub settled-done : (out′ : List ℕ) (k : ℕ) → before + own .count + (n - after) ≤ length out / wide → Merged g l (split before after n) cuts r out out′ k
+      pub settled-done : (out′ : List ℕ) (k : ℕ) → before + own .count + (n - after) ≤ length out / wide → Wrote row (parts g l (split before after n) cuts r) out out′ k
           → Settled eol (cuts .len) (listRegions g) (regionsIn n l) (edit (cuts .first) (cuts .second) r) out out′ (given (k ∷ []))
       unfolding settledAnswer
       settled-done out′ k h w =

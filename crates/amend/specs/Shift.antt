@@ -40,11 +40,11 @@ hit-if k false q u = refl
 -- a ends in a line end, and no run of escapes reaches past its end
 module _ (g : Gram) (lines : Linewise (g .eol) (g .fences)) (a b : List ℕ) (ends : Ends (g .eol) a) (free : back (is (g .escape)) a (length a) ≡ 0) where
   -- a turn that finds a place, and one that finds a region
-  Placed : Turn ℕ → Turn ℕ
-  Placed t = moveT (λ e. length a + e) (length a) t
+  placeBehind : Turn ℕ → Turn ℕ
+  placeBehind t = moveT (λ e. length a + e) (length a) t
 
-  Moved : Turn Caused → Turn Caused
-  Moved t = moveT (move (λ x. length a + x)) (length a) t
+  regionBehind : Turn Caused → Turn Caused
+  regionBehind t = moveT (move (λ x. length a + x)) (length a) t
 
   -- ---- fences
   shut-shift : (p : ℕ) → shutPlace g (a ++ b) (length a + p) ≡ length a + shutPlace g b p
@@ -54,12 +54,12 @@ module _ (g : Gram) (lines : Linewise (g .eol) (g .fences)) (a b : List ℕ) (en
       simp (getD-append-add, lines .size .behind a b ends, find-shift, length-append, add-assoc, min-up)
       (first-move (t b) (t (a ++ b)) (length a) (nextLine (length b) (lineEnd (g .eol) b p)) (length b) (λ j h l. lines .shuts (getD b p 0) (g .fences .size b p) .behind a b ends j))
 
-  fencedTo-shift : (p : ℕ) (t : Bool) (q : ℕ) → fencedTo g (a ++ b) (length a + p) t (length a + q) ≡ Moved (fencedTo g b p t q)
-  unfolding Moved
+  fencedTo-shift : (p : ℕ) (t : Bool) (q : ℕ) → fencedTo g (a ++ b) (length a + p) t (length a + q) ≡ regionBehind (fencedTo g b p t q)
+  unfolding regionBehind
   fencedTo-shift p true q = simp (getD-append-add, find-shift, length-append, add-assoc, min-up)
   fencedTo-shift p false q = simp (getD-append-add, length-append)
 
-  fenced-shift : (p : ℕ) → fenced g (a ++ b) (length a + p) ≡ Moved (fenced g b p)
+  fenced-shift : (p : ℕ) → fenced g (a ++ b) (length a + p) ≡ regionBehind (fenced g b p)
   fenced-shift p = simp (shut-shift, length-append, ltb-up) (fencedTo-shift p (ltb (shutPlace g b p) (length b)) (shutPlace g b p))
 
   -- ---- pairs
@@ -78,38 +78,38 @@ module _ (g : Gram) (lines : Linewise (g .eol) (g .fences)) (a b : List ℕ) (en
       first-move (endsAt (g .eol) (g .fences .enters b) b) (endsAt (g .eol) (g .fences .enters (a ++ b)) (a ++ b)) (length a) j (length b) (λ k h l. ends-shift k) in
       simp (length-append, u, find-shift, ltb-up, hit-if)
 
-  symAfter-shift : (c count : ℕ) (t : Hit) → symAfter g (a ++ b) c count (moveHit (length a) t) ≡ Placed (symAfter g b c count t)
-  unfolding Placed
-  symAfter-shift c count (At q) = simp (escaped-shift, find-shift, sub-up, add-assoc, of-cond Placed)
+  symAfter-shift : (c count : ℕ) (t : Hit) → symAfter g (a ++ b) c count (moveHit (length a) t) ≡ placeBehind (symAfter g b c count t)
+  unfolding placeBehind
+  symAfter-shift c count (At q) = simp (escaped-shift, find-shift, sub-up, add-assoc, of-cond placeBehind)
   symAfter-shift c count (End u) = refl
 
-  symTurn-shift : (c count j : ℕ) → symTurn g (a ++ b) c count (length a + j) ≡ Placed (symTurn g b c count j)
+  symTurn-shift : (c count j : ℕ) → symTurn g (a ++ b) c count (length a + j) ≡ placeBehind (symTurn g b c count j)
   unfolding symTurn
   symTurn-shift c count j = ap (symAfter g (a ++ b) c count) (nextOf-shift c j) ∙ symAfter-shift c count (nextOf g b c j)
 
-  asymAfter-shift : (t : Hit) → asymAfter g (a ++ b) (moveHit (length a) t) ≡ Placed (asymAfter g b t)
-  unfolding Placed
-  asymAfter-shift (At q) = simp (escaped-shift, add-assoc, of-cond Placed)
+  asymAfter-shift : (t : Hit) → asymAfter g (a ++ b) (moveHit (length a) t) ≡ placeBehind (asymAfter g b t)
+  unfolding placeBehind
+  asymAfter-shift (At q) = simp (escaped-shift, add-assoc, of-cond placeBehind)
   asymAfter-shift (End u) = refl
 
-  asymTurn-shift : (c j : ℕ) → asymTurn g (a ++ b) c (length a + j) ≡ Placed (asymTurn g b c j)
+  asymTurn-shift : (c j : ℕ) → asymTurn g (a ++ b) c (length a + j) ≡ placeBehind (asymTurn g b c j)
   unfolding asymTurn
   asymTurn-shift c j = ap (asymAfter g (a ++ b)) (nextOf-shift c j) ∙ asymAfter-shift (nextOf g b c j)
 
-  pairOf-shift : (k : Cause) (i p r : ℕ) (t : Turn ℕ) → pairOf k i (length a + p) (length a + r) (Placed t) ≡ Moved (pairOf k i p r t)
-  unfolding Placed Moved
+  pairOf-shift : (k : Cause) (i p r : ℕ) (t : Turn ℕ) → pairOf k i (length a + p) (length a + r) (placeBehind t) ≡ regionBehind (pairOf k i p r t)
+  unfolding placeBehind regionBehind
   pairOf-shift k i p r (go n) = refl
   pairOf-shift k i p r (stop u) = refl
   pairOf-shift k i p r (found e n) = refl
 
-  openPair-shift : (p count : ℕ) (k : Cause) (i : ℕ) (close close′ : ℕ → Turn ℕ) (r : ℕ) → Adv Meets close (length b) → ((j : ℕ) → close′ (length a + j) ≡ Placed (close j)) → r ≤ length b
-      → openPair g (a ++ b) (length a + p) count k i close′ (length a + r) ≡ Moved (openPair g b p count k i close r)
-  unfolding Placed Moved
+  openPair-shift : (p count : ℕ) (k : Cause) (i : ℕ) (close close′ : ℕ → Turn ℕ) (r : ℕ) → Adv Meets close (length b) → ((j : ℕ) → close′ (length a + j) ≡ placeBehind (close j)) → r ≤ length b
+      → openPair g (a ++ b) (length a + p) count k i close′ (length a + r) ≡ regionBehind (openPair g b p count k i close r)
+  unfolding placeBehind regionBehind
   openPair-shift p count k i close close′ r adv same h =
-      simp (escaped-shift, sub-up, firstTurn-move adv (λ e. length a + e) close′ (length a) (λ q l. same q) (length (a ++ b)) r (omega (arith, length-append a b)) h, pairOf-shift, of-cond Moved, add-assoc)
+      simp (escaped-shift, sub-up, firstTurn-move adv (λ e. length a + e) close′ (length a) (λ q l. same q) (length (a ++ b)) r (omega (arith, length-append a b)) h, pairOf-shift, of-cond regionBehind, add-assoc)
 
-  inline-shift : (p c : ℕ) (u : Rule) → p < length b → inline g (a ++ b) (length a + p) c u ≡ Moved (inline g b p c u)
-  unfolding inline Moved
+  inline-shift : (p c : ℕ) (u : Rule) → p < length b → inline g (a ++ b) (length a + p) c u ≡ regionBehind (inline g b p c u)
+  unfolding inline regionBehind
   inline-shift p c plain h = simp add-assoc
   inline-shift p c (sym i count) h =
       rw (find-shift (other (is c)) a b p)
@@ -119,25 +119,25 @@ module _ (g : Gram) (lines : Linewise (g .eol) (g .fences)) (a b : List ℕ) (en
       (openPair-shift p count Asymmetric i (asymTurn g b d) (asymTurn g (a ++ b) d) (find (other (is c)) b p) (asymTurn-ahead g b d) (asymTurn-shift d) (find-le (other (is c)) b p (omega arith)))
 
   -- ---- regions
-  regionAt-shift : (p : ℕ) → p < length b → regionAt g (a ++ b) (length a + p) ≡ Moved (regionAt g b p)
-  unfolding Moved
+  regionAt-shift : (p : ℕ) → p < length b → regionAt g (a ++ b) (length a + p) ≡ regionBehind (regionAt g b p)
+  unfolding regionBehind
   regionAt-shift p h =
-      simp (lines .opens .behind a b ends, fenced-shift, getD-append-add, inline-shift p (getD b p 0) (g .rule (getD b p 0)) h, of-cond Moved)
+      simp (lines .opens .behind a b ends, fenced-shift, getD-append-add, inline-shift p (getD b p 0) (g .rule (getD b p 0)) h, of-cond regionBehind)
 
-  regionTurn-shift : (q : ℕ) → q ≤ length b → regionTurn g (a ++ b) (length a + q) ≡ Moved (regionTurn g b q)
-  unfolding regionTurn Moved
+  regionTurn-shift : (q : ℕ) → q ≤ length b → regionTurn g (a ++ b) (length a + q) ≡ regionBehind (regionTurn g b q)
+  unfolding regionTurn regionBehind
   regionTurn-shift q h = by (ltb (find (g .trigger) b q) (length b)) refl
     where
       test : (p : ℕ) → ltb (length a + p) (length (a ++ b)) ≡ ltb p (length b)
       test p = simp (length-append, ltb-up)
 
-      by : (t : Bool) → ltb (find (g .trigger) b q) (length b) ≡ t → regionFrom g (a ++ b) (length a + q) (find (g .trigger) (a ++ b) (length a + q)) ≡ Moved (regionFrom g b q (find (g .trigger) b q))
+      by : (t : Bool) → ltb (find (g .trigger) b q) (length b) ≡ t → regionFrom g (a ++ b) (length a + q) (find (g .trigger) (a ++ b) (length a + q)) ≡ regionBehind (regionFrom g b q (find (g .trigger) b q))
       by true u = simp (find-shift, test, u) (regionAt-shift (find (g .trigger) b q) (ltb-true (find (g .trigger) b q) (length b) u))
       by false u = simp (find-shift, test, u)
 
   -- the regions from the end of a on
   pub regions-shift : allFound (regionTurn g (a ++ b)) (length (a ++ b)) (length a) ≡ up (length a) (regions g b)
-  unfolding regions Moved
+  unfolding regions regionBehind
   regions-shift =
       ap (allFound (regionTurn g (a ++ b)) (length (a ++ b))) (inv (add-zero (length a)))
       ∙ allFound-move (regionTurn-ahead g b) (move (λ x. length a + x)) (regionTurn g (a ++ b)) (length a) regionTurn-shift (length (a ++ b)) 0 (omega (arith, length-append a b)) (omega arith)

@@ -22,11 +22,13 @@ use rules::columns::columns_differ;
 use rules::rows::Rows;
 use rules::rows::rule_rows;
 use rules::search_bytes::Alphabet;
+ghost use Rattle.common.specs.Lists.{Wrote};
 ghost use Rattle.common.specs.Refusals.{told};
+ghost use Rattle.region.specs.Region.{row};
 ghost use Rattle.rules.specs.Columns.{columns};
 ghost use Rattle.rules.specs.Rows.{gramBy};
 ghost use Rattle.amend.specs.Amended.{edit, regionsIn, listRegions, Amended};
-ghost use Rattle.amend.specs.Parts.{Judged, CutsReady, Roomy, Merged, Settled};
+ghost use Rattle.amend.specs.Parts.{Judged, CutsReady, parts, Roomy, Settled};
 
 // Whether the cuts may be made.
 enum Verdict {
@@ -117,8 +119,8 @@ fn write(
         Roomy (gramBy alphabet (now fences) (now rules)) (now list) split cuts (now text) (now out)
         ⌝ }
     ensures { λ r. ⌜
-        Merged (gramBy alphabet (now (fences .entry)) (now (rules .entry))) (now (list .entry)) split cuts
-        (now (text .entry)) (now (out .entry)) (now (out .exit)) r
+        Wrote row (parts (gramBy alphabet (now (fences .entry)) (now (rules .entry))) (now (list .entry)) split cuts
+        (now (text .entry))) (now (out .entry)) (now (out .exit)) r
         ⌝ }
 {
     let kept = copy_rows(list, 0, split.before, 0, 0, out, 0);

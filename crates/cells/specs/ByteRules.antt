@@ -2,7 +2,7 @@
 -- The page: "Rules come as columns of numbers" and "there each number of a list is four bytes, low byte first."
 use mathlib.Core.Bool.{Bool, not, _||_}
 use mathlib.Core.List.{List, map}
-use Prim.Native.Nat.{ℕ, _*_, _/_, _%_}
+use Prim.Native.Nat.{ℕ, _/_, _%_}
 use lib.Dec.{eqb}
 use lib.ListN.{length, getD}
 use Rattle.common.specs.Entry.{rows}
@@ -10,7 +10,7 @@ use Rattle.common.specs.Refusals.{differ}
 use Rattle.rules.specs.Columns.{InlineRules, inlineRules, Columns}
 use Rattle.rules.specs.Records.{ruleBytes, ruleMins}
 use Rattle.rules.specs.declared.records.FenceRule.{FenceRule}
-use Rattle.cells.specs.Bytes.{cells}
+use Rattle.cells.specs.Bytes.{cells, fourfold}
 
 -- ---- rules as a host lends them
 -- the inline rules' columns, as those of `Columns`, where a count is four bytes
@@ -33,10 +33,6 @@ pub record RuleRuns : Type 0 where
   pub inline : InlineRuns
 
 -- ---- "count columns are byte runs of exactly four times the byte column's length, else 6"
--- whether a run is four bytes for each number of a byte column
-abbrev pub fourfold : List ℕ → List ℕ → Bool
-fourfold run bytes = eqb (length run) (length bytes * 4)
-
 unfoldable pub uneven : InlineRuns → Bool
 uneven i = not (fourfold (i .symCounts) (i .symBytes)) || (differ (i .openers) (i .closers) || not (fourfold (i .openCounts) (i .openers)))
 

@@ -19,6 +19,10 @@ fromFour l = getD l 0 0 + getD l 1 0 * 256 + getD l 2 0 * 65536 + getD l 3 0 * 1
 unfoldable pub cells : List ℕ → List ℕ
 cells l = map fromFour (rows 4 (length l / 4) l)
 
+-- whether a run is four bytes for each element of a list
+abbrev pub fourfold : List ℕ → List ℕ → Bool
+fourfold run l = eqb (length run) (length l * 4)
+
 -- how many bytes a region's row has
 abbrev pub rowBytes : ℕ
 rowBytes = wide * 4
@@ -37,4 +41,4 @@ within (m ∷ ms) (x ∷ xs) = leb x m && within ms xs
 -- "a state run of the wrong length is refused with 2, a cell that is no byte/flag where the field is one likewise": whole cells, one for
 -- each limit, a byte's limit 255, a flag's 1
 unfoldable pub readable : List ℕ → List ℕ → Bool
-readable limits run = eqb (length run) (length limits * 4) && within limits (cells run)
+readable limits run = fourfold run limits && within limits (cells run)

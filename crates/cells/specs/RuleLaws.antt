@@ -15,7 +15,8 @@ use Rattle.common.specs.EntryLaws.{rows-at, length-rows}
 use Rattle.rules.specs.Records.{noRule, OneMore, AllGathered}
 use Rattle.rules.specs.RecordLaws.{Gathering, gather-again, gather-all}
 use Rattle.rules.specs.declared.records.Gathered.{Gathered}
-use Rattle.cells.specs.ByteRules.{InlineRuns, fourfold, uneven, fenceRuleOf, fenceRulesOf}
+use Rattle.cells.specs.Bytes.{fourfold}
+use Rattle.cells.specs.ByteRules.{InlineRuns, uneven, fenceRuleOf, fenceRulesOf}
 
 -- ---- four bytes for each number
 module _ (len count : ℕ) where

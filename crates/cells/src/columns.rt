@@ -13,9 +13,10 @@ use search::byte_at;
 ghost use Prim.Native.Nat.{_*_};
 ghost use lib.Dec.{eqb};
 ghost use Rattle.search.specs.Promise.{Gives};
+ghost use mathlib.Core.List.{[]};
 ghost use lib.ListN.{getD};
 ghost use Rattle.rules.specs.Columns.{inlineRules};
-ghost use Rattle.rules.specs.Rows.{OpenersLaid, RulesLaid, twin, Inlined, Folded};
+ghost use Rattle.rules.specs.Rows.{OpenersLaid, RulesLaid, twin, Folded};
 ghost use Rattle.rules.specs.Records.{AllGathered};
 ghost use Rattle.cells.specs.Bytes.{cells};
 ghost use Rattle.cells.specs.ByteRules.{fenceRulesOf, uneven};
@@ -103,7 +104,7 @@ fn inline_rows(
     counts: &[u8],
 ) -> Rows
     ensures { λ r. ⌜
-        Inlined (inlineRules (now (symmetric .entry)) (cells (now (times .entry))) (now (openers .entry))
+        Folded [] (inlineRules (now (symmetric .entry)) (cells (now (times .entry))) (now (openers .entry))
         (now (closers .entry)) (cells (now (counts .entry)))) r
         ⌝ }
 {

@@ -20,7 +20,6 @@ use Rattle.common.specs.declared.refusal.Answer.the-variants.{Value, Refused}
 use Rattle.common.specs.declared.refusal.Refusal.{Refusal}
 use Rattle.region.specs.Region.{rowOf}
 use Rattle.region.specs.Regions as region
-use Rattle.rules.specs.Columns.{gramOf}
 use Rattle.context.specs.Build.{builtAnswer, builtList, Built}
 use Rattle.region.specs.Ahead.{regions-few, regions-shaped}
 use Rattle.cover.specs.Shape.{misshapen}
@@ -28,7 +27,7 @@ use Rattle.feed.specs.Items.{markItems, numberedItems, merge}
 use Rattle.sheet.specs.Sheet.{five, sheetOf, sheetAnswer, sheetList, Sheeted}
 use Rattle.sheet.specs.SheetLaws.{five-numbers}
 use Rattle.sheet.specs.RunLaws.{items-few, outside-few}
-use Rattle.listing.specs.Listing.{houseRules, houseMarkers, houseDelims, houseRegions, houseSheet}
+use Rattle.listing.specs.Listing.{houseRules, houseGram, houseMarkers, houseDelims, houseRegions, houseSheet}
 use Rattle.listing.specs.Held.{RegionsIn, ItemsIn}
 
 -- an answer that says given is no refusal, and its value is the given one
@@ -45,14 +44,14 @@ over-length l out h = omega (arith, length-append l (drop (length l) out), lengt
 -- ---- regions
 pub few-regions : (s : List ℕ) → length s ≤ 8192 → length (houseRegions s) ≤ 4097
 unfolding houseRegions
-few-regions s h = omega (arith, regions-few (gramOf house houseRules) s)
+few-regions s h = omega (arith, regions-few (houseGram) s)
 
 module _ (s list list′ : List ℕ) (g : Grammar) (a : Answer) (e : Gives house g) (h : length s ≤ 8192) (size : length list ≡ wide * 4097) (w : Built g houseRules s list list′ (told a)) where
   built-is : (told a ≡ given (length (houseRegions s) ∷ [])) × (list′ ≡ over (flatten rowOf (houseRegions s)) list)
   unfolding builtAnswer buildAnswer builtList houseRegions
   built-is =
       let short = le-ltb 4294967295 (length s) (omega arith) in
-      let roomy = le-ltb (length list / wide) (length (region.regions (gramOf house houseRules) s)) (omega (arith, few-regions s h)) in
+      let roomy = le-ltb (length list / wide) (length (region.regions (houseGram) s)) (omega (arith, few-regions s h)) in
       (w .answer ∙ rw (e .answer, short, roomy), w .list ∙ rw (e .answer, short, roomy))
 
   pub regions-found : (n : ℕ) → a ≡ Value n → RegionsIn s list′ n
@@ -74,7 +73,7 @@ module _ {s list : List ℕ} {n : ℕ} (w : RegionsIn s list n) where
   unfolding misshapen houseRegions
   held-shape =
       let fits = le-ltb (length list / wide) n (omega (arith, w .few, w .long)) in
-      rw (fits, w .same, holds-shaped 0 (length s) (map rowOf (houseRegions s)) (regions-shaped (gramOf house houseRules) s))
+      rw (fits, w .same, holds-shaped 0 (length s) (map rowOf (houseRegions s)) (regions-shaped (houseGram) s))
 
   held-sheet : sheetOf house houseMarkers houseDelims list n s ≡ houseSheet s
   unfolding sheetOf houseSheet

@@ -14,6 +14,7 @@ use Rattle.fence.specs.Fence as fence
 use Rattle.fence.specs.declared.FenceIter.{FenceIter}
 use Rattle.cont.specs.Cont as cont
 use Rattle.cont.specs.declared.ContIter.{ContIter}
+use Rattle.listing.specs.Put.{Room}
 use Rattle.listing.specs.Lines.{lines}
 use Rattle.listing.specs.Listing.{fenceLinesOf, frameLines}
 
@@ -46,7 +47,7 @@ module _ {S : Type 0} where
       pub whole : all ≡ done ++ lines letter row rest
       pub here : k ≡ n₀ + length done
       pub list : out ≡ putAt n₀ done out₀
-      pub fits : n₀ + length all ≤ 1000000
+      pub room : Room n₀ all
 
 -- ---- what the loops over the scanners know
 -- over an item scanner, that puts lines of a letter

@@ -48,17 +48,17 @@ module _ {S : Type 0} {step : S → Step (List ℕ) S} where
 
   module _ {letter : ℕ} {row : List ℕ → List ℕ} where
     pub going-first : {g : S} {l : List (List ℕ)} {all : List ℕ} {n : ℕ} {out : List ℕ} → all ≡ lines letter row l → Yields step g l → Room n all → Going step letter row all n out g out n
-    going-first {l = l} e w h = record { rest = l; left = w; done = []; whole = e; here = omega arith; list = refl; fits = h .fits }
+    going-first {l = l} e w h = record { rest = l; left = w; done = []; whole = e; here = omega arith; list = refl; room = h }
 
     module _ {all : List ℕ} {n₀ k : ℕ} {out₀ out : List ℕ} {g : S} (i : Going step letter row all n₀ out₀ g out k) where
       -- a line that is still to come fits
       going-size : {g′ : S} {v : List ℕ} → step g ≡ yields v g′ → k + length (line letter (row v)) ≤ 1000000
       going-size {g′} {v} e =
           let y = yields-next (i .left) e in
-          omega (arith, i .here, i .fits, ap length (i .whole ∙ ap (λ (l : List (List ℕ)). i .done ++ lines letter row l) (y .1)), length-append (i .done) (line letter (row v) ++ lines letter row (y .0)), length-append (line letter (row v)) (lines letter row (y .0)))
+          omega (arith, i .here, i .room .fits, ap length (i .whole ∙ ap (λ (l : List (List ℕ)). i .done ++ lines letter row l) (y .1)), length-append (i .done) (line letter (row v) ++ lines letter row (y .0)), length-append (line letter (row v)) (lines letter row (y .0)))
 
       pub going-here : k ≤ 1000000
-      going-here = omega (arith, i .here, i .fits, ap length (i .whole), length-append (i .done) (lines letter row (i .rest)))
+      going-here = omega (arith, i .here, i .room .fits, ap length (i .whole), length-append (i .done) (lines letter row (i .rest)))
 
       module _ {g′ : S} {v : List ℕ} {m k′ : ℕ} {out′ : List ℕ} (e : step g ≡ yields v g′) (p : LaidWithin m (line letter (row v)) k out out′ k′) where
         pub going-again : Going step letter row all n₀ out₀ g′ out′ k′
@@ -72,7 +72,7 @@ module _ {S : Type 0} {step : S → Step (List ℕ) S} where
               whole = i .whole ∙ ap (λ (l : List (List ℕ)). i .done ++ lines letter row l) (y .1) ∙ sym (append-assoc (i .done) b (lines letter row (y .0)));
               here = omega (arith, p .laid .next, i .here, length-append (i .done) b);
               list = p .laid .list ∙ rw (i .list, i .here) (sym (put-append n₀ (i .done) b out₀));
-              fits = i .fits;
+              room = i .room;
             }
 
         pub going-less : 1000000 - k′ < 1000000 - k

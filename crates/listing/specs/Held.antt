@@ -1,15 +1,13 @@
 -- Regions and items held as runs of numbers, and the lines of their rows. Assumes nothing.
 -- The page: "then `W` for sheet items, with their M or N fields."
 use mathlib.Core.Path.{_≡_}
-use mathlib.Core.Bool.{cond}
-use mathlib.Core.List.{List, [], _∷_, map}
+use mathlib.Core.List.{List, map}
 use Prim.Native.Nat.{ℕ, _*_, _≤_}
-use lib.Dec.{eqb}
-use lib.ListN.{length, getD}
+use lib.ListN.{length}
 use Rattle.common.specs.Entry.{rows, wide}
 use Rattle.sheet.specs.Sheet.{five}
 use Rattle.listing.specs.Lines.{lines}
-use Rattle.listing.specs.Listing.{houseRegions, houseSheet}
+use Rattle.listing.specs.Listing.{houseRegions, rowFields, houseSheet}
 use Rattle.region.specs.Region.{rowOf}
 
 -- a run whose first n rows are the text's regions
@@ -28,9 +26,6 @@ pub record ItemsIn (s list : List ℕ) (n : ℕ) : Type 0 where
   pub few : n ≤ 8193
   pub long : length list ≡ 40965
 
--- the fields of a row of five numbers
-abbrev pub rowFields : List ℕ → List ℕ
-rowFields r = cond (eqb (getD r 2 0) 0) (getD r 0 0 ∷ getD r 1 0 ∷ getD r 3 0 ∷ []) (getD r 0 0 ∷ getD r 1 0 ∷ getD r 3 0 ∷ getD r 4 0 ∷ [])
-
+-- the lines of its first n rows
 unfoldable pub filedLines : List ℕ → ℕ → List ℕ
 filedLines list n = lines 87 rowFields (rows 5 n list)

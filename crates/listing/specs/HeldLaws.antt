@@ -14,8 +14,8 @@ use Rattle.sheet.specs.Sheet.{five}
 use Rattle.listing.specs.Lines.{line, lines}
 use Rattle.listing.specs.Put.{Laid, LaidWithin, Room}
 use Rattle.listing.specs.GoingLaws.{lines-map}
-use Rattle.listing.specs.Listing.{houseRegions, regionLines, houseSheet, sheetLines}
-use Rattle.listing.specs.Held.{RegionsIn, heldLines, ItemsIn, rowFields, filedLines}
+use Rattle.listing.specs.Listing.{houseRegions, regionLines, rowFields, houseSheet, sheetLines}
+use Rattle.listing.specs.Held.{RegionsIn, heldLines, ItemsIn, filedLines}
 use Rattle.region.specs.Region.{rowOf}
 
 -- ---- the loop over rows
@@ -26,15 +26,15 @@ pub record Rowing (letter w : ℕ) (row : List ℕ → List ℕ) (l : List ℕ) 
   pub whole : lines letter row (rows w n l) ≡ done ++ lines letter row (rows w (n - i) (drop (i * w) l))
   pub here : k ≡ n₀ + length done
   pub list : out ≡ putAt n₀ done out₀
-  pub fits : n₀ + length (lines letter row (rows w n l)) ≤ 1000000
+  pub room : Room n₀ (lines letter row (rows w n l))
 
 module _ (letter w : ℕ) (row : List ℕ → List ℕ) (l : List ℕ) (n : ℕ) where
   pub rowing-first : {n₀ : ℕ} {out : List ℕ} → Room n₀ (lines letter row (rows w n l)) → Rowing letter w row l n n₀ out 0 out n₀
-  rowing-first h = record { within = omega arith; done = []; whole = rw (zero-mul w, sub-zero n); here = omega arith; list = refl; fits = h .fits }
+  rowing-first h = record { within = omega arith; done = []; whole = rw (zero-mul w, sub-zero n); here = omega arith; list = refl; room = h }
 
   module _ {n₀ i k : ℕ} {out₀ out : List ℕ} (g : Rowing letter w row l n n₀ out₀ i out k) where
     pub rowing-here : k ≤ 1000000
-    rowing-here = omega (arith, g .here, g .fits, ap length (g .whole), length-append (g .done) (lines letter row (rows w (n - i) (drop (i * w) l))))
+    rowing-here = omega (arith, g .here, g .room .fits, ap length (g .whole), length-append (g .done) (lines letter row (rows w (n - i) (drop (i * w) l))))
 
     pub rowing-same : length out ≡ length out₀
     rowing-same = ap length (g .list) ∙ length-put n₀ (g .done) out₀
@@ -61,7 +61,7 @@ module _ (letter w : ℕ) (row : List ℕ → List ℕ) (l : List ℕ) (n : ℕ)
           whole = g .whole ∙ ap (λ (r : List (List ℕ)). g .done ++ lines letter row r) (rowing-row h) ∙ sym (append-assoc (g .done) b rest);
           here = omega (arith, p .laid .next, g .here, length-append (g .done) b);
           list = p .laid .list ∙ rw (g .list, g .here) (sym (put-append n₀ (g .done) b out₀));
-          fits = g .fits;
+          room = g .room;
         }
 
 -- ---- the numbers of a row

@@ -10,8 +10,7 @@ unfoldable pub field : ℕ → List ℕ
 field n = 9 ∷ decimal n
 
 abbrev pub fields : List ℕ → List ℕ
-fields [] = []
-fields (n ∷ ns) = field n ++ fields ns
+fields ns = flatten field ns
 
 abbrev pub line : ℕ → List ℕ → List ℕ
 line letter ns = letter ∷ (fields ns ++ (10 ∷ []))

@@ -7,22 +7,24 @@ use mathlib.Core.Bool.{Bool, cond}
 use mathlib.Core.List.{List, [], _∷_, _++_}
 use Prim.Native.Nat.{ℕ}
 use lib.Dec.{eqb, ltb}
-use lib.ListN.{length}
+use lib.ListN.{length, getD}
 use Rattle.common.specs.Entry.{flatten, over}
 use Rattle.common.specs.Grammars.{house}
 use Rattle.common.specs.Refusals.{Outcome, given, refuse, leaves, spanValues}
 use Rattle.common.specs.Sets.{setOf, markerBytes, delimiterBytes}
-use Rattle.common.specs.declared.span.Span.{Span}
 use Rattle.fence.specs.Fence as fence
+use Rattle.fence.specs.declared.FenceIter.{FenceIter}
 use Rattle.cont.specs.Frames.{frames}
 use Rattle.cont.specs.Cont as cont
+use Rattle.cont.specs.declared.Framing.{Framing}
 use Rattle.common.specs.Scanning.{Scanner, fresh, items}
 use Rattle.block_marker.specs.Marker as marker
 use Rattle.block_numbered.specs.Numbered as numbered
 use Rattle.region.specs.Region.{Caused, rowOf}
 use Rattle.rules.specs.Columns.{Columns, gramOf}
+use Rattle.rules.specs.Grammar.{Gram}
 use Rattle.region.specs.Regions as region
-use Rattle.sheet.specs.Sheet.{sheetOf}
+use Rattle.sheet.specs.Sheet.{five, sheetOf}
 use Rattle.feed.specs.declared.item.SheetItem.{SheetItem}
 use Rattle.listing.specs.Lines.{line, lines}
 
@@ -48,9 +50,21 @@ houseMarkers = setOf markerBytes
 abbrev pub houseDelims : List Bool
 houseDelims = setOf delimiterBytes
 
+-- the grammar of its regions
+abbrev pub houseGram : Gram
+houseGram = gramOf house houseRules
+
+-- a fresh scanner of the fences of a byte: "min 3"
+abbrev pub houseFence : ℕ → FenceIter
+houseFence byte = fence.fresh byte 3 (house .eol) (house .sep) (house .tab)
+
+-- "continuation `>`", to a depth
+abbrev pub houseFraming : ℕ → Framing
+houseFraming nest = cont.framingOf (cont.fresh 62 (house .eol) (house .sep) (house .tab) nest)
+
 -- ---- "`R` start end"
 unfoldable pub houseRegions : List ℕ → List Caused
-houseRegions s = region.regions (gramOf house houseRules) s
+houseRegions s = region.regions houseGram s
 
 unfoldable pub regionLines : List ℕ → List ℕ
 regionLines s = lines 82 rowOf (houseRegions s)
@@ -60,18 +74,15 @@ abbrev pub fenceFields : ℕ → fence.Fence → List ℕ
 fenceFields byte f = f .start ∷ f .end ∷ byte ∷ []
 
 unfoldable pub fenceLinesOf : ℕ → List ℕ → List ℕ
-fenceLinesOf byte s = lines 70 (fenceFields byte) (fence.fences (fence.fresh byte 3 10 32 9) s)
+fenceLinesOf byte s = lines 70 (fenceFields byte) (fence.fences (houseFence byte) s)
 
 -- ---- "`C` start end": "continuation `>`, nest 8"
-abbrev pub frameRow : Span → List ℕ
-frameRow = spanValues
-
 unfoldable pub frameLines : List ℕ → List ℕ
-frameLines s = lines 67 frameRow (frames (cont.framingOf (cont.fresh 62 10 32 9 8)) s)
+frameLines s = lines 67 spanValues (frames (houseFraming 8) s)
 
 -- ---- items, a line of their values for each: all that a fresh state has before it
 abbrev pub itemLinesOf : {S A : Type 0} → Scanner S A → ℕ → List Bool → List ℕ → List ℕ
-itemLinesOf c letter set s = lines letter (c .values) (items c (fresh c 10 32 9 set) set s)
+itemLinesOf c letter set s = lines letter (c .values) (items c (fresh c (house .eol) (house .sep) (house .tab) set) set s)
 
 -- "`M` start end marker byte"
 unfoldable pub markerLines : List ℕ → List ℕ
@@ -81,9 +92,13 @@ markerLines s = itemLinesOf marker.scanner 77 houseMarkers s
 unfoldable pub numberedLines : List ℕ → List ℕ
 numberedLines s = itemLinesOf numbered.scanner 78 houseDelims s
 
--- ---- "then `W` for sheet items, with their M or N fields": kind 0 is a marker
+-- ---- "then `W` for sheet items, with their M or N fields"
+-- the fields of an item's five numbers, which are start, end, kind, byte and number: kind 0 is a marker
+abbrev pub rowFields : List ℕ → List ℕ
+rowFields r = cond (eqb (getD r 2 0) 0) (getD r 0 0 ∷ getD r 1 0 ∷ getD r 3 0 ∷ []) (getD r 0 0 ∷ getD r 1 0 ∷ getD r 3 0 ∷ getD r 4 0 ∷ [])
+
 abbrev pub sheetRow : SheetItem → List ℕ
-sheetRow i = cond (eqb (i .kind) 0) (i .start ∷ i .end ∷ i .byte ∷ []) (i .start ∷ i .end ∷ i .byte ∷ i .number ∷ [])
+sheetRow i = rowFields (five i)
 
 -- the work sheet by the list of the text's regions
 unfoldable pub houseSheet : List ℕ → List SheetItem

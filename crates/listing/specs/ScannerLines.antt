@@ -20,7 +20,7 @@ use Rattle.cont.specs.Cont as cont
 use Rattle.cont.specs.Run as contRun
 use Rattle.cont.specs.declared.ContIter.{ContIter}
 use Rattle.listing.specs.Put.{Room}
-use Rattle.listing.specs.Listing.{fenceLinesOf, frameRow, frameLines, itemLinesOf}
+use Rattle.listing.specs.Listing.{houseFence, fenceLinesOf, frameLines, itemLinesOf}
 use Rattle.listing.specs.Going.{mapStep, Reads, ItemsGoing, FencesGoing, FramesGoing}
 use Rattle.listing.specs.GoingLaws.{lines-map, going-first, reads-refuse, yields-values}
 
@@ -50,10 +50,10 @@ module _ {S A : Type 0} {c : Scanner S A} {Lies : ℕ → ℕ → A → Type 0} 
       (λ n i. run-all w set s (omega arith) g (λ k. answer c k set s) (λ k. state c k set s) (λ q j. record { answer = refl; next = refl }) n (omega (arith, fresh-place w 10 32 9 set)) i)) l)
 
 -- ---- the fence scanner, by a byte
-pub fences-first : (byte : ℕ) (s : List ℕ) {out : List ℕ} {n : ℕ} {g : FenceIter} → Gives (fence.fresh byte 3 10 32 9) g → length s ≤ 8192 → Room n (fenceLinesOf byte s) → FencesGoing byte s n out g out n
+pub fences-first : (byte : ℕ) (s : List ℕ) {out : List ℕ} {n : ℕ} {g : FenceIter} → Gives (houseFence byte) g → length s ≤ 8192 → Room n (fenceLinesOf byte s) → FencesGoing byte s n out g out n
 unfolding fenceLinesOf fence.fences fence.answer
 fences-first byte s e h l =
-    let g = fence.fresh byte 3 10 32 9 in
+    let g = houseFence byte in
     rw (e .answer)
     (going-first (sym (lines-map 70 (λ (v : List ℕ). v ++ (byte ∷ [])) spanValues (fence.fences g s)))
     (yields-values spanValues spanBack (λ k. fence.answer k s) (λ k. fence.state k s)
@@ -69,7 +69,7 @@ unfolding frameLines cont.answer
 frames-first s e h l =
     let g = cont.fresh 62 10 32 9 8 in
     rw (e .answer)
-    (going-first (sym (lines-map 67 (λ (v : List ℕ). v) frameRow (frames (cont.framingOf g) s)))
+    (going-first (sym (lines-map 67 (λ (v : List ℕ). v) spanValues (frames (cont.framingOf g) s)))
     (yields-values spanValues spanBack (λ k. cont.answer k s) (λ k. cont.state k s)
     (λ k. reads-refuse spanValues spanBack 1 (tooLong s) (refuse 2 (cont.misplaced k s) (cont.spanOf (cont.stepped k s)))
     (reads-refuse spanValues spanBack 2 (cont.misplaced k s) (cont.spanOf (cont.stepped k s)) (span-reads (cont.stepped k s))))

@@ -10,15 +10,14 @@ use lib.ListN.{length, length-append}
 use borrow.Author.Tests.{ltb-false}
 use Rattle.decimal.specs.Decimal.{decimal}
 use Rattle.decimal.specs.DecimalLaws.{decimal-few}
-use Rattle.common.specs.Grammars.{house}
 use Rattle.common.specs.Entry.{flatten, rows, wide}
+use Rattle.common.specs.Refusals.{spanValues}
 use Rattle.common.specs.Turn.{Turn, go, stop, found, thenCollect, collect}
 use Rattle.common.specs.Turning.{Adv, Each, OnFound}
 use Rattle.common.specs.EachLaws.{each-as}
 use Rattle.common.specs.TurnLaws.{by-turn, collect-each}
 use Rattle.common.specs.ItemLaws.{both}
 use Rattle.region.specs.Region.{Caused, InOrder, rowOf}
-use Rattle.rules.specs.Columns.{gramOf}
 use Rattle.region.specs.Ahead.{regions-in-order}
 use Rattle.fence.specs.Fence as fence
 use Rattle.fence.specs.Laws as fenceLaws
@@ -38,7 +37,7 @@ use Rattle.sheet.specs.Sheet.{sheetOf}
 use Rattle.feed.specs.declared.item.SheetItem.{SheetItem}
 use Rattle.listing.specs.Lines.{field, fields, line, lines}
 use Rattle.listing.specs.Put.{Room}
-use Rattle.listing.specs.Listing.{houseRules, houseMarkers, houseDelims, houseRegions, regionLines, fenceFields, fenceLinesOf, frameRow, frameLines, itemLinesOf, markerLines, numberedLines, sheetRow, houseSheet, sheetLines, entries, printed}
+use Rattle.listing.specs.Listing.{houseGram, houseFence, houseFraming, houseMarkers, houseDelims, houseRegions, regionLines, fenceFields, fenceLinesOf, frameLines, itemLinesOf, markerLines, numberedLines, sheetRow, houseSheet, sheetLines, entries, printed}
 use Rattle.listing.specs.FoundLaws.{few-regions, few-shown}
 use Rattle.listing.specs.FrameSize.{Inside, frames-inside, frames-few}
 use Rattle.listing.specs.ItemSize.{Mark, Delimiter, mark-byte, number-byte, each-merge, each-outside}
@@ -124,13 +123,13 @@ module _ (s : List ℕ) (h : length s ≤ 8192) where
 
   region-most : length (regionLines s) ≤ 49164
   unfolding regionLines houseRegions
-  region-most = omega (arith, few-regions s h, lines-most 82 12 rowOf (houseRegions s) (regions-inside 0 (houseRegions s) (regions-in-order (gramOf house houseRules) s)))
+  region-most = omega (arith, few-regions s h, lines-most 82 12 rowOf (houseRegions s) (regions-inside 0 (houseRegions s) (regions-in-order (houseGram) s)))
 
   -- ---- fences
   fence-most : (byte : ℕ) → byte < 256 → length (fenceLinesOf byte s) ≤ 131072
   unfolding fenceLinesOf fence.fences
   fence-most byte k =
-      let g = fence.fresh byte 3 10 32 9 in
+      let g = houseFence byte in
       let adv = fenceLaws.turn-adv g s in
       let l = collect (fence.openTurn g s) (suc (length s)) 0 in
       let w : Each (λ f. length (line 70 (fenceFields byte f)) ≤ 16) l = collect-each adv (λ f. length (line 70 (fenceFields byte f)) ≤ 16) (λ q n f i v. three-most 70 (f .start) (f .end) (omega arith) (omega arith) byte k) (suc (length s)) 0 (omega arith) in
@@ -140,8 +139,8 @@ module _ (s : List ℕ) (h : length s ≤ 8192) where
   frame-most : length (frameLines s) ≤ 98304
   unfolding frameLines
   frame-most =
-      let m = cont.framingOf (cont.fresh 62 10 32 9 8) in
-      omega (arith, frames-few m s, lines-most 67 12 frameRow (frames m s) (each-as (Inside (length s)) (λ f. length (line 67 (frameRow f)) ≤ 12) (λ f w. two-most 67 (f .start) (f .end) (omega arith) (omega arith)) (frames m s) (frames-inside m s)))
+      let m = houseFraming 8 in
+      omega (arith, frames-few m s, lines-most 67 12 spanValues (frames m s) (each-as (Inside (length s)) (λ f. length (line 67 (spanValues f)) ≤ 12) (λ f w. two-most 67 (f .start) (f .end) (omega arith) (omega arith)) (frames m s) (frames-inside m s)))
 
   -- ---- items
   marks-fit : Each (λ i. (i .span .start ≤ 8192) × (i .span .end ≤ 8192) × (i .marker < 256)) (marker.items (marker.fresh 10 32 9 houseMarkers) houseMarkers s)

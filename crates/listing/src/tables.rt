@@ -14,8 +14,8 @@ ghost use Prim.Native.Nat.{_≤_, _*_};
 ghost use lib.ListN.{length};
 ghost use Rattle.listing.specs.Lines.{line};
 ghost use Rattle.listing.specs.Put.{LaidWithin, Laid, Room};
-ghost use Rattle.listing.specs.Listing.{houseMarkers, houseDelims, sheetLines};
-ghost use Rattle.listing.specs.Held.{RegionsIn, heldLines, ItemsIn, rowFields, filedLines};
+ghost use Rattle.listing.specs.Listing.{houseMarkers, houseDelims, rowFields, sheetLines};
+ghost use Rattle.listing.specs.Held.{RegionsIn, heldLines, ItemsIn, filedLines};
 ghost use Rattle.common.specs.Entry.{wide};
 
 // Numbers for the regions of 8,192 bytes: there are at most half as many as bytes, and one more.

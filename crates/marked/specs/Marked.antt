@@ -6,6 +6,7 @@ use Rattle.lines.specs.Fences.{opensLine, closesTo, closing}
 use Rattle.lines.specs.Reader.{reader}
 use Rattle.lines.specs.Paragraph.{endsAt, paragraphEnd, nextIn}
 use Rattle.common.specs.Turn.{scan, collect, gather}
+use Rattle.common.specs.Turning.{Each}
 use Rattle.region.specs.Regions.{shutPlace, oddBefore, symTurn, asymTurn, inline, regionTurn, regions}
 use Rattle.rules.specs.Columns.{searched, openRule, symRule}
 use Rattle.fence.specs.Fence.{begins, opens, closes, closeEnd, nextFence, fences}
@@ -17,8 +18,8 @@ use Rattle.region.specs.Region.{reaches, keepBefore, keepFrom}
 use Rattle.cover.specs.Shape.{misshapen}
 use Rattle.amend.specs.Amend.{joint}
 use Rattle.amend.specs.Amended.{regionsIn, amendedRegions, offJoint, leftOpen, judged, settledAnswer, amendedAnswer}
-use Rattle.marked.specs.Page.{All, page}
+use Rattle.marked.specs.Page.{Says, page}
 
-pub marked : All page
+pub marked : Each Says page
 unfolding is either oneOf other holds firstOf firstPlace find back lineStart opensLine closesTo closing reader endsAt paragraphEnd nextIn scan collect shutPlace oddBefore symTurn asymTurn inline regionTurn regions searched openRule symRule begins opens closes closeEnd nextFence fences leading beyond itemAt itemsOf digit valuedFrom numberLine markAt afterMark marksFrom lineMarks openStart ending frames gather reaches keepBefore keepFrom joint regionsIn amendedRegions misshapen offJoint leftOpen judged settledAnswer amendedAnswer
 marked = (refl, (refl, (refl, (refl, (refl, (refl, (refl, (refl, (refl, (refl, (refl, (refl, (refl, (refl, (refl, (refl, (refl, (refl, (record { answer = refl; list = refl }, (record { answer = refl; list = refl }, (record { answer = refl; list = refl }, (record { answer = refl; list = refl }, (refl, (record { answer = refl; list = refl }, tt))))))))))))))))))))))))

@@ -4,16 +4,18 @@ use mathlib.Core.Path.{_≡_}
 use mathlib.Core.List.{List, [], _∷_}
 use Prim.Native.Nat.{ℕ, _/_}
 use lib.ListN.{length}
+use Rattle.search.specs.Search.{oneOf}
 use Rattle.common.specs.Entry.{flatten, over, wide}
 use Rattle.common.specs.Grammars.{house}
-use Rattle.common.specs.Refusals.{given, refused}
+use Rattle.common.specs.Items.{ItemGrammar, grammar}
+use Rattle.common.specs.Refusals.{given, refused, spanValues}
+use Rattle.common.specs.Sets.{delimiterBytes}
 use Rattle.region.specs.Regions.{regions}
 use Rattle.fence.specs.Fence.{fences}
 use Rattle.block_numbered.specs.Numbered.{numbers, values}
 use Rattle.cont.specs.Frames.{frames}
-use Rattle.listing.specs.Listing.{houseRules}
+use Rattle.listing.specs.Listing.{houseRules, houseGram, houseFence, houseFraming}
 use Rattle.amend.specs.Amended.{edit, Amended}
-use Rattle.marked.specs.House.{gram, fence, delimiters, quotes}
 use Rattle.region.specs.Region.{rowOf}
 
 -- a text with the list of its regions; with its fences of a byte, start and end each; with its numbered items, start, end, delimiter and
@@ -21,15 +23,19 @@ use Rattle.region.specs.Region.{rowOf}
 -- leaves, or the refusal
 pub data Row : Type 0 where
   listed : List ℕ → List ℕ → Row
-  fenced : ℕ → List ℕ → List ℕ → Row
-  counted : List ℕ → List ℕ → Row
+  hasFences : ℕ → List ℕ → List ℕ → Row
+  hasNumbers : List ℕ → List ℕ → Row
   framed : ℕ → List ℕ → List ℕ → Row
   mended : List ℕ → ℕ → ℕ → List ℕ → List ℕ → Row
   refusing : List ℕ → ℕ → ℕ → List ℕ → ℕ → Row
 
 -- the list that building leaves of a text
 abbrev pub own : List ℕ → List ℕ
-own s = flatten rowOf (regions gram s)
+own s = flatten rowOf (regions houseGram s)
+
+-- "delimiters `. )`"
+abbrev pub delimiters : ItemGrammar
+delimiters = grammar (house .eol) (house .sep) (house .tab) (oneOf delimiterBytes)
 
 -- a run with room for four regions
 abbrev pub zeros : List ℕ
@@ -37,17 +43,12 @@ zeros = 0 ∷ 0 ∷ 0 ∷ 0 ∷ 0 ∷ 0 ∷ 0 ∷ 0 ∷ []
 
 -- what a row says
 abbrev pub Says : Row → Type 0
-Says (listed s l) = flatten rowOf (regions gram s) ≡ l
-Says (fenced byte s l) = flatten (λ f. f .start ∷ f .end ∷ []) (fences (fence byte) s) ≡ l
-Says (counted s l) = flatten values (numbers delimiters s) ≡ l
-Says (framed nest s l) = flatten (λ f. f .start ∷ f .end ∷ []) (frames (quotes nest) s) ≡ l
+Says (listed s l) = own s ≡ l
+Says (hasFences byte s l) = flatten spanValues (fences (houseFence byte) s) ≡ l
+Says (hasNumbers s l) = flatten values (numbers delimiters s) ≡ l
+Says (framed nest s l) = flatten spanValues (frames (houseFraming nest) s) ≡ l
 Says (mended s a b r l) = Amended house houseRules s (own s) (length (own s) / wide) (edit a b r) zeros (over l zeros) (given (length l / wide ∷ []))
 Says (refusing s a b r n) = Amended house houseRules s (own s) (length (own s) / wide) (edit a b r) zeros zeros (refused n)
-
--- what all rows of a table say
-abbrev pub All : List Row → Type 0
-All [] = Unit {0}
-All (r ∷ l) = Says r × All l
 
 -- the texts of P11 (`a`, an empty line, ~~~, b, ~~~, an empty line, <c>) and of P12 (~~~, an empty line, ~~~)
 abbrev pub eleventh : List ℕ
@@ -63,10 +64,10 @@ page =
     listed [] []
     -- P2: ~~~
     ∷ listed (126 ∷ 126 ∷ 126 ∷ []) (0 ∷ 3 ∷ [])
-    ∷ fenced 126 (126 ∷ 126 ∷ 126 ∷ []) (0 ∷ 3 ∷ [])
+    ∷ hasFences 126 (126 ∷ 126 ∷ 126 ∷ []) (0 ∷ 3 ∷ [])
     -- P3: ~~
     ∷ listed (126 ∷ 126 ∷ []) []
-    ∷ fenced 126 (126 ∷ 126 ∷ []) []
+    ∷ hasFences 126 (126 ∷ 126 ∷ []) []
     -- P4: a `b` c
     ∷ listed (97 ∷ 32 ∷ 96 ∷ 98 ∷ 96 ∷ 32 ∷ 99 ∷ []) (2 ∷ 5 ∷ [])
     -- P5: \`a`
@@ -78,10 +79,10 @@ page =
     ∷ listed (60 ∷ 97 ∷ 10 ∷ 126 ∷ 126 ∷ 126 ∷ 10 ∷ 98 ∷ 62 ∷ 10 ∷ []) (3 ∷ 10 ∷ [])
     -- P8: ~~~~, ~~~, ~~~~ and a space
     ∷ listed (126 ∷ 126 ∷ 126 ∷ 126 ∷ 10 ∷ 126 ∷ 126 ∷ 126 ∷ 10 ∷ 126 ∷ 126 ∷ 126 ∷ 126 ∷ 32 ∷ 10 ∷ []) (0 ∷ 14 ∷ [])
-    ∷ fenced 126 (126 ∷ 126 ∷ 126 ∷ 126 ∷ 10 ∷ 126 ∷ 126 ∷ 126 ∷ 10 ∷ 126 ∷ 126 ∷ 126 ∷ 126 ∷ 32 ∷ 10 ∷ []) (0 ∷ 15 ∷ [])
+    ∷ hasFences 126 (126 ∷ 126 ∷ 126 ∷ 126 ∷ 10 ∷ 126 ∷ 126 ∷ 126 ∷ 10 ∷ 126 ∷ 126 ∷ 126 ∷ 126 ∷ 32 ∷ 10 ∷ []) (0 ∷ 15 ∷ [])
     -- P9: 123456789. x, and one digit more
-    ∷ counted (49 ∷ 50 ∷ 51 ∷ 52 ∷ 53 ∷ 54 ∷ 55 ∷ 56 ∷ 57 ∷ 46 ∷ 32 ∷ 120 ∷ []) (11 ∷ 12 ∷ 46 ∷ 123456789 ∷ [])
-    ∷ counted (49 ∷ 50 ∷ 51 ∷ 52 ∷ 53 ∷ 54 ∷ 55 ∷ 56 ∷ 57 ∷ 48 ∷ 46 ∷ 32 ∷ 120 ∷ []) []
+    ∷ hasNumbers (49 ∷ 50 ∷ 51 ∷ 52 ∷ 53 ∷ 54 ∷ 55 ∷ 56 ∷ 57 ∷ 46 ∷ 32 ∷ 120 ∷ []) (11 ∷ 12 ∷ 46 ∷ 123456789 ∷ [])
+    ∷ hasNumbers (49 ∷ 50 ∷ 51 ∷ 52 ∷ 53 ∷ 54 ∷ 55 ∷ 56 ∷ 57 ∷ 48 ∷ 46 ∷ 32 ∷ 120 ∷ []) []
     -- P10: > > a, to depth 8, 1 and 0
     ∷ framed 8 (62 ∷ 32 ∷ 62 ∷ 32 ∷ 97 ∷ []) (2 ∷ 5 ∷ 0 ∷ 5 ∷ [])
     ∷ framed 1 (62 ∷ 32 ∷ 62 ∷ 32 ∷ 97 ∷ []) (0 ∷ 5 ∷ [])

@@ -30,11 +30,11 @@ use Rattle.block_marker.specs.MarkerRun.{lawful as marker-lawful}
 use Rattle.block_numbered.specs.declared.BlockNumberedIter.{BlockNumberedIter}
 use Rattle.block_numbered.specs.Numbered as numbered
 use Rattle.block_numbered.specs.NumberedRun.{lawful as numbered-lawful}
-use Rattle.cells.specs.Bytes.{four, cells, asFlag, within, readable}
+use Rattle.cells.specs.Bytes.{four, cells, fourfold, asFlag, within, readable}
 use Rattle.cells.specs.ByteLaws.{length-four}
 use Rattle.cells.specs.BackLaws.{Narrow, cells-four, reply-served}
 use Rattle.cells.specs.CellLaws.{within-at}
-use Rattle.panel.specs.State.{sized, Made, StateRuns, Stepper, stepAnswer, Stepped, fenceLimits, fenceCells, fenceFrom, itemLimits, itemCells, itemFields, markerCells, markerFrom, numberedCells, numberedFrom}
+use Rattle.panel.specs.State.{Made, StateRuns, Stepper, stepAnswer, Stepped, fenceLimits, fenceCells, fenceFrom, itemLimits, itemCells, itemFields, itemShow, itemRead, markerCells, markerFrom, numberedCells, numberedFrom}
 use Rattle.panel.specs.Back.{Small, Held, Holds}
 
 -- ---- cells within limits
@@ -92,9 +92,9 @@ module _ {G : Type 0} (from : List ℕ → G) (show : G → List ℕ) (limits : 
 
     -- what `new` wrote
     pub made-back : (run run′ : List ℕ) → Made (show g) run run′ 0 → Holds from show limits run′ g
-    made-back run run′ d = subst (λ (x : List ℕ). Holds from show limits x g) (sym (d .left ∙ by (decide (sized (show g) run)))) held-back
+    made-back run run′ d = subst (λ (x : List ℕ). Holds from show limits x g) (sym (d .left ∙ by (decide (fourfold run (show g))))) held-back
       where
-        by : (sized (show g) run ≡ true) ⊎ (sized (show g) run ≡ false) → cond (sized (show g) run) (flatten four (show g)) run ≡ flatten four (show g)
+        by : (fourfold run (show g) ≡ true) ⊎ (fourfold run (show g) ≡ false) → cond (fourfold run (show g)) (flatten four (show g)) run ≡ flatten four (show g)
         by (inl u) = rw u
         by (inr u) =
             let z : _≡_ {A = ℕ} 0 2 = d .number ∙ rw u in
@@ -201,16 +201,11 @@ unfolding within
 item-small = refl
 
 module _ {S A : Type 0} {c : Scanner S A} {Lies : ℕ → ℕ → A → Type 0} (w : Lawful c Lies) where
-  abbrev from : List ℕ → S
-  from l = c .made (itemFields l)
-
-  abbrev show : S → List ℕ
-  show g = itemCells (c .fields g)
-
   abbrev pub ItemHeld : S → Type 0
-  ItemHeld = Held from show itemLimits
+  ItemHeld = Held (itemRead c) (itemShow c) itemLimits
 
   fields-held : (f : Fields) → length (f .needles) ≡ 3 → within itemLimits (itemCells f) ≡ true → ItemHeld (c .made f)
+  unfolding itemRead
   fields-held f h e = record { fits = ap (λ (x : Fields). within itemLimits (itemCells x)) (w .of-made f) ∙ e; same = ap (λ (x : Fields). c .made (itemFields (itemCells x))) (w .of-made f) ∙ ap (c .made) (fields-back f h) }
 
   pub item-fresh : (eol sep tab : ℕ) (set : List Bool) → eol ≤ 255 → sep ≤ 255 → tab ≤ 255 → ItemHeld (fresh c eol sep tab set)
@@ -234,11 +229,13 @@ module _ {S A : Type 0} {c : Scanner S A} {Lies : ℕ → ℕ → A → Type 0} 
           by true = refl
           by false = refl
 
-  pub item-read : (run : List ℕ) → readable itemLimits run ≡ true → ItemHeld (from (cells run))
+  pub item-read : (run : List ℕ) → readable itemLimits run ≡ true → ItemHeld (itemRead c (cells run))
+  unfolding itemRead
   item-read run r = let e = readable-within itemLimits run r in fields-held (itemFields (cells run)) refl (rw (cells-fields (cells run) e) e)
 
   three : (g : S) → ItemHeld g → length (c .fields g .needles) ≡ 3
-  three g h = ap (λ (x : S). length (c .fields x .needles)) (sym (h .same)) ∙ ap (λ (x : Fields). length (x .needles)) (w .of-made (itemFields (show g)))
+  unfolding itemRead
+  three g h = ap (λ (x : S). length (c .fields x .needles)) (sym (h .same)) ∙ ap (λ (x : Fields). length (x .needles)) (w .of-made (itemFields (itemShow c g)))
 
   pub item-next : (g : S) (set : List Bool) (s : List ℕ) → ItemHeld g → ItemHeld (state c g set s)
   unfolding state first
@@ -248,25 +245,19 @@ module _ {S A : Type 0} {c : Scanner S A} {Lies : ℕ → ℕ → A → Type 0} 
 
 -- of each of them, as the panel reads and shows it
 pub marker-fresh : (eol sep tab : ℕ) (set : List Bool) → eol ≤ 255 → sep ≤ 255 → tab ≤ 255 → Held markerFrom markerCells itemLimits (marker.fresh eol sep tab set)
-unfolding markerFrom
 marker-fresh = item-fresh marker-lawful
 
 pub marker-read : (run : List ℕ) → readable itemLimits run ≡ true → Held markerFrom markerCells itemLimits (markerFrom (cells run))
-unfolding markerFrom
 marker-read = item-read marker-lawful
 
 pub marker-next : (g : BlockMarkerIter) (set : List Bool) (s : List ℕ) → Held markerFrom markerCells itemLimits g → Held markerFrom markerCells itemLimits (marker.state g set s)
-unfolding markerFrom
 marker-next g set s h = item-next marker-lawful g set s h
 
 pub numbered-fresh : (eol sep tab : ℕ) (set : List Bool) → eol ≤ 255 → sep ≤ 255 → tab ≤ 255 → Held numberedFrom numberedCells itemLimits (numbered.fresh eol sep tab set)
-unfolding numberedFrom
 numbered-fresh = item-fresh numbered-lawful
 
 pub numbered-read : (run : List ℕ) → readable itemLimits run ≡ true → Held numberedFrom numberedCells itemLimits (numberedFrom (cells run))
-unfolding numberedFrom
 numbered-read = item-read numbered-lawful
 
 pub numbered-next : (g : BlockNumberedIter) (set : List Bool) (s : List ℕ) → Held numberedFrom numberedCells itemLimits g → Held numberedFrom numberedCells itemLimits (numbered.state g set s)
-unfolding numberedFrom
 numbered-next g set s h = item-next numbered-lawful g set s h

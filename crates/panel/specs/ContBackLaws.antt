@@ -33,7 +33,7 @@ use Rattle.cont.specs.StepLaws.{served}
 use Rattle.cont.specs.TurnLaws.{closing-length}
 use Rattle.cells.specs.Bytes.{cells, within, readable}
 use Rattle.cells.specs.CellLaws.{within-at}
-use Rattle.panel.specs.ContState.{contLimits, single, contCells, openCells, pendingFrom, contFrom}
+use Rattle.panel.specs.ContState.{contLimits, single, contCells, openCell, openCells, pendingCell, pendingFrom, contFrom}
 use Rattle.panel.specs.Back.{Small, Held, Few, FewSpan, Bounded}
 use Rattle.common.specs.EachLaws.{each-append, each-getD, each-put, each-drop, each-same, each-table}
 use Rattle.panel.specs.BackLaws.{within-narrow, readable-within, tabulate-drop}
@@ -110,10 +110,10 @@ module _ (g : ContIter) (w : Bounded g) where
   unfolding last
   size-last = refl
 
-  abbrev cell : ℕ → ℕ
-  cell k = getD ((upto ++ p) ++ last) k 0
+  abbrev shownCell : ℕ → ℕ
+  shownCell k = getD ((upto ++ p) ++ last) k 0
 
-  at-front : (cell 0 ≡ g .byte) × (cell 1 ≡ g .eol) × (cell 2 ≡ g .sep) × (cell 3 ≡ g .tab) × (cell 4 ≡ g .cap) × (cell 5 ≡ g .pos)
+  at-front : (shownCell 0 ≡ g .byte) × (shownCell 1 ≡ g .eol) × (shownCell 2 ≡ g .sep) × (shownCell 3 ≡ g .tab) × (shownCell 4 ≡ g .cap) × (shownCell 5 ≡ g .pos)
   unfolding upto six
   at-front = (refl, refl, refl, refl, refl, refl)
 
@@ -154,15 +154,15 @@ module _ (g : ContIter) (w : Bounded g) where
   open-back : openCells ((upto ++ p) ++ last) ≡ g .«open»
   unfolding openCells
   open-back =
-      table-same (λ i. getD ((upto ++ p) ++ last) (i + 6) 0) (λ i. getD (g .«open») i 0) 32 0 (λ i h. at-open i h) ∙ tabulate-drop (g .«open») 0 32 0 (sym (w .opens-long))
+      table-same (openCell ((upto ++ p) ++ last)) (λ i. getD (g .«open») i 0) 32 0 (λ i h. at-open i h) ∙ tabulate-drop (g .«open») 0 32 0 (sym (w .opens-long))
 
   pending-back : pendingFrom ((upto ++ p) ++ last) ≡ g .pending
   unfolding pendingFrom p
   pending-back =
-      table-same (λ i. frame (getD ((upto ++ p) ++ last) (i * 2 + 39) 0) (getD ((upto ++ p) ++ last) (i * 2 + 40) 0)) (λ i. getD (g .pending) i (frame 0 0)) 32 0 each
+      table-same (pendingCell ((upto ++ p) ++ last)) (λ i. getD (g .pending) i (frame 0 0)) 32 0 each
       ∙ tabulate-drop (g .pending) (frame 0 0) 32 0 (sym (w .waits-long))
     where
-      each : (i : ℕ) → i < 32 → frame (getD ((upto ++ p) ++ last) (i * 2 + 39) 0) (getD ((upto ++ p) ++ last) (i * 2 + 40) 0) ≡ getD (g .pending) i (frame 0 0)
+      each : (i : ℕ) → i < 32 → pendingCell ((upto ++ p) ++ last) i ≡ getD (g .pending) i (frame 0 0)
       each i h =
           let a : getD ((upto ++ p) ++ last) (i * 2 + 39) 0 ≡ getD (g .pending) i (frame 0 0) .start = at-pending (i * 2) (omega arith) ∙ span-start (g .pending) i in
           let k : i * 2 + 40 ≡ i * 2 + 1 + 39 = omega arith in
@@ -229,11 +229,11 @@ cont-read run r =
       tab = within-at contLimits (cells run) 3 e;
       cap = few 4;
       pos = few 5;
-      opens = each-table Few (λ i. getD (cells run) (i + 6) 0) (λ i. few (i + 6)) 32 0;
-      opens-long = length-tabulate (λ i. getD (cells run) (i + 6) 0) 32 0;
+      opens = each-table Few (openCell (cells run)) (λ i. few (i + 6)) 32 0;
+      opens-long = length-tabulate (openCell (cells run)) 32 0;
       held = few 38;
-      waits = each-table FewSpan (λ i. frame (getD (cells run) (i * 2 + 39) 0) (getD (cells run) (i * 2 + 40) 0)) (λ i. (few (i * 2 + 39), few (i * 2 + 40))) 32 0;
-      waits-long = length-tabulate (λ i. frame (getD (cells run) (i * 2 + 39) 0) (getD (cells run) (i * 2 + 40) 0)) 32 0;
+      waits = each-table FewSpan (pendingCell (cells run)) (λ i. (few (i * 2 + 39), few (i * 2 + 40))) 32 0;
+      waits-long = length-tabulate (pendingCell (cells run)) 32 0;
       waiting = few 103;
       drawn = few 104;
     }

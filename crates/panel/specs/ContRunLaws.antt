@@ -45,7 +45,7 @@ module _ (byte eol sep tab nest : ℕ) (s run : List ℕ) (short : length s ≤ 
   cont-ready g p =
       let e = answer-is g s (p .1) in
       let v = says-fit (cont.stepped g s) (cont-steps g s (p .0) (p .1) .1) in
-      record { held = cont-held g (p .0); serves = ap (λ (o : Outcome). o .number) e ∙ v .0; narrow = subst (λ (o : Outcome). Fit run (o .values)) (sym e) (v .1) .0; room = subst (λ (o : Outcome). Fit run (o .values)) (sym e) (v .1) .1 }
+      record { held = cont-held g (p .0); serves = ap (λ (o : Outcome). o .number) e ∙ v .0; fit = subst (λ (o : Outcome). Fit run (o .values)) (sym e) (v .1) }
 
   cont-on : (g : ContIter) → Good s g → Good s (cont.state g s)
   cont-on g p = subst (Good s) (sym (state-is g s (p .1))) (cont-steps g s (p .0) (p .1) .0)

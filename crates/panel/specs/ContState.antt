@@ -31,13 +31,19 @@ unfoldable pub contCells : ContIter → List ℕ
 contCells g =
     ((((g .byte ∷ g .eol ∷ g .sep ∷ g .tab ∷ g .cap ∷ g .pos ∷ []) ++ flatten single (g .«open»)) ++ (g .«open_len» ∷ [])) ++ flatten spanValues (g .pending)) ++ (g .«pending_len» ∷ g .«pending_idx» ∷ [])
 
--- 32 cells from the seventh on
-unfoldable pub openCells : List ℕ → List ℕ
-openCells l = tabulate (λ i. getD l (i + 6) 0) 32 0
+-- the cells from the seventh on, of which 32
+abbrev pub openCell : List ℕ → ℕ → ℕ
+openCell l i = getD l (i + 6) 0
 
--- 32 spans from the fortieth cell on
+unfoldable pub openCells : List ℕ → List ℕ
+openCells l = tabulate (openCell l) 32 0
+
+-- the spans from the fortieth cell on, of which 32
+abbrev pub pendingCell : List ℕ → ℕ → Span
+pendingCell l i = frame (getD l (i * 2 + 39) 0) (getD l (i * 2 + 40) 0)
+
 unfoldable pub pendingFrom : List ℕ → List Span
-pendingFrom l = tabulate (λ i. frame (getD l (i * 2 + 39) 0) (getD l (i * 2 + 40) 0)) 32 0
+pendingFrom l = tabulate (pendingCell l) 32 0
 
 -- the state that cells make
 unfoldable pub contFrom : List ℕ → ContIter

@@ -13,7 +13,7 @@ use Rattle.common.specs.declared.span.Span.{Span}
 use Rattle.cont.specs.declared.ContIter.{ContIter}
 use Rattle.cont.specs.Frames.{frame}
 use Rattle.cells.specs.Bytes.{cells, readable}
-use Rattle.panel.specs.ContState.{contLimits, single, Spread, contCells, openCells, pendingFrom, contFrom}
+use Rattle.panel.specs.ContState.{contLimits, single, Spread, contCells, openCell, openCells, pendingCell, pendingFrom, contFrom}
 use Rattle.cells.specs.ByteLaws.{put-all, Lays, lays-first, lays-next, lays-all, Fills, fills-again, fills-all}
 use Rattle.cells.specs.ReplyLaws.{laid-behind}
 use Rattle.cells.specs.CellLaws.{readable-long, byte-field}
@@ -72,26 +72,20 @@ unfolding contLimits
 cont-room state next b h e g = omega (arith, readable-long contLimits state (sym (g .answer) ∙ e))
 
 -- ---- reading
-abbrev pub openCell : List ℕ → ℕ → ℕ
-openCell run i = getD (cells run) (i + 6) 0
-
-abbrev pub pendingCell : List ℕ → ℕ → Span
-pendingCell run i = frame (getD (cells run) (i * 2 + 39) 0) (getD (cells run) (i * 2 + 40) 0)
-
 module _ (run : List ℕ) (i : ℕ) where
-  pub read-open-again : (v : ℕ) (out₀ out : List ℕ) → i < 32 → Gives (getD (cells run) (i + 6) 0) v → Fills (openCell run) 32 out₀ out i → Fills (openCell run) 32 out₀ (set out i v) (i + 1)
-  read-open-again v out₀ out h g l = fills-again (openCell run) 32 i v out₀ out h (g .answer) l
+  pub read-open-again : (v : ℕ) (out₀ out : List ℕ) → i < 32 → Gives (getD (cells run) (i + 6) 0) v → Fills (openCell (cells run)) 32 out₀ out i → Fills (openCell (cells run)) 32 out₀ (set out i v) (i + 1)
+  read-open-again v out₀ out h g l = fills-again (openCell (cells run)) 32 i v out₀ out h (g .answer) l
 
-  pub read-open-all : (out₀ out : List ℕ) → 32 ≤ i → Fills (openCell run) 32 out₀ out i → out ≡ openCells (cells run)
+  pub read-open-all : (out₀ out : List ℕ) → 32 ≤ i → Fills (openCell (cells run)) 32 out₀ out i → out ≡ openCells (cells run)
   unfolding openCells
-  read-open-all out₀ out h l = fills-all (openCell run) 32 i out₀ out h l
+  read-open-all out₀ out h l = fills-all (openCell (cells run)) 32 i out₀ out h l
 
-  pub read-pending-again : (a b : ℕ) (out₀ out : List Span) → i < 32 → Gives (getD (cells run) (i * 2 + 39) 0) a → Gives (getD (cells run) (i * 2 + 40) 0) b → Fills (pendingCell run) 32 out₀ out i → Fills (pendingCell run) 32 out₀ (set out i (frame a b)) (i + 1)
-  read-pending-again a b out₀ out h x y l = fills-again (pendingCell run) 32 i (frame a b) out₀ out h (rw (x .answer, y .answer)) l
+  pub read-pending-again : (a b : ℕ) (out₀ out : List Span) → i < 32 → Gives (getD (cells run) (i * 2 + 39) 0) a → Gives (getD (cells run) (i * 2 + 40) 0) b → Fills (pendingCell (cells run)) 32 out₀ out i → Fills (pendingCell (cells run)) 32 out₀ (set out i (frame a b)) (i + 1)
+  read-pending-again a b out₀ out h x y l = fills-again (pendingCell (cells run)) 32 i (frame a b) out₀ out h (rw (x .answer, y .answer)) l
 
-  pub read-pending-all : (out₀ out : List Span) → 32 ≤ i → Fills (pendingCell run) 32 out₀ out i → out ≡ pendingFrom (cells run)
+  pub read-pending-all : (out₀ out : List Span) → 32 ≤ i → Fills (pendingCell (cells run)) 32 out₀ out i → out ≡ pendingFrom (cells run)
   unfolding pendingFrom
-  read-pending-all out₀ out h l = fills-all (pendingCell run) 32 i out₀ out h l
+  read-pending-all out₀ out h l = fills-all (pendingCell (cells run)) 32 i out₀ out h l
 
 pub cont-read : (run : List ℕ) (b e s t c q n k i : ℕ) (o : List ℕ) (p : List Span) → readable contLimits run ≡ true → Gives (getD run 0 0) b → Gives (getD run 4 0) e → Gives (getD run 8 0) s → Gives (getD run 12 0) t
     → Gives (getD (cells run) 4 0) c → Gives (getD (cells run) 5 0) q → Gives (openCells (cells run)) o → Gives (getD (cells run) 38 0) n → Gives (pendingFrom (cells run)) p → Gives (getD (cells run) 103 0) k → Gives (getD (cells run) 104 0) i

@@ -25,7 +25,7 @@ use Rattle.block_numbered.specs.declared.BlockNumberedIter.{BlockNumberedIter}
 use Rattle.block_numbered.specs.declared.NumberedItem.{NumberedItem}
 use Rattle.block_numbered.specs.Numbered as numbered
 use Rattle.block_numbered.specs.NumberedRun.{lawful as numbered-lawful, fresh-items as numbered-items}
-use Rattle.panel.specs.State.{Made, Stepper, Stepped, itemLimits, itemCells, itemFields, markerCells, markerFrom, markerStepper, numberedCells, numberedFrom, numberedStepper}
+use Rattle.panel.specs.State.{Made, Stepped, itemLimits, itemShow, itemRead, itemStepper, markerCells, markerFrom, markerStepper, numberedCells, numberedFrom, numberedStepper}
 use Rattle.panel.specs.Back.{Holds, Byte, ByteRun, valuesIn}
 use Rattle.common.specs.EachLaws.{each-getD, each-take, each-drop}
 use Rattle.panel.specs.BackLaws.{ItemHeld, made-back, item-small, item-fresh, item-next}
@@ -45,30 +45,27 @@ module _ {S A : Type 0} {c : Scanner S A} {Lies : ℕ → ℕ → A → Type 0} 
       by q (stop v) a o = a
       by q (found x n) a o = (a .0, a .1, (a .2, o))
 
-  abbrev stepper : Stepper S
-  stepper = record { read = λ l. c .made (itemFields l); show = λ k. itemCells (c .fields k); limits = itemLimits; answer = λ k t. scanning.answer c k set t; next = λ k t. scanning.state c k set t }
-
   In : S → Type 0
   In g = ItemHeld w g × (c .fields g .pos ≤ length s)
 
-  item-ready : (g : S) → In g → StepReady stepper item-small (c .back) s run₀ short g
+  item-ready : (g : S) → In g → StepReady (itemStepper c set) item-small (c .back) s run₀ short g
   unfolding In scanning.answer scanning.first
   item-ready g p =
       let v = said-has (c .values) s (lain-adv g) (λ q n m a h l. (wider q n m a h (l .0), l .1)) short (Fit run₀) (fit-each run₀ [] room (omega arith) tt) (λ q n a h l. fit q n a h (l .0) (l .1)) (c .fields g .pos) (p .1) in
-      record { held = p .0; serves = v .0; narrow = v .1 .0; room = v .1 .1 }
+      record { held = p .0; serves = v .0; fit = v .1 }
 
   item-on : (g : S) → In g → In (scanning.state c g set s)
   unfolding In
   item-on g p = (item-next w g set s (p .0), step-inside w set s short g (scanning.answer c g set s) (scanning.state c g set s) (p .1) (record { answer = refl; next = refl }))
 
   -- what a host reads in n steps from a run that holds a state within the text: the first n of the items that its scan has before it
-  pub items-run : (g : S) → ItemHeld w g → c .fields g .pos ≤ length s → (state : List ℕ) → Holds (λ l. c .made (itemFields l)) (λ k. itemCells (c .fields k)) itemLimits state g
+  pub items-run : (g : S) → ItemHeld w g → c .fields g .pos ≤ length s → (state : List ℕ) → Holds (itemRead c) (itemShow c) itemLimits state g
       → (after reply : List ℕ → List ℕ) (number : List ℕ → ℕ)
-      → ((state : List ℕ) → Stepped stepper s (record { state = state; answer = run₀ }) (record { state = after state; answer = reply state }) (number state))
+      → ((state : List ℕ) → Stepped (itemStepper c set) s (record { state = state; answer = run₀ }) (record { state = after state; answer = reply state }) (number state))
       → (n : ℕ) → drain (λ r. stepFor (c .back) (valuesIn (reply r)) (after r)) n state ≡ take n (scanning.items c g set s)
   unfolding In
   items-run g h i state held after reply number keeps n =
-      hosted-run stepper item-small (c .back) s run₀ short In item-ready item-on after reply number keeps n g (h, i) state held
+      hosted-run (itemStepper c set) item-small (c .back) s run₀ short In item-ready item-on after reply number keeps n g (h, i) state held
       ∙ run w set s short g (λ k. scanning.answer c k set s) (λ k. scanning.state c k set s) (λ q j. record { answer = refl; next = refl }) n i
 
 -- ---- the bytes that items have are the text's
@@ -91,79 +88,77 @@ line-bytes g s q v = each-drop Byte q (take (lineEnd (g .eol) s q) s) (each-take
 
 -- ---- the marker scanner
 module _ (s : List ℕ) (bytes : ByteRun s) where
-  abbrev Marked : MarkerItem → Type 0
-  Marked i = Byte (i .marker)
+  abbrev ByteMarked : MarkerItem → Type 0
+  ByteMarked i = Byte (i .marker)
 
-  marker-streams : (g : ItemGrammar) (q : ℕ) → OnFound Marked (marker.streamTurn g s q)
+  marker-streams : (g : ItemGrammar) (q : ℕ) → OnFound ByteMarked (marker.streamTurn g s q)
   unfolding marker.streamTurn
   marker-streams g q =
       let p = find (g .accepts) s q in
-      both (OnFound Marked) (ltb p (length s)) _ _
-      (λ u. both (OnFound Marked) (leads (g .eol) (g .sep) (g .tab) s p && holds (blank g) s (p + 1)) _ _ (λ v. each-getD Byte s 0 bytes (omega arith) p) (λ v. tt))
+      both (OnFound ByteMarked) (ltb p (length s)) _ _
+      (λ u. both (OnFound ByteMarked) (leads (g .eol) (g .sep) (g .tab) s p && holds (blank g) s (p + 1)) _ _ (λ v. each-getD Byte s 0 bytes (omega arith) p) (λ v. tt))
       (λ u. tt)
 
-  marker-reads : (g : ItemGrammar) (q : ℕ) → OnFound Marked (marker.lineTurn g s q)
+  marker-reads : (g : ItemGrammar) (q : ℕ) → OnFound ByteMarked (marker.lineTurn g s q)
   unfolding readTurn marker.markLine
   marker-reads g q =
-      both (OnFound Marked) (ltb q (length s)) _ _ (λ u. from-byte Marked g marker.mark _ _ (beyond (blank g) (lineBytes g s q)) (λ x a e h. h) (beyond-bytes (blank g) (lineBytes g s q) (line-bytes g s q bytes))) (λ u. tt)
+      both (OnFound ByteMarked) (ltb q (length s)) _ _ (λ u. from-byte ByteMarked g marker.mark _ _ (beyond (blank g) (lineBytes g s q)) (λ x a e h. h) (beyond-bytes (blank g) (lineBytes g s q) (line-bytes g s q bytes))) (λ u. tt)
 
-  marker-turns : (set : List Bool) (g : BlockMarkerIter) (q : ℕ) → OnFound Marked (scanning.turn marker.scanner g set s q)
+  marker-turns : (set : List Bool) (g : BlockMarkerIter) (q : ℕ) → OnFound ByteMarked (scanning.turn marker.scanner g set s q)
   unfolding scanning.turn
-  marker-turns set g q = both (λ (t : ℕ → Turn MarkerItem). OnFound Marked (t q)) (g .streaming) _ _ (λ u. marker-streams _ q) (λ u. marker-reads _ q)
+  marker-turns set g q = both (λ (t : ℕ → Turn MarkerItem). OnFound ByteMarked (t q)) (g .streaming) _ _ (λ u. marker-streams _ q) (λ u. marker-reads _ q)
 
   -- a state run that `new` wrote, stepped by an entry that keeps its promise, gives the marker items of the text's lines
   pub marker-run : (eol sep tab : ℕ) (bytes run₀ : List ℕ) → eol ≤ 255 → sep ≤ 255 → tab ≤ 255 → length s ≤ 4294967295 → 16 ≤ length run₀ → (length (accepted (setOf bytes)) ≤ 3 → Apart (grammar eol sep tab (has (setOf bytes))))
       → (first state : List ℕ) → Made (markerCells (marker.fresh eol sep tab (setOf bytes))) first state 0
       → (after reply : List ℕ → List ℕ) (number : List ℕ → ℕ) → ((state : List ℕ) → Stepped (markerStepper (setOf bytes)) s (record { state = state; answer = run₀ }) (record { state = after state; answer = reply state }) (number state))
       → (n : ℕ) → drain (λ r. stepFor (marker.scanner .back) (valuesIn (reply r)) (after r)) n state ≡ take n (marker.markers (grammar eol sep tab (has (setOf bytes))) s)
-  unfolding markerFrom
   marker-run eol sep tab bytes run₀ a b c short room apart first state made after reply number keeps n =
       let g = marker.fresh eol sep tab (setOf bytes) in
       let h = item-fresh marker-lawful eol sep tab (setOf bytes) a b c in
-      items-run marker-lawful (λ q n m i h l. (l .0, l .1, omega arith)) Marked (setOf bytes) s run₀ short (omega arith) (marker-turns (setOf bytes))
+      items-run marker-lawful (λ q n m i h l. (l .0, l .1, omega arith)) ByteMarked (setOf bytes) s run₀ short (omega arith) (marker-turns (setOf bytes))
       (λ q n i h l v. fit-each run₀ (marker.values i) room (omega arith) (omega arith, (omega arith, (omega arith, tt)))) g h (omega arith) state
-      (made-back (λ l. marker.scanner .made (itemFields l)) markerCells itemLimits item-small g h first state made) after reply number keeps n
+      (made-back markerFrom markerCells itemLimits item-small g h first state made) after reply number keeps n
       ∙ ap (take n) (marker-items (setOf bytes) s eol sep tab (length-tabulate (oneOf bytes) 256 0) apart)
 
 -- ---- the numbered scanner
 module _ (s : List ℕ) (bytes : ByteRun s) where
-  abbrev Counted : NumberedItem → Type 0
-  Counted i = Byte (i .delimiter)
+  abbrev ByteDelimited : NumberedItem → Type 0
+  ByteDelimited i = Byte (i .delimiter)
 
-  numbered-hits : (g : ItemGrammar) (p k : ℕ) → OnFound Counted (numbered.streamHit g s p k)
-  numbered-hits g p k = both (OnFound Counted) (numbered.oneToNine k && (leads (g .eol) (g .sep) (g .tab) s (p - k) && holds (blank g) s (p + 1))) _ _ (λ v. each-getD Byte s 0 bytes (omega arith) p) (λ v. tt)
+  numbered-hits : (g : ItemGrammar) (p k : ℕ) → OnFound ByteDelimited (numbered.streamHit g s p k)
+  numbered-hits g p k = both (OnFound ByteDelimited) (numbered.oneToNine k && (leads (g .eol) (g .sep) (g .tab) s (p - k) && holds (blank g) s (p + 1))) _ _ (λ v. each-getD Byte s 0 bytes (omega arith) p) (λ v. tt)
 
-  numbered-streams : (g : ItemGrammar) (q : ℕ) → OnFound Counted (numbered.streamTurn g s q)
+  numbered-streams : (g : ItemGrammar) (q : ℕ) → OnFound ByteDelimited (numbered.streamTurn g s q)
   unfolding numbered.streamTurn
-  numbered-streams g q = both (OnFound Counted) (ltb (find (g .accepts) s q) (length s)) _ _ (λ u. numbered-hits g (find (g .accepts) s q) (back digit s (find (g .accepts) s q))) (λ u. tt)
+  numbered-streams g q = both (OnFound ByteDelimited) (ltb (find (g .accepts) s q) (length s)) _ _ (λ u. numbered-hits g (find (g .accepts) s q) (back digit s (find (g .accepts) s q))) (λ u. tt)
 
-  numbered-then : (g : ItemGrammar) (ds : List ℕ) (k n : ℕ) (l : List ℕ) → Each Byte l → OnFound Counted (lineFound (numbered.numberThen g ds k l) n)
+  numbered-then : (g : ItemGrammar) (ds : List ℕ) (k n : ℕ) (l : List ℕ) → Each Byte l → OnFound ByteDelimited (lineFound (numbered.numberThen g ds k l) n)
   numbered-then g ds k n l v =
-      both (λ (r : List NumberedItem). OnFound Counted (lineFound r n)) (numbered.oneToNine (length ds)) (itemFrom g (numbered.numbered ds) k l) [] (λ u. from-byte Counted g (numbered.numbered ds) k n l (λ x a e h. h) v) (λ u. tt)
+      both (λ (r : List NumberedItem). OnFound ByteDelimited (lineFound r n)) (numbered.oneToNine (length ds)) (itemFrom g (numbered.numbered ds) k l) [] (λ u. from-byte ByteDelimited g (numbered.numbered ds) k n l (λ x a e h. h) v) (λ u. tt)
 
-  numbered-reads : (g : ItemGrammar) (q : ℕ) → OnFound Counted (numbered.lineTurn g s q)
+  numbered-reads : (g : ItemGrammar) (q : ℕ) → OnFound ByteDelimited (numbered.lineTurn g s q)
   unfolding readTurn numbered.readLine
   numbered-reads g q =
       let l = lineBytes g s q in
       let r = beyond (blank g) l in
       let ds = numbered.readDigits r in
-      both (OnFound Counted) (ltb q (length s)) _ _
+      both (OnFound ByteDelimited) (ltb q (length s)) _ _
       (λ u. numbered-then g ds (q + length (leading (blank g) l) + length ds) (nextLine (length s) (lineEnd (g .eol) s q)) (drop (length ds) r) (each-drop Byte (length ds) r (beyond-bytes (blank g) l (line-bytes g s q bytes)))) (λ u. tt)
 
-  numbered-turns : (set : List Bool) (g : BlockNumberedIter) (q : ℕ) → OnFound Counted (scanning.turn numbered.scanner g set s q)
+  numbered-turns : (set : List Bool) (g : BlockNumberedIter) (q : ℕ) → OnFound ByteDelimited (scanning.turn numbered.scanner g set s q)
   unfolding scanning.turn
-  numbered-turns set g q = both (λ (t : ℕ → Turn NumberedItem). OnFound Counted (t q)) (g .streaming) _ _ (λ u. numbered-streams _ q) (λ u. numbered-reads _ q)
+  numbered-turns set g q = both (λ (t : ℕ → Turn NumberedItem). OnFound ByteDelimited (t q)) (g .streaming) _ _ (λ u. numbered-streams _ q) (λ u. numbered-reads _ q)
 
   -- a state run that `new` wrote, stepped by an entry that keeps its promise, gives the numbered items of the text's lines
   pub numbered-run : (eol sep tab : ℕ) (bytes run₀ : List ℕ) → eol ≤ 255 → sep ≤ 255 → tab ≤ 255 → length s ≤ 4294967295 → 20 ≤ length run₀ → (length (accepted (setOf bytes)) ≤ 3 → numbered.DigitsApart (grammar eol sep tab (has (setOf bytes))))
       → numbered.NoDigit (grammar eol sep tab (has (setOf bytes))) → (first state : List ℕ) → Made (numberedCells (numbered.fresh eol sep tab (setOf bytes))) first state 0
       → (after reply : List ℕ → List ℕ) (number : List ℕ → ℕ) → ((state : List ℕ) → Stepped (numberedStepper (setOf bytes)) s (record { state = state; answer = run₀ }) (record { state = after state; answer = reply state }) (number state))
       → (n : ℕ) → drain (λ r. stepFor (numbered.scanner .back) (valuesIn (reply r)) (after r)) n state ≡ take n (numbered.numbers (grammar eol sep tab (has (setOf bytes))) s)
-  unfolding numberedFrom
   numbered-run eol sep tab bytes run₀ a b c short room apart none first state made after reply number keeps n =
       let g = numbered.fresh eol sep tab (setOf bytes) in
       let h = item-fresh numbered-lawful eol sep tab (setOf bytes) a b c in
-      items-run numbered-lawful (λ q n m i h l. (l .0, l .1, l .2, omega arith)) Counted (setOf bytes) s run₀ short (omega arith) (numbered-turns (setOf bytes))
+      items-run numbered-lawful (λ q n m i h l. (l .0, l .1, l .2, omega arith)) ByteDelimited (setOf bytes) s run₀ short (omega arith) (numbered-turns (setOf bytes))
       (λ q n i h l v. fit-each run₀ (numbered.values i) room (omega arith) (omega arith, (omega arith, (omega arith, (omega arith, tt))))) g h (omega arith) state
-      (made-back (λ l. numbered.scanner .made (itemFields l)) numberedCells itemLimits item-small g h first state made) after reply number keeps n
+      (made-back numberedFrom numberedCells itemLimits item-small g h first state made) after reply number keeps n
       ∙ ap (take n) (numbered-items (setOf bytes) s eol sep tab (length-tabulate (oneOf bytes) 256 0) apart none)

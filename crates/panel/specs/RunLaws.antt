@@ -33,6 +33,10 @@ fitted-served : (o : Outcome) (run : List ℕ) → o .number ≡ 0 → length (w
 unfolding fitted
 fitted-served o run e h = rw (eq-eqb (o .number) 0 e, le-ltb (length run) (length (written (o .values))) h) refl
 
+-- values whose numbers have 32 bits, and for which a run has room
+abbrev pub Fit : List ℕ → List ℕ → Type 0
+Fit run vs = Narrow (length vs ∷ vs) × (length (written vs) ≤ length run)
+
 -- ---- any scanner
 module _ {G A : Type 0} (c : Stepper G) (small : Small (c .limits)) (back : List ℕ → A) (s run : List ℕ) (short : length s ≤ 4294967295) where
   abbrev StateHeld : G → Type 0
@@ -41,12 +45,11 @@ module _ {G A : Type 0} (c : Stepper G) (small : Small (c .limits)) (back : List
   abbrev RunHolds : List ℕ → G → Type 0
   RunHolds state g = Holds (c .read) (c .show) (c .limits) state g
 
-  -- a state that is read back, and whose step is served with numbers of 32 bits, for which the answer run has room
+  -- a state that is read back, and whose step is served with values that fit the answer run
   pub record StepReady (g : G) : Type 0 where
     pub held : Held (c .read) (c .show) (c .limits) g
     pub serves : c .answer g s .number ≡ 0
-    pub narrow : Narrow (length (c .answer g s .values) ∷ c .answer g s .values)
-    pub room : length (written (c .answer g s .values)) ≤ length run
+    pub fit : Fit run (c .answer g s .values)
 
   answer-held : (g : G) (state : List ℕ) → RunHolds state g → stepAnswer c s (record { state = state; answer = run }) ≡ c .answer g s
   unfolding stepAnswer
@@ -59,11 +62,11 @@ module _ {G A : Type 0} (c : Stepper G) (small : Small (c .limits)) (back : List
     hosted-step g p state w =
         let r = ready g p in
         let e = answer-held g state w in
-        let f : number state ≡ 0 = keeps state .reply .number ∙ ap (λ (o : Outcome). fitted o run .number) e ∙ ap (λ (o : Outcome). o .number) (fitted-served (c .answer g s) run (r .serves) (r .room)) ∙ r .serves in
+        let f : number state ≡ 0 = keeps state .reply .number ∙ ap (λ (o : Outcome). fitted o run .number) e ∙ ap (λ (o : Outcome). o .number) (fitted-served (c .answer g s) run (r .serves) (r .fit .1)) ∙ r .serves in
         let before : StateRuns = record { state = state; answer = run } in
         let then : StateRuns = record { state = after state; answer = reply state } in
         let d : Stepped c s before then 0 = subst (λ (k : ℕ). Stepped c s before then k) f (keeps state) in
-        let v = reply-back {o = c .answer g s} (r .narrow) (subst (λ (o : Outcome). Replied o run (reply state) 0) e (d .reply)) in
+        let v = reply-back {o = c .answer g s} (r .fit .0) (subst (λ (o : Outcome). Replied o run (reply state) 0) e (d .reply)) in
         let h : StateHeld (c .next (c .read (cells state)) s) = subst (λ (k : G). StateHeld (c .next k s)) (sym (w .reads)) (ready (c .next g s) (on g p) .held) in
         (values-back run (reply state) (c .answer g s .values) v, subst (λ (k : G). RunHolds (after state) (c .next k s)) (w .reads) (stepped-back c small s before then h d))
 
@@ -91,10 +94,6 @@ module _ {A : Type 0} {Lies : ℕ → ℕ → A → Type 0} {step : ℕ → Turn
       by (stop v) l = (refl, none)
       by (found a n) l = (refl, some p n a (l .1) (l .2))
 
--- values that are narrow and fit a run
-abbrev pub Fit : List ℕ → List ℕ → Type 0
-Fit run vs = Narrow (length vs ∷ vs) × (length (written vs) ≤ length run)
-
 pub fit-each : (run vs : List ℕ) → length (written vs) ≤ length run → length vs ≤ 4294967295 → Each Few vs → Fit run vs
 fit-each run vs h n v = (λ i j. omega (arith, each-getD Few (length vs ∷ vs) 0 (n, v) (omega arith) i), h)
 
@@ -107,7 +106,7 @@ module _ (byte min eol sep tab : ℕ) (s run : List ℕ) (short : length s ≤ 4
   unfolding FenceIn fence.answer fence.firstOpen
   fence-ready g p =
       let v = said-has spanValues s (turn-adv g s) (λ q n m f h l. (omega arith, l .1, l .2)) short (Fit run) (fit-each run [] (omega arith) (omega arith) tt) (λ q n f h l. fit-each run (spanValues f) room (omega arith) (omega arith, (omega arith, tt))) (g .pos) (p .1) in
-      record { held = p .0; serves = v .0; narrow = v .1 .0; room = v .1 .1 }
+      record { held = p .0; serves = v .0; fit = v .1 }
 
   fence-on : (g : FenceIter) → FenceIn g → FenceIn (fence.state g s)
   unfolding FenceIn fence.state fence.firstOpen

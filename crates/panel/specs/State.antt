@@ -3,28 +3,26 @@
 use mathlib.Core.Path.{_≡_}
 use mathlib.Core.Bool.{Bool, not, cond}
 use mathlib.Core.List.{List, [], _∷_}
-use Prim.Native.Nat.{ℕ, _*_}
+use Prim.Native.Nat.{ℕ}
 use lib.Dec.{eqb}
-use lib.ListN.{length, getD}
+use lib.ListN.{getD}
 use Rattle.common.specs.Entry.{flatten}
 use Rattle.common.specs.Refusals.{Outcome, refuse, leaves, tooLong}
-use Rattle.common.specs.Scanning.{Fields}
+use Rattle.common.specs.Scanning as scanning
+use Rattle.common.specs.Scanning.{Fields, Scanner}
 use Rattle.fence.specs.declared.FenceIter.{FenceIter}
 use Rattle.fence.specs.Fence as fence
 use Rattle.block_marker.specs.declared.BlockMarkerIter.{BlockMarkerIter}
 use Rattle.block_marker.specs.Marker as marker
 use Rattle.block_numbered.specs.declared.BlockNumberedIter.{BlockNumberedIter}
 use Rattle.block_numbered.specs.Numbered as numbered
-use Rattle.cells.specs.Bytes.{four, cells, asFlag, readable}
+use Rattle.cells.specs.Bytes.{four, cells, fourfold, asFlag, readable}
 use Rattle.cells.specs.Reply.{fitted, Replied}
 
 -- ---- `new`: it writes the cells of a fresh state
-abbrev pub sized : List ℕ → List ℕ → Bool
-sized next run = eqb (length run) (length next * 4)
-
 pub record Made (next run run′ : List ℕ) (r : ℕ) : Type 0 where
-  pub number : r ≡ cond (sized next run) 0 2
-  pub left : run′ ≡ cond (sized next run) (flatten four next) run
+  pub number : r ≡ cond (fourfold run next) 0 2
+  pub left : run′ ≡ cond (fourfold run next) (flatten four next) run
 
 -- ---- a step
 -- the runs that a step writes to
@@ -87,33 +85,33 @@ itemFields l = record {
   streaming = eqb (getD l 8 0) 1;
 }
 
+-- of either scanner
+module _ {S A : Type 0} (c : Scanner S A) where
+  -- a state's cells, and the state that cells make
+  abbrev pub itemShow : S → List ℕ
+  itemShow g = itemCells (c .fields g)
+
+  unfoldable pub itemRead : List ℕ → S
+  itemRead l = c .made (itemFields l)
+
+  -- by a set of accepted bytes
+  abbrev pub itemStepper : List Bool → Stepper S
+  itemStepper accepted = record { read = itemRead; show = itemShow; limits = itemLimits; answer = λ g s. scanning.answer c g accepted s; next = λ g s. scanning.state c g accepted s }
+
 abbrev pub markerCells : BlockMarkerIter → List ℕ
-markerCells g = itemCells (marker.scanner .fields g)
+markerCells = itemShow marker.scanner
 
-unfoldable pub markerFrom : List ℕ → BlockMarkerIter
-markerFrom l = marker.scanner .made (itemFields l)
+abbrev pub markerFrom : List ℕ → BlockMarkerIter
+markerFrom = itemRead marker.scanner
 
--- by a set of accepted bytes
 abbrev pub markerStepper : List Bool → Stepper BlockMarkerIter
-markerStepper accepted = record {
-  read = markerFrom;
-  show = markerCells;
-  limits = itemLimits;
-  answer = λ g s. marker.answer g accepted s;
-  next = λ g s. marker.state g accepted s;
-}
+markerStepper = itemStepper marker.scanner
 
 abbrev pub numberedCells : BlockNumberedIter → List ℕ
-numberedCells g = itemCells (numbered.scanner .fields g)
+numberedCells = itemShow numbered.scanner
 
-unfoldable pub numberedFrom : List ℕ → BlockNumberedIter
-numberedFrom l = numbered.scanner .made (itemFields l)
+abbrev pub numberedFrom : List ℕ → BlockNumberedIter
+numberedFrom = itemRead numbered.scanner
 
 abbrev pub numberedStepper : List Bool → Stepper BlockNumberedIter
-numberedStepper accepted = record {
-  read = numberedFrom;
-  show = numberedCells;
-  limits = itemLimits;
-  answer = λ g s. numbered.answer g accepted s;
-  next = λ g s. numbered.state g accepted s;
-}
+numberedStepper = itemStepper numbered.scanner

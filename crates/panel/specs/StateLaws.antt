@@ -18,9 +18,9 @@ use Rattle.block_marker.specs.declared.BlockMarkerIter.{BlockMarkerIter}
 use Rattle.block_marker.specs.Marker as marker
 use Rattle.block_numbered.specs.declared.BlockNumberedIter.{BlockNumberedIter}
 use Rattle.block_numbered.specs.Numbered as numbered
-use Rattle.cells.specs.Bytes.{four, cells, asFlag, readable}
+use Rattle.cells.specs.Bytes.{four, cells, fourfold, asFlag, readable}
 use Rattle.cells.specs.Reply.{LaidIf, fitted, Replied}
-use Rattle.panel.specs.State.{sized, Made, StateRuns, Moved, Stepper, stepAnswer, Stepped, fenceLimits, fenceFrom, itemLimits, markerCells, markerFrom, numberedCells, numberedFrom, itemCells, itemFields}
+use Rattle.panel.specs.State.{Made, StateRuns, Moved, Stepper, stepAnswer, Stepped, fenceLimits, fenceFrom, itemLimits, markerCells, markerFrom, numberedCells, numberedFrom, itemCells, itemFields, itemRead}
 use Rattle.cells.specs.ByteLaws.{length-four}
 use Rattle.cells.specs.ReplyLaws.{replied-unique, laid-there, too-short, enough, reply-short, refused-by}
 use Rattle.cells.specs.CellLaws.{readable-long, byte-field}
@@ -47,7 +47,7 @@ module _ (next run run′ : List ℕ) where
 
   pub made-whole : length run ≡ length next * 4 → LaidIf 0 (flatten four next) run run′ → Made next run run′ 0
   made-whole h d =
-      let t : sized next run ≡ true = eq-eqb (length run) (length next * 4) h in
+      let t : fourfold run next ≡ true = eq-eqb (length run) (length next * 4) h in
       record { number = simp t; left = whole next run run′ (sym h) d ∙ simp t }
 
 module _ {G : Type 0} (show : G → List ℕ) where
@@ -160,11 +160,11 @@ module _ (run : List ℕ) (a b c p i j k n f : ℕ) (h : readable itemLimits run
       rw (x0, x1, x2, gp .answer, x4, x5, x6, gn .answer, gf .answer)
 
   pub marker-read : record { eol = a; sep = b; tab = c; pos = p; needles = i ∷ j ∷ k ∷ []; nn = n; streaming = eqb f 1 } ≡ markerFrom (cells run)
-  unfolding markerFrom
+  unfolding itemRead
   marker-read = ap (marker.scanner .made) item-read
 
   pub numbered-read : record { eol = a; sep = b; tab = c; pos = p; needles = i ∷ j ∷ k ∷ []; nn = n; streaming = eqb f 1 } ≡ numberedFrom (cells run)
-  unfolding numberedFrom
+  unfolding itemRead
   numbered-read = ap (numbered.scanner .made) item-read
 
 -- a state's cells by what was read of it

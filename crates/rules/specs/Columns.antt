@@ -44,9 +44,13 @@ abbrev pub unequal : Columns → Bool
 unequal c = differ (c .fenceBytes) (c .fenceMins) || unequalInline (c .inline)
 
 -- ---- the bytes searched for
--- a list that gains a byte, unless it has eleven already or has that byte
+-- whether a list gains nothing by a byte: it has eleven already, or has that byte
+abbrev pub holding : List ℕ → ℕ → Bool
+holding l b = leb 11 (length l) || oneOf l b
+
+-- a list that gains a byte
 abbrev pub gained : List ℕ → ℕ → List ℕ
-gained l b = cond (leb 11 (length l) || oneOf l b) l (l ++ (b ∷ []))
+gained l b = cond (holding l b) l (l ++ (b ∷ []))
 
 abbrev pub gainedAll : List ℕ → List ℕ → List ℕ
 gainedAll l [] = l

@@ -19,7 +19,7 @@ use Rattle.common.specs.Rules.{ruleIndex, hasRule, leastOf, onByte}
 use Rattle.common.specs.declared.grammar.Grammar.{Grammar}
 use Rattle.lines.specs.Reader.{reader}
 use Rattle.rules.specs.Grammar.{plain, Gram}
-use Rattle.rules.specs.Columns.{inlineRules, columns, searched, gained, gainedAll, inlineRule, fenceIndexOf, gramOf}
+use Rattle.rules.specs.Columns.{inlineRules, columns, searched, holding, gained, gainedAll, inlineRule, fenceIndexOf, gramOf}
 use Rattle.rules.specs.ColumnLaws.{pad-take, pad-set}
 use Rattle.rules.specs.Records.{noRule, noRules, ruleBytes, ruleMins, keptBytes, keptMins, unkept, withRule, OneMore, gatheredFrom, gatheredOf, AllGathered}
 use Rattle.rules.specs.declared.records.FenceRule.{FenceRule}
@@ -87,25 +87,25 @@ module _ (bs : List ℕ) (b : ℕ) where
   has-none x e d = le-ltb (ruleIndex more x) (length more) (omega (arith, index-none x e d, more-length))
 
   -- a byte that had a rule, or is another than the new one
-  abbrev Stays : ℕ → Type 0
-  Stays x = (hasRule bs x ≡ true) ⊎ (x ≡ b → ⊥)
+  abbrev OldOrOther : ℕ → Type 0
+  OldOrOther x = (hasRule bs x ≡ true) ⊎ (x ≡ b → ⊥)
 
-  has-kept : (x : ℕ) → Stays x → hasRule more x ≡ hasRule bs x
+  has-kept : (x : ℕ) → OldOrOther x → hasRule more x ≡ hasRule bs x
   has-kept x k = by k (decide (hasRule bs x))
     where
-      by : Stays x → (hasRule bs x ≡ true) ⊎ (hasRule bs x ≡ false) → hasRule more x ≡ hasRule bs x
+      by : OldOrOther x → (hasRule bs x ≡ true) ⊎ (hasRule bs x ≡ false) → hasRule more x ≡ hasRule bs x
       by k (inl e) = has-old x e ∙ inv e
       by (inl u) (inr e) = absurd (clash u e)
       by (inr d) (inr e) = has-none x e d ∙ inv e
 
-  index-kept : (x : ℕ) → Stays x → fenceIndexOf more x ≡ fenceIndexOf bs x
+  index-kept : (x : ℕ) → OldOrOther x → fenceIndexOf more x ≡ fenceIndexOf bs x
   index-kept x k = by (decide (hasRule bs x))
     where
       by : (hasRule bs x ≡ true) ⊎ (hasRule bs x ≡ false) → fenceIndexOf more x ≡ fenceIndexOf bs x
       by (inl e) = rw (has-kept x k, e, index-old x e)
       by (inr e) = rw (has-kept x k, e)
 
-  least-kept : (ms : List ℕ) (m : ℕ) → length bs ≡ length ms → (x : ℕ) → Stays x → leastOf more (ms ++ (m ∷ [])) x ≡ leastOf bs ms x
+  least-kept : (ms : List ℕ) (m : ℕ) → length bs ≡ length ms → (x : ℕ) → OldOrOther x → leastOf more (ms ++ (m ∷ [])) x ≡ leastOf bs ms x
   least-kept ms m same x k = by (decide (hasRule bs x))
     where
       by : (hasRule bs x ≡ true) ⊎ (hasRule bs x ≡ false) → leastOf more (ms ++ (m ∷ [])) x ≡ leastOf bs ms x
@@ -125,10 +125,6 @@ module _ (bs : List ℕ) (b : ℕ) where
 gained-more : (l bs : List ℕ) (b : ℕ) → gainedAll l (bs ++ (b ∷ [])) ≡ gained (gainedAll l bs) b
 gained-more l [] b = refl
 gained-more l (x ∷ bs) b = gained-more (gained l x) bs b
-
--- a list that gains nothing by a byte
-abbrev holding : List ℕ → ℕ → Bool
-holding l b = leb 11 (length l) || oneOf l b
 
 held-same : (l : List ℕ) (b : ℕ) → holding l b ≡ true → gained l b ≡ l
 held-same l b e = rw e
@@ -181,48 +177,48 @@ held-rule bs b e =
     held-at [] bs b (ruleIndex bs b) h (is-true b (getD bs (ruleIndex bs b) 0) (find-at (is b) bs 0 h))
 
 -- ---- how many numbers below n pass a test
-unfoldable counted : (ℕ → Bool) → ℕ → ℕ
-counted t zero = 0
-counted t (suc n) = cond (t n) 1 0 + counted t n
+unfoldable howMany : (ℕ → Bool) → ℕ → ℕ
+howMany t zero = 0
+howMany t (suc n) = cond (t n) 1 0 + howMany t n
 
-counted-le : (t : ℕ → Bool) (n : ℕ) → counted t n ≤ n
-unfolding counted
+counted-le : (t : ℕ → Bool) (n : ℕ) → howMany t n ≤ n
+unfolding howMany
 counted-le t zero = omega arith
 counted-le t (suc n) = by (t n) (counted-le t n)
   where
-    by : (y : Bool) → counted t n ≤ n → cond y 1 0 + counted t n ≤ suc n
+    by : (y : Bool) → howMany t n ≤ n → cond y 1 0 + howMany t n ≤ suc n
     by true h = omega arith
     by false h = omega arith
 
 -- as many as there are: each passes
-counted-all : (t : ℕ → Bool) (n b : ℕ) → counted t n ≡ n → b < n → t b ≡ true
-unfolding counted
+counted-all : (t : ℕ → Bool) (n b : ℕ) → howMany t n ≡ n → b < n → t b ≡ true
+unfolding howMany
 counted-all t zero b e h = absurd (not-suc-le-zero h)
 counted-all t (suc n) b e h = by (decide (t n)) (decide (ltb b n)) (counted-le t n) (counted-all t n b)
   where
-    by : (t n ≡ true) ⊎ (t n ≡ false) → (ltb b n ≡ true) ⊎ (ltb b n ≡ false) → counted t n ≤ n → (counted t n ≡ n → b < n → t b ≡ true) → t b ≡ true
-    by (inl u) (inl v) k ih = let z : 1 + counted t n ≡ suc n = rw u at e in ih (omega arith) (ltb-true b n v)
+    by : (t n ≡ true) ⊎ (t n ≡ false) → (ltb b n ≡ true) ⊎ (ltb b n ≡ false) → howMany t n ≤ n → (howMany t n ≡ n → b < n → t b ≡ true) → t b ≡ true
+    by (inl u) (inl v) k ih = let z : 1 + howMany t n ≡ suc n = rw u at e in ih (omega arith) (ltb-true b n v)
     by (inl u) (inr v) k ih = let z : b ≡ n = omega (arith, ltb-false b n v) in rw z u
-    by (inr u) v k ih = let z : 0 + counted t n ≡ suc n = rw u at e in absurd (omega arith)
+    by (inr u) v k ih = let z : 0 + howMany t n ≡ suc n = rw u at e in absurd (omega arith)
 
 -- one more: b
 module _ (t t′ : ℕ → Bool) (b : ℕ) (before : t b ≡ false) (now : t′ b ≡ true) (others : (x : ℕ) → (x ≡ b → ⊥) → t′ x ≡ t x) where
-  counted-more : (n : ℕ) → counted t′ n ≡ counted t n + cond (ltb b n) 1 0
-  unfolding counted
+  counted-more : (n : ℕ) → howMany t′ n ≡ howMany t n + cond (ltb b n) 1 0
+  unfolding howMany
   counted-more zero = rw (le-ltb b 0 (omega arith))
   counted-more (suc n) = by (decide (eqb n b)) (decide (ltb b n)) (counted-more n)
     where
-      by : (eqb n b ≡ true) ⊎ (eqb n b ≡ false) → (ltb b n ≡ true) ⊎ (ltb b n ≡ false) → counted t′ n ≡ counted t n + cond (ltb b n) 1 0
-          → cond (t′ n) 1 0 + counted t′ n ≡ cond (t n) 1 0 + counted t n + cond (ltb b (suc n)) 1 0
+      by : (eqb n b ≡ true) ⊎ (eqb n b ≡ false) → (ltb b n ≡ true) ⊎ (ltb b n ≡ false) → howMany t′ n ≡ howMany t n + cond (ltb b n) 1 0
+          → cond (t′ n) 1 0 + howMany t′ n ≡ cond (t n) 1 0 + howMany t n + cond (ltb b (suc n)) 1 0
       by (inl u) v ih =
           let z : n ≡ b = eqb-true n b u in
-          let w : counted t′ n ≡ counted t n + 0 = rw (le-ltb b n (omega arith)) at ih in
+          let w : howMany t′ n ≡ howMany t n + 0 = rw (le-ltb b n (omega arith)) at ih in
           rw (ap t′ z ∙ now, ap t z ∙ before, lt-ltb b (suc n) (omega arith)) (omega arith)
       by (inr u) (inl v) ih =
-          let w : counted t′ n ≡ counted t n + 1 = rw v at ih in
+          let w : howMany t′ n ≡ howMany t n + 1 = rw v at ih in
           rw (others n (eqb-false n b u), lt-ltb b (suc n) (omega (arith, ltb-true b n v))) (omega arith)
       by (inr u) (inr v) ih =
-          let w : counted t′ n ≡ counted t n + 0 = rw v at ih in
+          let w : howMany t′ n ≡ howMany t n + 0 = rw v at ih in
           let z : suc n ≤ b = by-order (eqb-false n b u) (ltb-false b n v) in
           rw (others n (eqb-false n b u), le-ltb b (suc n) z) (omega arith)
         where
@@ -230,7 +226,7 @@ module _ (t t′ : ℕ → Bool) (b : ℕ) (before : t b ≡ false) (now : t′ 
           by-order d l = omega (arith, d)
 
 -- ---- the kept rules of columns: what is asked of rules they say as all do, and each knows its own index
-record Kept (bs ms kb km kp : List ℕ) : Type 0 where
+record KeptRules (bs ms kb km kp : List ℕ) : Type 0 where
   mins : length kb ≡ length km
   places : length kb ≡ length kp
   one : (x : ℕ) → oneOf kb x ≡ hasRule bs x
@@ -239,10 +235,10 @@ record Kept (bs ms kb km kp : List ℕ) : Type 0 where
   own : (x : ℕ) → getD kp (fenceIndexOf kb x) 0 ≡ fenceIndexOf bs x
   none : getD kp 0 0 ≡ 0
   search : gainedAll [] kb ≡ gainedAll [] bs
-  few : length kb ≡ counted (oneOf kb) 256
+  few : length kb ≡ howMany (oneOf kb) 256
 
-kept-first : Kept [] [] [] [] []
-unfolding oneOf counted
+kept-first : KeptRules [] [] [] [] []
+unfolding oneOf howMany
 kept-first = record {
   mins = refl;
   places = refl;
@@ -255,9 +251,9 @@ kept-first = record {
   few = refl;
 }
 
-module _ (bs ms kb km kp : List ℕ) (same : length bs ≡ length ms) (w : Kept bs ms kb km kp) (b m : ℕ) where
+module _ (bs ms kb km kp : List ℕ) (same : length bs ≡ length ms) (w : KeptRules bs ms kb km kp) (b m : ℕ) where
   -- a rule whose byte came before
-  kept-again : hasRule bs b ≡ true → Kept (bs ++ (b ∷ [])) (ms ++ (m ∷ [])) kb km kp
+  kept-again : hasRule bs b ≡ true → KeptRules (bs ++ (b ∷ [])) (ms ++ (m ∷ [])) kb km kp
   kept-again e = record {
     mins = w .mins;
     places = w .places;
@@ -270,7 +266,7 @@ module _ (bs ms kb km kp : List ℕ) (same : length bs ≡ length ms) (w : Kept 
     few = w .few;
   }
     where
-      all : (x : ℕ) → Stays bs b x
+      all : (x : ℕ) → OldOrOther bs b x
       all x = ⊎-elim (λ (u : eqb x b ≡ true). inl (ap (hasRule bs) (eqb-true x b u) ∙ e)) (λ u. inr (eqb-false x b u)) (decide (eqb x b))
 
   -- a rule with a new byte
@@ -330,7 +326,7 @@ module _ (bs ms kb km kp : List ℕ) (same : length bs ≡ length ms) (w : Kept 
         let l : fenceIndexOf (kb ++ (b ∷ [])) b ≡ length kp + 0 = fence-new kb b fresh ∙ w .places ∙ inv (add-zero (length kp)) in
         ap (λ (k : ℕ). getD (kp ++ (length bs ∷ [])) k 0) l ∙ getD-append-add kp (length bs ∷ []) 0 0 ∙ inv (fence-new bs b e)
 
-    kept-more : b < 256 → Kept (bs ++ (b ∷ [])) (ms ++ (m ∷ [])) (kb ++ (b ∷ [])) (km ++ (m ∷ [])) (kp ++ (length bs ∷ []))
+    kept-more : b < 256 → KeptRules (bs ++ (b ∷ [])) (ms ++ (m ∷ [])) (kb ++ (b ∷ [])) (km ++ (m ∷ [])) (kp ++ (length bs ∷ []))
     kept-more h = record {
       mins = omega (arith, length-append kb (b ∷ []), length-append km (m ∷ []), w .mins);
       places = omega (arith, length-append kb (b ∷ []), length-append kp (length bs ∷ []), w .places);
@@ -341,12 +337,12 @@ module _ (bs ms kb km kp : List ℕ) (same : length bs ≡ length ms) (w : Kept 
       own = split (λ x. getD (kp ++ (length bs ∷ [])) (fenceIndexOf (kb ++ (b ∷ [])) x) 0 ≡ fenceIndexOf (bs ++ (b ∷ [])) x) own-new own-other;
       none = first-own;
       search = gained-more [] kb b ∙ ap (λ (l : List ℕ). gained l b) (w .search) ∙ inv (gained-more [] bs b);
-      few = let z : counted (oneOf (kb ++ (b ∷ []))) 256 ≡ counted (oneOf kb) 256 + 1 = rw (lt-ltb b 256 h) at (counted-more (oneOf kb) (oneOf (kb ++ (b ∷ []))) b (w .one b ∙ e) one-new one-other 256) in
+      few = let z : howMany (oneOf (kb ++ (b ∷ []))) 256 ≡ howMany (oneOf kb) 256 + 1 = rw (lt-ltb b 256 h) at (counted-more (oneOf kb) (oneOf (kb ++ (b ∷ []))) b (w .one b ∙ e) one-new one-other 256) in
           omega (arith, length-append kb (b ∷ []), w .few);
     }
 
 -- 256 places are always enough
-module _ (bs ms kb km kp : List ℕ) (w : Kept bs ms kb km kp) where
+module _ (bs ms kb km kp : List ℕ) (w : KeptRules bs ms kb km kp) where
   kept-few : length kb ≤ 256
   kept-few = omega (arith, w .few, counted-le (oneOf kb) 256)
 
@@ -376,18 +372,18 @@ module _ (bs ms kb km kp : List ℕ) (w : Kept bs ms kb km kp) where
 abbrev packed : List ℕ → List ℕ → List ℕ → ℕ → Gathered
 packed kb km kp l = record { bytes = padded 256 kb; mins = padded 256 km; places = padded 256 kp; count = length kb; last = l }
 
-record Keeps (rules : List FenceRule) (f : Gathered) : Type 0 where
+record RunKept (rules : List FenceRule) (f : Gathered) : Type 0 where
   kb : List ℕ
   km : List ℕ
   kp : List ℕ
   last : ℕ
-  kept : Kept (ruleBytes rules) (ruleMins rules) kb km kp
+  kept : KeptRules (ruleBytes rules) (ruleMins rules) kb km kp
   same : f ≡ packed kb km kp last
 
 pub rules-even : (rules : List FenceRule) → length (ruleBytes rules) ≡ length (ruleMins rules)
 rules-even rules = length-map rules (λ r. r .byte) ∙ inv (length-map rules (λ r. r .min))
 
-keeps-more : (rules : List FenceRule) (f : Gathered) (r : FenceRule) → r .byte < 256 → Keeps rules f → Keeps (rules ++ (r ∷ [])) (withRule f r (length rules))
+keeps-more : (rules : List FenceRule) (f : Gathered) (r : FenceRule) → r .byte < 256 → RunKept rules f → RunKept (rules ++ (r ∷ [])) (withRule f r (length rules))
 unfolding withRule
 keeps-more rules f r h v = by (decide (leb 256 (length (v .kb)))) (decide (oneOf (v .kb) (r .byte)))
   where
@@ -395,10 +391,10 @@ keeps-more rules f r h v = by (decide (leb 256 (length (v .kb)))) (decide (oneOf
     few = kept-few (ruleBytes rules) (ruleMins rules) (v .kb) (v .km) (v .kp) (v .kept)
 
     -- the columns of one rule more
-    longer : {xs ys zs : List ℕ} → Kept (ruleBytes rules ++ (r .byte ∷ [])) (ruleMins rules ++ (r .min ∷ [])) xs ys zs → Kept (ruleBytes (rules ++ (r ∷ []))) (ruleMins (rules ++ (r ∷ []))) xs ys zs
+    longer : {xs ys zs : List ℕ} → KeptRules (ruleBytes rules ++ (r .byte ∷ [])) (ruleMins rules ++ (r .min ∷ [])) xs ys zs → KeptRules (ruleBytes (rules ++ (r ∷ []))) (ruleMins (rules ++ (r ∷ []))) xs ys zs
     longer k = rw (map-append (λ x. x .byte) rules (r ∷ []), map-append (λ x. x .min) rules (r ∷ [])) k
 
-    dropped : unkept (packed (v .kb) (v .km) (v .kp) (v .last)) (r .byte) ≡ true → hasRule (ruleBytes rules) (r .byte) ≡ true → Keeps (rules ++ (r ∷ [])) (withRule f r (length rules))
+    dropped : unkept (packed (v .kb) (v .km) (v .kp) (v .last)) (r .byte) ≡ true → hasRule (ruleBytes rules) (r .byte) ≡ true → RunKept (rules ++ (r ∷ [])) (withRule f r (length rules))
     dropped u e = record {
       kb = v .kb;
       km = v .km;
@@ -408,7 +404,7 @@ keeps-more rules f r h v = by (decide (leb 256 (length (v .kb)))) (decide (oneOf
       same = ap (λ (z : Gathered). withRule z r (length rules)) (v .same) ∙ rw u;
     }
 
-    added : length (v .kb) < 256 → unkept (packed (v .kb) (v .km) (v .kp) (v .last)) (r .byte) ≡ false → hasRule (ruleBytes rules) (r .byte) ≡ false → Keeps (rules ++ (r ∷ [])) (withRule f r (length rules))
+    added : length (v .kb) < 256 → unkept (packed (v .kb) (v .km) (v .kp) (v .last)) (r .byte) ≡ false → hasRule (ruleBytes rules) (r .byte) ≡ false → RunKept (rules ++ (r ∷ [])) (withRule f r (length rules))
     added l u e =
         let p = ap (λ (k : ℕ). set (padded 256 (v .km)) k (r .min)) (v .kept .mins) ∙ pad-set 256 (v .km) (r .min) (omega (arith, v .kept .mins)) in
         let q = ap (λ (k : ℕ). set (padded 256 (v .kp)) k (length rules)) (v .kept .places) ∙ pad-set 256 (v .kp) (length rules) (omega (arith, v .kept .places)) ∙ ap (λ (i : ℕ). padded 256 (v .kp ++ (i ∷ []))) (inv (length-map rules (λ x. x .byte))) in
@@ -421,21 +417,21 @@ keeps-more rules f r h v = by (decide (leb 256 (length (v .kb)))) (decide (oneOf
           same = ap (λ (z : Gathered). withRule z r (length rules)) (v .same) ∙ rw u (λ j. record { bytes = pad-set 256 (v .kb) (r .byte) l j; mins = p j; places = q j; count = inv (length-append (v .kb) (r .byte ∷ [])) j; last = length rules });
         }
 
-    by : (leb 256 (length (v .kb)) ≡ true) ⊎ (leb 256 (length (v .kb)) ≡ false) → (oneOf (v .kb) (r .byte) ≡ true) ⊎ (oneOf (v .kb) (r .byte) ≡ false) → Keeps (rules ++ (r ∷ [])) (withRule f r (length rules))
+    by : (leb 256 (length (v .kb)) ≡ true) ⊎ (leb 256 (length (v .kb)) ≡ false) → (oneOf (v .kb) (r .byte) ≡ true) ⊎ (oneOf (v .kb) (r .byte) ≡ false) → RunKept (rules ++ (r ∷ [])) (withRule f r (length rules))
     by (inl u) e = dropped (rw u) (kept-full (ruleBytes rules) (ruleMins rules) (v .kb) (v .km) (v .kp) (v .kept) (r .byte) (leb-true 256 (length (v .kb)) u) h)
     by (inr u) (inl e) = dropped (rw (u, pad-take 256 (v .kb) few) e) (inv (v .kept .one (r .byte)) ∙ e)
     by (inr u) (inr e) = added (leb-false 256 (length (v .kb)) u) (rw (u, pad-take 256 (v .kb) few) e) (inv (v .kept .one (r .byte)) ∙ e)
 
 -- one rule more, and the others behind it
-keeps-step : (rules rest : List FenceRule) (r : FenceRule) (f : Gathered) → Keeps ((rules ++ (r ∷ [])) ++ rest) f → Keeps (rules ++ (r ∷ rest)) f
-keeps-step rules rest r f v = subst (λ (l : List FenceRule). Keeps l f) (append-assoc rules (r ∷ []) rest) v
+keeps-step : (rules rest : List FenceRule) (r : FenceRule) (f : Gathered) → RunKept ((rules ++ (r ∷ [])) ++ rest) f → RunKept (rules ++ (r ∷ rest)) f
+keeps-step rules rest r f v = subst (λ (l : List FenceRule). RunKept l f) (append-assoc rules (r ∷ []) rest) v
 
-keeps-at : (rules : List FenceRule) (f : Gathered) (r : FenceRule) (i : ℕ) → i ≡ length rules → r .byte < 256 → Keeps rules f → Keeps (rules ++ (r ∷ [])) (withRule f r i)
-keeps-at rules f r i e h v = subst (λ (k : ℕ). Keeps (rules ++ (r ∷ [])) (withRule f r k)) (inv e) (keeps-more rules f r h v)
+keeps-at : (rules : List FenceRule) (f : Gathered) (r : FenceRule) (i : ℕ) → i ≡ length rules → r .byte < 256 → RunKept rules f → RunKept (rules ++ (r ∷ [])) (withRule f r i)
+keeps-at rules f r i e h v = subst (λ (k : ℕ). RunKept (rules ++ (r ∷ [])) (withRule f r k)) (inv e) (keeps-more rules f r h v)
 
-keeps-all : (rest rules : List FenceRule) (f : Gathered) (i : ℕ) → i ≡ length rules → Keeps rules f → ((j : ℕ) → j < length rest → getD rest j noRule .byte < 256) → Keeps (rules ++ rest) (gatheredFrom f i rest)
+keeps-all : (rest rules : List FenceRule) (f : Gathered) (i : ℕ) → i ≡ length rules → RunKept rules f → ((j : ℕ) → j < length rest → getD rest j noRule .byte < 256) → RunKept (rules ++ rest) (gatheredFrom f i rest)
 unfolding gatheredFrom
-keeps-all [] rules f i e v h = subst (λ (l : List FenceRule). Keeps l f) (inv (append-nil rules)) v
+keeps-all [] rules f i e v h = subst (λ (l : List FenceRule). RunKept l f) (inv (append-nil rules)) v
 keeps-all (r ∷ rest) rules f i e v h =
     keeps-step rules rest r (gatheredFrom (withRule f r i) (suc i) rest)
     (keeps-all rest (rules ++ (r ∷ [])) (withRule f r i) (suc i) (omega (arith, length-append rules (r ∷ []))) (keeps-at rules f r i e (h 0 (omega arith)) v) (λ j l. h (suc j) (omega arith)))
@@ -453,13 +449,13 @@ pad-at (suc n) [] (suc i) h = pad-at n [] i (omega arith)
 pad-at (suc n) (x ∷ l) zero h = refl
 pad-at (suc n) (x ∷ l) (suc i) h = pad-at n l i (omega arith)
 
-keeps-none : Keeps [] noRules
+keeps-none : RunKept [] noRules
 keeps-none = record { kb = []; km = []; kp = []; last = 0; kept = kept-first; same = λ j. record { bytes = pad-none 256 j; mins = pad-none 256 j; places = pad-none 256 j; count = 0; last = 0 } }
 
 -- ---- the kept rules of a run that was gathered
 module _ (rules : List FenceRule) (f : Gathered) (w : AllGathered rules f) where
-  keeps : Keeps rules f
-  keeps = subst (Keeps rules) (inv (w .answer)) (keeps-all rules [] noRules 0 refl keeps-none (w .small))
+  keeps : RunKept rules f
+  keeps = subst (RunKept rules) (inv (w .answer)) (keeps-all rules [] noRules 0 refl keeps-none (w .small))
 
   fit : length (keeps .kb) ≤ 256
   fit = kept-few (ruleBytes rules) (ruleMins rules) (keeps .kb) (keeps .km) (keeps .kp) (keeps .kept)

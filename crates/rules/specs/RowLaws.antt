@@ -22,7 +22,7 @@ use Rattle.lines.specs.RuleLaws.{table-has, table-least}
 use Rattle.rules.specs.Grammar.{Rule, plain, sym, asym, Gram}
 use Rattle.rules.specs.Columns.{inlineRules, columns, searched, gainedAll, alphabetOf, openRule, symRule, fenceIndexOf, gramOf}
 use Rattle.rules.specs.ColumnLaws.{pad-take, gathered-list}
-use Rattle.rules.specs.Rows.{ruleRow, ruleRows, cell, ruleAt, ruleIn, gramBy, noRows, pairRow, fencedRow, opener, twin, fencer, laidRows, RulesLaid, OpenersLaid, inlineRows, Inlined, Folded}
+use Rattle.rules.specs.Rows.{ruleRow, ruleRows, cell, ruleOf, ruleIn, gramBy, noRows, pairRow, fencedRow, opener, twin, fencer, laidRow, laidRows, RulesLaid, OpenersLaid, Folded}
 use Rattle.rules.specs.declared.search_bytes.Alphabet.{Alphabet}
 
 -- ---- what the promises leave open: nothing, of rows that are 256, as an array's are
@@ -31,9 +31,6 @@ module _ {rows a b : List (List ℕ)} (long : length rows ≡ 256) where
   laid-unique x y = x .answer long ∙ inv (y .answer long)
 
 module _ {y t o k n : List ℕ} {a b : List (List ℕ)} where
-  pub inlined-unique : Inlined (inlineRules y t o k n) a → Inlined (inlineRules y t o k n) b → a ≡ b
-  inlined-unique v w = v .answer ∙ inv (w .answer)
-
   pub folded-unique : {f : List ℕ} → Folded f (inlineRules y t o k n) a → Folded f (inlineRules y t o k n) b → a ≡ b
   folded-unique v w = v .answer ∙ inv (w .answer)
 
@@ -96,8 +93,7 @@ module _ (bytes : List ℕ) (made : ℕ → List ℕ → List ℕ) (rows₀ : Li
   pub laying-all : (rows : List (List ℕ)) (i : ℕ) → Laying bytes made rows₀ rows i → i ≤ 0 → RulesLaid bytes made rows₀ rows
   unfolding laidFrom laidRows
   laying-all rows i w h = record {
-    answer = λ l. let z : i ≡ 0 = omega arith in table-is [] rows (λ b. cond (hasRule bytes b) (made (ruleIndex bytes b) (entry [] rows₀ b)) (entry [] rows₀ b))
-        (table-same [] rows (laidFrom bytes made rows₀ i) (λ b. cond (hasRule bytes b) (made (ruleIndex bytes b) (entry [] rows₀ b)) (entry [] rows₀ b)) (λ k m. rw z) (w .laid l));
+    answer = λ l. let z : i ≡ 0 = omega arith in table-is [] rows (laidRow bytes made rows₀) (table-same [] rows (laidFrom bytes made rows₀ i) (laidRow bytes made rows₀) (λ k m. rw z) (w .laid l));
   }
 
 -- ---- the loops
@@ -138,48 +134,54 @@ module _ (o k n : List ℕ) (rows₀ : List (List ℕ)) where
 same-rows : (f f′ : ℕ → List ℕ) → ((x : ℕ) → x < 256 → f x ≡ f′ x) → tabulate f 256 0 ≡ tabulate f′ 256 0
 same-rows f f′ e = table-is [] (tabulate f 256 0) f′ (table-same [] (tabulate f 256 0) f f′ (λ x h. inv (e x h)) (table-of [] f))
 
+-- no fence rules
+no-fence : (b : ℕ) → fenceIndexOf [] b ≡ 0
+no-fence b = rw (le-ltb (ruleIndex [] b) 0 (omega arith))
+
 -- ---- the inline rules over rows of none
-pub all-inlined : (y t o k n : List ℕ) (a b c : List (List ℕ)) → Gives noRows a → OpenersLaid o k n a b → RulesLaid y (twin t) b c → Inlined (inlineRules y t o k n) c
-unfolding laidRows inlineRows openRule symRule
+pub all-inlined : (y t o k n : List ℕ) (a b c : List (List ℕ)) → Gives noRows a → OpenersLaid o k n a b → RulesLaid y (twin t) b c → Folded [] (inlineRules y t o k n) c
+unfolding laidRows ruleRows openRule symRule
 all-inlined y t o k n a b c ha hb hc = record { answer = whole; closers = hb .closers }
   where
     first : b ≡ laidRows o (opener k n) a
     first = hb .laid .answer (ap length (ha .answer) ∙ length-replicate 256 (replicate {A = ℕ} 5 0))
 
     second : c ≡ laidRows y (twin t) b
-    second = hc .answer (ap length first ∙ length-tabulate (λ b. cond (hasRule o b) (opener k n (ruleIndex o b) (entry [] a b)) (entry [] a b)) 256 0)
+    second = hc .answer (ap length first ∙ length-tabulate (laidRow o (opener k n) a) 256 0)
 
     none : (x : ℕ) → x < 256 → entry [] a x ≡ ruleRow 0 plain
     none x h = ap (λ (l : List (List ℕ)). entry [] l x) (ha .answer) ∙ getD-replicate 256 x (replicate 5 0) [] h
 
     open-at : (x : ℕ) → x < 256 → entry [] b x ≡ ruleRow 0 (openRule o k n x)
-    open-at x h = ap (λ (l : List (List ℕ)). entry [] l x) first ∙ tabulate-at (λ b. cond (hasRule o b) (opener k n (ruleIndex o b) (entry [] a b)) (entry [] a b)) 256 0 x [] h ∙ rw zero-add (by (decide (hasRule o x)))
+    open-at x h = ap (λ (l : List (List ℕ)). entry [] l x) first ∙ tabulate-at (laidRow o (opener k n) a) 256 0 x [] h ∙ rw zero-add (by (decide (hasRule o x)))
       where
-        by : (hasRule o x ≡ true) ⊎ (hasRule o x ≡ false) → cond (hasRule o x) (opener k n (ruleIndex o x) (entry [] a x)) (entry [] a x) ≡ ruleRow 0 (openRule o k n x)
+        by : (hasRule o x ≡ true) ⊎ (hasRule o x ≡ false) → laidRow o (opener k n) a x ≡ ruleRow 0 (openRule o k n x)
         by (inl u) = rw (u, none x h)
         by (inr u) = rw (u, none x h)
 
-    sym-at : (x : ℕ) → x < 256 → cond (hasRule y x) (twin t (ruleIndex y x) (entry [] b x)) (entry [] b x) ≡ ruleRow 0 (symRule y t (openRule o k n) x)
+    sym-at : (x : ℕ) → x < 256 → laidRow y (twin t) b x ≡ ruleRow 0 (symRule y t (openRule o k n) x)
     sym-at x h = by (decide (hasRule y x)) (openRule o k n x) (open-at x h)
       where
-        by : (hasRule y x ≡ true) ⊎ (hasRule y x ≡ false) → (u : Rule) → entry [] b x ≡ ruleRow 0 u → cond (hasRule y x) (twin t (ruleIndex y x) (entry [] b x)) (entry [] b x) ≡ ruleRow 0 (cond (hasRule y x) (sym (ruleIndex y x) (getD t (ruleIndex y x) 0)) u)
+        by : (hasRule y x ≡ true) ⊎ (hasRule y x ≡ false) → (u : Rule) → entry [] b x ≡ ruleRow 0 u → laidRow y (twin t) b x ≡ ruleRow 0 (cond (hasRule y x) (sym (ruleIndex y x) (getD t (ruleIndex y x) 0)) u)
         by (inl v) plain e = rw (v, e)
         by (inl v) (sym i m) e = rw (v, e)
         by (inl v) (asym i z m) e = rw (v, e)
         by (inr v) u e = rw (v, e)
 
-    whole : c ≡ tabulate (λ b. ruleRow 0 (symRule y t (openRule o k n) b)) 256 0
-    whole = second ∙ same-rows (λ b′. cond (hasRule y b′) (twin t (ruleIndex y b′) (entry [] b b′)) (entry [] b b′)) (λ b. ruleRow 0 (symRule y t (openRule o k n) b)) sym-at
+    whole : c ≡ ruleRows [] (inlineRules y t o k n)
+    whole =
+        second
+        ∙ same-rows (laidRow y (twin t) b) (λ x. ruleRow (fenceIndexOf [] x) (symRule y t (openRule o k n) x)) (λ x h. sym-at x h ∙ ap (λ (f : ℕ). ruleRow f (symRule y t (openRule o k n) x)) (inv (no-fence x)))
 
 -- ---- fence rules over the rows of inline rules
-module _ (f y t o k n : List ℕ) (a : List (List ℕ)) (ha : Inlined (inlineRules y t o k n) a) where
+module _ (f y t o k n : List ℕ) (a : List (List ℕ)) (ha : Folded [] (inlineRules y t o k n) a) where
   long : length a ≡ 256
-  unfolding inlineRows
-  long = ap length (ha .answer) ∙ length-tabulate (λ b. ruleRow 0 (symRule y t (openRule o k n) b)) 256 0
+  unfolding ruleRows
+  long = ap length (ha .answer) ∙ length-tabulate (λ b. ruleRow (fenceIndexOf [] b) (symRule y t (openRule o k n) b)) 256 0
 
   at-row : (x : ℕ) → x < 256 → entry [] a x ≡ ruleRow 0 (symRule y t (openRule o k n) x)
-  unfolding inlineRows
-  at-row x h = ap (λ (l : List (List ℕ)). entry [] l x) (ha .answer) ∙ tabulate-at (λ b. ruleRow 0 (symRule y t (openRule o k n) b)) 256 0 x [] h ∙ rw zero-add
+  unfolding ruleRows
+  at-row x h = ap (λ (l : List (List ℕ)). entry [] l x) (ha .answer) ∙ tabulate-at (λ b. ruleRow (fenceIndexOf [] b) (symRule y t (openRule o k n) b)) 256 0 x [] h ∙ rw (zero-add, no-fence x)
 
   fenced-row : (i : ℕ) (u : Rule) → fencedRow (ruleRow 0 u) i ≡ ruleRow i u
   fenced-row i plain = refl
@@ -188,27 +190,23 @@ module _ (f y t o k n : List ℕ) (a : List (List ℕ)) (ha : Inlined (inlineRul
 
   pub all-folded : (d : List (List ℕ)) → RulesLaid f fencer a d → Folded f (inlineRules y t o k n) d
   unfolding laidRows ruleRows
-  all-folded d hd = record { answer = hd .answer long ∙ same-rows (λ b. cond (hasRule f b) (fencer (ruleIndex f b) (entry [] a b)) (entry [] a b)) (λ b. ruleRow (fenceIndexOf f b) (symRule y t (openRule o k n) b)) at-fence; closers = ha .closers }
+  all-folded d hd = record { answer = hd .answer long ∙ same-rows (laidRow f fencer a) (λ b. ruleRow (fenceIndexOf f b) (symRule y t (openRule o k n) b)) at-fence; closers = ha .closers }
     where
-      at-fence : (x : ℕ) → x < 256 → cond (hasRule f x) (fencer (ruleIndex f x) (entry [] a x)) (entry [] a x) ≡ ruleRow (fenceIndexOf f x) (symRule y t (openRule o k n) x)
+      at-fence : (x : ℕ) → x < 256 → laidRow f fencer a x ≡ ruleRow (fenceIndexOf f x) (symRule y t (openRule o k n) x)
       at-fence x h = by (decide (hasRule f x))
         where
-          by : (hasRule f x ≡ true) ⊎ (hasRule f x ≡ false) → cond (hasRule f x) (fencer (ruleIndex f x) (entry [] a x)) (entry [] a x) ≡ ruleRow (fenceIndexOf f x) (symRule y t (openRule o k n) x)
+          by : (hasRule f x ≡ true) ⊎ (hasRule f x ≡ false) → laidRow f fencer a x ≡ ruleRow (fenceIndexOf f x) (symRule y t (openRule o k n) x)
           by (inl v) = rw (v, at-row x h) (fenced-row (ruleIndex f x) (symRule y t (openRule o k n) x))
           by (inr v) = rw (v, at-row x h)
 
 -- ---- the rows of columns make the grammar of the columns
 -- a rule whose closing byte is a byte
-abbrev Closed : Rule → Type 0
-Closed plain = Unit {0}
-Closed (sym i n) = Unit {0}
-Closed (asym i c n) = c < 256
+abbrev CloserFits : Rule → Type 0
+CloserFits plain = Unit {0}
+CloserFits (sym i n) = Unit {0}
+CloserFits (asym i c n) = c < 256
 
--- the inline rule that a row says
-abbrev said : List ℕ → Rule
-said r = ruleAt (getD r 1 0) (getD r 2 0 % 256) (getD r 3 0) (getD r 4 0)
-
-rule-back : (f : ℕ) (u : Rule) → Closed u → said (ruleRow f u) ≡ u
+rule-back : (f : ℕ) (u : Rule) → CloserFits u → ruleOf (ruleRow f u) ≡ u
 rule-back f plain h = refl
 rule-back f (sym i n) h = refl
 rule-back f (asym i c n) h = let z : c % 256 ≡ c = omega arith in rw z
@@ -219,11 +217,11 @@ index-back f (sym i n) = refl
 index-back f (asym i c n) = refl
 
 module _ (f y t o k n : List ℕ) (rows : List (List ℕ)) (w : Folded f (inlineRules y t o k n) rows) where
-  closed : (b : ℕ) → Closed (symRule y t (openRule o k n) b)
+  closed : (b : ℕ) → CloserFits (symRule y t (openRule o k n) b)
   unfolding symRule openRule
   closed b = by (decide (hasRule y b)) (decide (hasRule o b))
     where
-      by : (hasRule y b ≡ true) ⊎ (hasRule y b ≡ false) → (hasRule o b ≡ true) ⊎ (hasRule o b ≡ false) → Closed (symRule y t (openRule o k n) b)
+      by : (hasRule y b ≡ true) ⊎ (hasRule y b ≡ false) → (hasRule o b ≡ true) ⊎ (hasRule o b ≡ false) → CloserFits (symRule y t (openRule o k n) b)
       by (inl u) v = rw u tt
       by (inr u) (inl v) = rw (u, v) (w .closers .small (ruleIndex o b) (ltb-true (ruleIndex o b) (length o) v))
       by (inr u) (inr v) = rw (u, v) tt
@@ -234,10 +232,10 @@ module _ (f y t o k n : List ℕ) (rows : List (List ℕ)) (w : Folded f (inline
   at b = ap (λ (l : List (List ℕ)). entry [] l b) (w .answer) ∙ ap (λ (e : ℕ → List ℕ). e b) (table-entry [] (λ b. ruleRow (fenceIndexOf f b) (symRule y t (openRule o k n) b)))
 
   rows-rule : ruleIn rows ≡ onByte plain (symRule y t (openRule o k n))
-  rows-rule = fun-ext (λ b. ap said (at b) ∙ by b (decide (ltb b 256)))
+  rows-rule = fun-ext (λ b. ap ruleOf (at b) ∙ by b (decide (ltb b 256)))
     where
       by : (b : ℕ) → (ltb b 256 ≡ true) ⊎ (ltb b 256 ≡ false)
-          → said (onByte [] (λ b. ruleRow (fenceIndexOf f b) (symRule y t (openRule o k n) b)) b) ≡ onByte plain (symRule y t (openRule o k n)) b
+          → ruleOf (onByte [] (λ b. ruleRow (fenceIndexOf f b) (symRule y t (openRule o k n) b)) b) ≡ onByte plain (symRule y t (openRule o k n)) b
       by b (inl u) = rw u (rule-back (fenceIndexOf f b) (symRule y t (openRule o k n) b) (closed b))
       by b (inr u) = rw u
 

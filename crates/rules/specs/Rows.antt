@@ -30,8 +30,12 @@ cell rows b k = getD (getD rows b []) k 0
 abbrev pub ruleAt : ℕ → ℕ → ℕ → ℕ → Rule
 ruleAt kind closer count index = cond (eqb kind 0) plain (cond (eqb kind 1) (sym index count) (asym index closer count))
 
+-- the inline rule that a row says; that a byte's row says
+abbrev pub ruleOf : List ℕ → Rule
+ruleOf r = ruleAt (getD r 1 0) (getD r 2 0 % 256) (getD r 3 0) (getD r 4 0)
+
 abbrev pub ruleIn : List (List ℕ) → ℕ → Rule
-ruleIn rows b = ruleAt (cell rows b 1) (cell rows b 2 % 256) (cell rows b 3) (cell rows b 4)
+ruleIn rows b = ruleOf (getD rows b [])
 
 -- the grammar of an alphabet, a table of fences, and rows
 abbrev pub gramBy : Alphabet → List ℕ → List (List ℕ) → Gram
@@ -65,9 +69,12 @@ twin times j r = pairRow r 1 0 (getD times j 0) j
 abbrev pub fencer : ℕ → List ℕ → List ℕ
 fencer j r = fencedRow r j
 
--- rows over which the rules of a column are laid, the first with a byte
+-- rows over which the rules of a column are laid, the first with a byte: a byte's row; all
+abbrev pub laidRow : List ℕ → (ℕ → List ℕ → List ℕ) → List (List ℕ) → ℕ → List ℕ
+laidRow bytes made rows b = cond (hasRule bytes b) (made (ruleIndex bytes b) (entry [] rows b)) (entry [] rows b)
+
 unfoldable pub laidRows : List ℕ → (ℕ → List ℕ → List ℕ) → List (List ℕ) → List (List ℕ)
-laidRows bytes made rows = tabulate (λ b. cond (hasRule bytes b) (made (ruleIndex bytes b) (entry [] rows b)) (entry [] rows b)) 256 0
+laidRows bytes made rows = tabulate (laidRow bytes made rows) 256 0
 
 -- what laying a column's rules over rows, which are 256, promises
 pub record RulesLaid (bytes : List ℕ) (made : ℕ → List ℕ → List ℕ) (rows rows′ : List (List ℕ)) : Type 0 where
@@ -82,15 +89,7 @@ pub record OpenersLaid (o k n : List ℕ) (rows rows′ : List (List ℕ)) : Typ
   pub laid : RulesLaid o (opener k n) rows rows′
   pub closers : ByteClosers o k
 
--- the rows of inline rules
-unfoldable pub inlineRows : InlineRules → List (List ℕ)
-inlineRows i = tabulate (λ b. ruleRow 0 (inlineRule i b)) 256 0
-
-pub record Inlined (i : InlineRules) (rows : List (List ℕ)) : Type 0 where
-  pub answer : rows ≡ inlineRows i
-  pub closers : ByteClosers (i .openers) (i .closers)
-
--- what folding columns promises
+-- what folding columns promises; of inline rules alone, with no fence rules
 pub record Folded (fences : List ℕ) (i : InlineRules) (rows : List (List ℕ)) : Type 0 where
   pub answer : rows ≡ ruleRows fences i
   pub closers : ByteClosers (i .openers) (i .closers)

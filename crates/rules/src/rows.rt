@@ -4,10 +4,11 @@
 use common::sets::index;
 use search::byte_at;
 ghost use Prim.Native.Nat.{_%_};
+ghost use mathlib.Core.List.{[]};
 ghost use lib.ListN.{getD};
 ghost use Rattle.search.specs.Promise.{Gives};
 ghost use Rattle.rules.specs.Columns.{inlineRules};
-ghost use Rattle.rules.specs.Rows.{cell, noRows, pairRow, fencedRow, RulesLaid, twin, fencer, OpenersLaid, Inlined, Folded};
+ghost use Rattle.rules.specs.Rows.{cell, noRows, pairRow, fencedRow, RulesLaid, twin, fencer, OpenersLaid, Folded};
 
 // A byte's row: the index of its fence rule; and what it opens within a paragraph: kind 0 nothing, 1 a symmetric pair, 2 an asymmetric
 // one; the closing byte of an asymmetric pair; the count; and the inline rule's index.
@@ -120,7 +121,7 @@ fn inline_rows(
     counts: &[u32],
 ) -> Rows
     ensures { λ r. ⌜
-        Inlined (inlineRules (now (symmetric .entry)) (now (times .entry)) (now (openers .entry)) (now (closers .entry))
+        Folded [] (inlineRules (now (symmetric .entry)) (now (times .entry)) (now (openers .entry)) (now (closers .entry))
         (now (counts .entry))) r
         ⌝ }
 {

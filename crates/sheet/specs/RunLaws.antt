@@ -26,8 +26,7 @@ use Rattle.feed.specs.declared.item.SheetItem.{SheetItem}
 
 -- items whose content starts never fall, none of them before `low`
 abbrev Rises : ℕ → List SheetItem → Type 0
-Rises low [] = Unit {0}
-Rises low (i ∷ l) = (low ≤ i .start) × Rises (i .start) l
+Rises low l = Rising low (map contentStart l)
 
 rises-later : (q n : ℕ) (l : List SheetItem) → q ≤ n → Rises n l → Rises q l
 rises-later q n [] h w = tt
@@ -87,23 +86,15 @@ merge-length (x ∷ xs) (y ∷ ys) = by (merge-length (x ∷ xs) ys) (merge-leng
     by f g (inl u) = ap length (merge-number x y xs ys u) ∙ omega arith
     by f g (inr u) = ap length (merge-mark x y xs ys u) ∙ omega arith
 
--- ---- the places that decide never fall, since the content starts don't
-place-rises : (i j : SheetItem) → i .start ≤ j .start → contentStart i ≤ contentStart j
-place-rises i j h = h
-
-rises-places : (p low : ℕ) (l : List SheetItem) → ((i : SheetItem) → low ≤ i .start → p ≤ contentStart i) → Rises low l → Rising p (map contentStart l)
-rises-places p low [] f w = tt
-rises-places p low (i ∷ l) f w = (f i (w .0), rises-places (contentStart i) (i .start) l (place-rises i) (w .1))
-
 -- ---- all items of a text
 module _ (g : Grammar) (markers delims : List Bool) (s : List ℕ) where
   -- no more than the text has bytes
   pub items-few : length (merge (markItems g markers s) (numberedItems g delims s)) ≤ length s
   items-few = omega (arith, merge-length (markItems g markers s) (numberedItems g delims s), mark-rises g markers s .1, numbered-rises g delims s .1)
 
+  -- the places that decide never fall
   pub places-rise : Rising 0 (map contentStart (merge (markItems g markers s) (numberedItems g delims s)))
-  places-rise =
-      rises-places 0 0 (merge (markItems g markers s) (numberedItems g delims s)) (λ i h. omega arith) (merge-rises 0 (markItems g markers s) (numberedItems g delims s) (mark-rises g markers s .0) (numbered-rises g delims s .0))
+  places-rise = merge-rises 0 (markItems g markers s) (numberedItems g delims s) (mark-rises g markers s .0) (numbered-rises g delims s .0)
 
 -- ---- those that are shown
 pub outside-few : (regions : List (List ℕ)) (l : List SheetItem) → length (outside regions l) ≤ length l

@@ -19,8 +19,8 @@ use Rattle.cells.specs.Poured.{ListRuns, PouredAs, BuiltAs, builtBy}
 use Rattle.cells.specs.ByteRules.{ColumnRuns, unevenColumns, columnsIn}
 use Rattle.region.specs.MemoryLaws.{Sound}
 use Rattle.sheeting.specs.Hiding.{HidesFrom}
-use Rattle.sheeting.specs.declared.Walk.{Walk}
-use Rattle.sheeting.specs.declared.Step.{Step}
+use Rattle.sheeting.specs.declared.Sieve.{Sieve}
+use Rattle.sheeting.specs.declared.Sieved.{Sieved}
 
 -- "An item is five numbers", here of four bytes each
 abbrev pub itemBytes : SheetItem → List ℕ
@@ -43,20 +43,20 @@ SheetBytes g c markers delims s before after r =
 -- ---- the parts
 module _ (g : Gram) (markers delims : List Bool) (s : List ℕ) where
   -- the items ahead that no region of the text hides
-  abbrev pub leftBy : Walk → List SheetItem
+  abbrev pub leftBy : Sieve → List SheetItem
   leftBy w = left markers delims s (map rowOf (regions g s)) (w .feed)
 
   -- scanners and a region that may go on
-  pub record Ready (w : Walk) : Type 0 where
+  pub record SieveReady (w : Sieve) : Type 0 where
     pub low : ℕ
     pub onward : Onward markers delims s low (w .feed)
     pub hides : HidesFrom g s low (w .hider)
 
   -- the same with a memory m that tells the truth from where the scan of regions goes on
-  pub record ReadyBy (m : List ℕ) (w : Walk) : Type 0 where
-    pub ready : Ready w
+  pub record ReadyBy (m : List ℕ) (w : Sieve) : Type 0 where
+    pub ready : SieveReady w
     pub sound : Sound g s m (w .hider .next)
 
   -- the promise of a turn, which leaves such a memory
-  abbrev pub TurnedBy : List ℕ → Walk → Step → Type 0
-  TurnedBy m w t = Turned markers delims s (map rowOf (regions g s)) (ReadyBy m (t .rest)) (w .feed) (t .seen) (t .rest .feed)
+  abbrev pub SieveTurned : List ℕ → Sieve → Sieved → Type 0
+  SieveTurned m w t = Turned markers delims s (map rowOf (regions g s)) (ReadyBy m (t .rest)) (w .feed) (t .seen) (t .rest .feed)

@@ -43,10 +43,10 @@ use Rattle.cells.specs.ByteRules.{ColumnRuns, inlineIn, columnsIn}
 use Rattle.cells.specs.PouredLaws.{pour-full, pour-done}
 use Rattle.sheeting.specs.Hiding.{HidesFrom, PassedOn}
 use Rattle.sheeting.specs.HidingLaws.{hides-first, hides-later}
-use Rattle.sheeting.specs.Sheeting.{itemBytes, sheetWith, SheetPoured, leftBy, Ready, ReadyBy, TurnedBy}
+use Rattle.sheeting.specs.Sheeting.{itemBytes, sheetWith, SheetPoured, leftBy, SieveReady, ReadyBy, SieveTurned}
 use Rattle.sheeting.specs.declared.hiding.Hider.{Hider}
-use Rattle.sheeting.specs.declared.Walk.{Walk}
-use Rattle.sheeting.specs.declared.Step.{Step}
+use Rattle.sheeting.specs.declared.Sieve.{Sieve}
+use Rattle.sheeting.specs.declared.Sieved.{Sieved}
 use Rattle.region.specs.Region.{rowOf}
 
 -- ---- an item's bytes
@@ -57,11 +57,11 @@ pub laid-item : (n : ℕ) (i : SheetItem) (out out′ : List ℕ) → n * 20 + 2
 laid-item n i out out′ h w = record { next = refl; list = laid-there (n * 20) (itemBytes i) out out′ h w .list }
 
 -- ---- a turn
-module _ (g : Gram) (markers delims : List Bool) (s : List ℕ) (w : Walk) (t : Taken) where
-  pub turned-end : (m : List ℕ) → t .head ≡ head.End → Gives (taken markers delims s (w .feed)) t → Ready g markers delims s w → TurnedBy g markers delims s m w (record { seen = seen.End; rest = record { feed = t .rest; hider = w .hider } })
+module _ (g : Gram) (markers delims : List Bool) (s : List ℕ) (w : Sieve) (t : Taken) where
+  pub turned-end : (m : List ℕ) → t .head ≡ head.End → Gives (taken markers delims s (w .feed)) t → SieveReady g markers delims s w → SieveTurned g markers delims s m w (record { seen = seen.End; rest = record { feed = t .rest; hider = w .hider } })
   turned-end m e d r = left-end markers delims s (map rowOf (regions g s)) (r .low) (w .feed) (r .onward) t d _ e
 
-  module _ (i : SheetItem) (e : t .head ≡ head.Item i) (d : Gives (taken markers delims s (w .feed)) t) (r : Ready g markers delims s w) (p : ℕ) (at : Gives (contentStart i) p) where
+  module _ (i : SheetItem) (e : t .head ≡ head.Item i) (d : Gives (taken markers delims s (w .feed)) t) (r : SieveReady g markers delims s w) (p : ℕ) (at : Gives (contentStart i) p) where
     -- the item's place is not before the last one
     pub item-hides : HidesFrom g s p (w .hider)
     item-hides = hides-later g s p (w .hider) (r .low) (omega (arith, item-later markers delims s (map rowOf (regions g s)) (r .low) (w .feed) (r .onward) t d i e, at .answer)) (r .hides)
@@ -80,31 +80,31 @@ module _ (g : Gram) (markers delims : List Bool) (s : List ℕ) (w : Walk) (t : 
       told : Gives (covers p (h .start ∷ h .stop ∷ [])) y → inside (map rowOf (regions g s)) (contentStart i) ≡ y
       told v = rw (← (at .answer)) (moved .passed .hidden) ∙ sym (v .answer)
 
-      pub turned-hidden : y ≡ true → Gives (covers p (h .start ∷ h .stop ∷ [])) y → TurnedBy g markers delims s m w (record { seen = seen.Hidden; rest = record { feed = t .rest; hider = h } })
+      pub turned-hidden : y ≡ true → Gives (covers p (h .start ∷ h .stop ∷ [])) y → SieveTurned g markers delims s m w (record { seen = seen.Hidden; rest = record { feed = t .rest; hider = h } })
       turned-hidden u v = left-hidden markers delims s (map rowOf (regions g s)) (r .low) (w .feed) (r .onward) t d i e goes-on (told v ∙ u)
 
-      pub turned-shown : y ≡ false → Gives (covers p (h .start ∷ h .stop ∷ [])) y → TurnedBy g markers delims s m w (record { seen = seen.Shown i; rest = record { feed = t .rest; hider = h } })
+      pub turned-shown : y ≡ false → Gives (covers p (h .start ∷ h .stop ∷ [])) y → SieveTurned g markers delims s m w (record { seen = seen.Shown i; rest = record { feed = t .rest; hider = h } })
       turned-shown u v = left-shown markers delims s (map rowOf (regions g s)) (r .low) (w .feed) (r .onward) t d i e goes-on (told v ∙ u)
 
 -- ---- the loops
 module _ (g : Gram) (markers delims : List Bool) (s : List ℕ) where
   -- unless a turn told the end it may go on
-  module _ (m : List ℕ) (w : Walk) (t : Step) where
-    pub ready-hidden : t .seen ≡ seen.Hidden → TurnedBy g markers delims s m w t → ReadyBy g markers delims s m (t .rest)
+  module _ (m : List ℕ) (w : Sieve) (t : Sieved) where
+    pub ready-hidden : t .seen ≡ seen.Hidden → SieveTurned g markers delims s m w t → ReadyBy g markers delims s m (t .rest)
     ready-hidden e v = (rw e at (v .goes)) .0
 
-    pub ready-shown : (i : SheetItem) → t .seen ≡ seen.Shown i → TurnedBy g markers delims s m w t → ReadyBy g markers delims s m (t .rest)
+    pub ready-shown : (i : SheetItem) → t .seen ≡ seen.Shown i → SieveTurned g markers delims s m w t → ReadyBy g markers delims s m (t .rest)
     ready-shown i e v = (rw e at (v .goes)) .0
 
   -- the beginning, with a memory of zeros
-  pub ready-first : (w : Walk) → Ready g markers delims s w → ReadyBy g markers delims s (replicate 256 0) w
+  pub ready-first : (w : Sieve) → SieveReady g markers delims s w → ReadyBy g markers delims s (replicate 256 0) w
   ready-first w r = record { ready = r; sound = sound-zeros g s (w .hider .next) }
 
   -- the ways out of the question whether `len` bytes are enough
-  pub fits-roomy : (w : Walk) → Ready g markers delims s w → (len most : ℕ) → length s ≤ most → Gives (len / 20) most → true ≡ leb (length (leftBy g markers delims s w)) (len / 20)
+  pub fits-roomy : (w : Sieve) → SieveReady g markers delims s w → (len most : ℕ) → length s ≤ most → Gives (len / 20) most → true ≡ leb (length (leftBy g markers delims s w)) (len / 20)
   fits-roomy w r len most h room = sym (le-leb (length (leftBy g markers delims s w)) (len / 20) (omega (arith, left-few markers delims s (map rowOf (regions g s)) (r .low) (w .feed) (r .onward), room .answer)))
 
-  pub fits-counted : (w : Walk) (len most k : ℕ) → Gives (len / 20) most → Gives (length (leftBy g markers delims s w)) k → leb k most ≡ leb (length (leftBy g markers delims s w)) (len / 20)
+  pub fits-counted : (w : Sieve) (len most k : ℕ) → Gives (len / 20) most → Gives (length (leftBy g markers delims s w)) k → leb k most ≡ leb (length (leftBy g markers delims s w)) (len / 20)
   fits-counted w len most k room c = rw (c .answer, room .answer)
 
 -- ---- the ways out of pouring a sheet
@@ -113,7 +113,7 @@ module _ (g : Grammar) (z : Gram) (markers delims : List Bool) (s : List ℕ) (a
   w = started g markers delims s a short d
 
   -- all items are left, before all regions
-  pub sheet-ready : Ready z markers delims s (record { feed = a; hider = record { start = 0; stop = 0; next = 0 } })
+  pub sheet-ready : SieveReady z markers delims s (record { feed = a; hider = record { start = 0; stop = 0; next = 0 } })
   sheet-ready = record { low = 0; onward = started-onward g markers delims s a w; hides = hides-first z s }
 
   sheet-left : left markers delims s (map rowOf (regions z s)) a ≡ sheetWith g markers delims (regions z s) s

@@ -32,18 +32,18 @@ ghost use Rattle.common.specs.Lists.{RowPut, Wrote};
 ghost use Rattle.rules.specs.Rows.{gramBy};
 ghost use Rattle.cells.specs.Poured.{builtBy};
 ghost use Rattle.cells.specs.ByteRules.{columnsIn};
-ghost use Rattle.sheeting.specs.Sheeting.{itemBytes, leftBy, Ready, ReadyBy, TurnedBy, sheetWith, SheetPoured, SheetBytes};
+ghost use Rattle.sheeting.specs.Sheeting.{itemBytes, leftBy, SieveReady, ReadyBy, SieveTurned, sheetWith, SheetPoured, SheetBytes};
 
 // Both scanners, and the region that may hide their next item.
-struct Walk {
+struct Sieve {
     feed: Feed,
     hider: Hider,
 }
 
 // What a turn tells, and what comes after the item.
-struct Step {
+struct Sieved {
     seen: Seen,
-    rest: Walk,
+    rest: Sieve,
 }
 
 // How many items a list of `len` bytes has room for.
@@ -71,7 +71,7 @@ fn put_item(out: &mut [u8], n: usize, item: SheetItem) -> usize
 
 // Takes the next item, and tells whether it is shown.
 fn turn(
-    w: Walk,
+    w: Sieve,
     text: &[u8],
     markers: &[bool; 256],
     delims: &[bool; 256],
@@ -79,10 +79,10 @@ fn turn(
     fences: &[u16; 256],
     rows: &Rows,
     dead: &mut [usize; 256],
-) -> Step
+) -> Sieved
     requires { ⌜ ReadyBy (gramBy alphabet (now fences) (now rows)) (now markers) (now delims) (now text) (now dead) w ⌝ }
     ensures { λ r. ⌜
-        TurnedBy (gramBy alphabet (now (fences .entry)) (now (rows .entry))) (now (markers .entry)) (now (delims .entry))
+        SieveTurned (gramBy alphabet (now (fences .entry)) (now (rows .entry))) (now (markers .entry)) (now (delims .entry))
         (now (text .entry)) (now (dead .exit)) w r
         ⌝ }
 {
@@ -91,9 +91,9 @@ fn turn(
     let head = taken.head;
     let feed = taken.rest;
     match head {
-        Head::End => Step {
+        Head::End => Sieved {
             seen: Seen::End,
-            rest: Walk {
+            rest: Sieve {
                 feed,
                 hider: before,
             },
@@ -101,14 +101,14 @@ fn turn(
         Head::Item(i) => {
             let place = content_start(i);
             let hider = pass(before, place, text, alphabet, fences, rows, dead);
-            let rest = Walk { feed, hider };
+            let rest = Sieve { feed, hider };
             if hides(hider, place) {
-                return Step {
+                return Sieved {
                     seen: Seen::Hidden,
                     rest,
                 };
             }
-            Step {
+            Sieved {
                 seen: Seen::Shown(i),
                 rest,
             }
@@ -118,7 +118,7 @@ fn turn(
 
 // How many items are shown.
 fn count_items(
-    walk: Walk,
+    walk: Sieve,
     text: &[u8],
     markers: &[bool; 256],
     delims: &[bool; 256],
@@ -126,7 +126,7 @@ fn count_items(
     fences: &[u16; 256],
     rows: &Rows,
 ) -> usize
-    requires { ⌜ Ready (gramBy alphabet (now fences) (now rows)) (now markers) (now delims) (now text) walk ⌝ }
+    requires { ⌜ SieveReady (gramBy alphabet (now fences) (now rows)) (now markers) (now delims) (now text) walk ⌝ }
     ensures { λ r. ⌜
         Gives (length (leftBy (gramBy alphabet (now (fences .entry)) (now (rows .entry))) (now (markers .entry))
         (now (delims .entry)) (now (text .entry)) walk)) r
@@ -156,7 +156,7 @@ fn count_items(
 
 // Writes the items that are shown over the front of `out`, which has room for them, and says how many there are.
 fn write_items(
-    walk: Walk,
+    walk: Sieve,
     text: &[u8],
     markers: &[bool; 256],
     delims: &[bool; 256],
@@ -165,7 +165,7 @@ fn write_items(
     rows: &Rows,
     out: &mut [u8],
 ) -> usize
-    requires { ⌜ Ready (gramBy alphabet (now fences) (now rows)) (now markers) (now delims) (now text) walk ⌝ }
+    requires { ⌜ SieveReady (gramBy alphabet (now fences) (now rows)) (now markers) (now delims) (now text) walk ⌝ }
     requires { ⌜
         length (leftBy (gramBy alphabet (now fences) (now rows)) (now markers) (now delims) (now text) walk) ≤ length (now out) / 20
         ⌝ }
@@ -199,7 +199,7 @@ fn write_items(
 // Whether `len` bytes have room for the items that are shown. Where it is surely enough, since an item has two bytes before its content, so that
 // each scanner finds at most half as many as there are bytes, no counting pass runs.
 fn fits(
-    walk: Walk,
+    walk: Sieve,
     len: usize,
     text: &[u8],
     markers: &[bool; 256],
@@ -208,7 +208,7 @@ fn fits(
     fences: &[u16; 256],
     rows: &Rows,
 ) -> bool
-    requires { ⌜ Ready (gramBy alphabet (now fences) (now rows)) (now markers) (now delims) (now text) walk ⌝ }
+    requires { ⌜ SieveReady (gramBy alphabet (now fences) (now rows)) (now markers) (now delims) (now text) walk ⌝ }
     ensures { λ r. ⌜
         Gives (leb (length (leftBy (gramBy alphabet (now (fences .entry)) (now (rows .entry))) (now (markers .entry))
         (now (delims .entry)) (now (text .entry)) walk)) (len / 20)) r
@@ -241,7 +241,7 @@ fn pour_sheet(
         (record { list = now (out .exit); answer = now (answer .exit) }) r
         ⌝ }
 {
-    let walk = Walk {
+    let walk = Sieve {
         feed: start(alphabet.grammar, text, markers, delims),
         hider: Hider {
             start: 0,

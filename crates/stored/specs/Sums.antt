@@ -37,8 +37,8 @@ fedQuestion s t places p = cond (eqb places 0) (fedText s t) (fed (fedText s t) 
 unfoldable pub fedAnswer : Sums → ℕ → Bool → Sums
 fedAnswer s x cut = cond cut s (record {
   asked = s .asked;
-  first = (s .first * 65599 + x + 1) % 4294967291;
-  second = (s .second * 69069 + x + 1) % 4294967279;
+  first = fed s x .first;
+  second = fed s x .second;
   lift = s .lift * 65599 % 4294967291;
   raise = s .raise * 69069 % 4294967279;
 })

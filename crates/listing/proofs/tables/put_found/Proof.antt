@@ -1,6 +1,6 @@
 -- `put_found` meets its contract. Assumes nothing.
 use Prim.Native.Nat.{_-_}
-use Rattle.listing.specs.Held.{rowFields}
+use Rattle.listing.specs.Listing.{rowFields}
 use Rattle.listing.specs.HeldLaws.{Rowing, rowing-here, rowing-same, items-first, items-again, items-end}
 use borrow.Author.Needs.{needs}
 use Rattle.listing.proofs.tables.put_found.Statement.{statement}

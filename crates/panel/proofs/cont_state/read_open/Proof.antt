@@ -1,13 +1,15 @@
 -- `read_open` meets its contract: a loop that fills an array. Assumes nothing.
 use borrow.Author.Needs.{needs}
 use Prim.Native.Nat.{_-_}
+use Rattle.cells.specs.Bytes.{cells}
 use Rattle.cells.specs.ByteLaws.{Fills, fills-first}
-use Rattle.panel.specs.ContStateLaws.{openCell, read-open-again, read-open-all}
+use Rattle.panel.specs.ContState.{openCell}
+use Rattle.panel.specs.ContStateLaws.{read-open-again, read-open-all}
 use Rattle.panel.proofs.cont_state.read_open.Statement.{statement}
 use Rattle.panel.proofs.cont_state.read_open.Tie as tie
 
 abbrev Inv-loop : tie.InvT-loop
-Inv-loop run open₀ i₀ «open» i = Fills (openCell run) 32 open₀ «open» i
+Inv-loop run open₀ i₀ «open» i = Fills (openCell (cells run)) 32 open₀ «open» i
 
 abbrev μ-loop : tie.MeasureT-loop
 μ-loop run open₀ i₀ «open» i = 32 - i

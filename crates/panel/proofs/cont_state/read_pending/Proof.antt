@@ -1,13 +1,15 @@
 -- `read_pending` meets its contract: a loop that fills an array. Assumes nothing.
 use borrow.Author.Needs.{needs}
 use Prim.Native.Nat.{_-_}
+use Rattle.cells.specs.Bytes.{cells}
 use Rattle.cells.specs.ByteLaws.{Fills, fills-first}
-use Rattle.panel.specs.ContStateLaws.{pendingCell, read-pending-again, read-pending-all}
+use Rattle.panel.specs.ContState.{pendingCell}
+use Rattle.panel.specs.ContStateLaws.{read-pending-again, read-pending-all}
 use Rattle.panel.proofs.cont_state.read_pending.Statement.{statement}
 use Rattle.panel.proofs.cont_state.read_pending.Tie as tie
 
 abbrev Inv-loop : tie.InvT-loop
-Inv-loop run pending₀ i₀ pending i = Fills (pendingCell run) 32 pending₀ pending i
+Inv-loop run pending₀ i₀ pending i = Fills (pendingCell (cells run)) 32 pending₀ pending i
 
 abbrev μ-loop : tie.MeasureT-loop
 μ-loop run pending₀ i₀ pending i = 32 - i
