@@ -7,7 +7,7 @@ use mathlib.Core.List.{List}
 use Prim.Native.Nat.{ℕ, _+_}
 use lib.Dec.{ltb}
 use lib.ListN.{length}
-use Rattle.search.specs.Search.{find, is, either, other, holds, firstPlace, lineStart, lineEnd, nextLine}
+use Rattle.search.specs.Search.{find, afterRun, is, either, holds, firstPlace, lineStart, lineEnd, nextLine}
 use Rattle.lines.specs.Fences.{runCount, opensRun, closesRun}
 use Rattle.common.specs.Refusals.{Outcome, spanValues}
 use Rattle.common.specs.Turn.{Turn, go, stop, found, firstTurn, allFound}
@@ -33,7 +33,7 @@ at g q = record { byte = g .byte; min = g .min; eol = g .eol; sep = g .sep; tab 
 
 -- the end of the fence byte's run that begins at p: "With a fence byte equal to the line end the run is counted on across lines"
 abbrev pub wholeRunEnd : FenceIter → List ℕ → ℕ → ℕ
-wholeRunEnd g s p = find (other (is (g .byte))) s p
+wholeRunEnd g s p = afterRun (g .byte) s p
 
 -- the end of the line that the run ends in, and the place after it
 abbrev pub runLine : FenceIter → List ℕ → ℕ → ℕ

@@ -7,7 +7,7 @@ use mathlib.Core.List.{List}
 use Prim.Native.Nat.{ℕ, _+_, _-_, min}
 use lib.Dec.{ltb, leb}
 use lib.ListN.{getD}
-use Rattle.search.specs.Search.{find, is, either, other, holds, lineStart, lineEnd}
+use Rattle.search.specs.Search.{find, afterRun, is, either, other, holds, lineStart, lineEnd}
 use Rattle.common.specs.declared.grammar.Grammar.{Grammar}
 use Rattle.common.specs.Rules.{tabulate, entry, ruleIndex, hasRule}
 use Rattle.lines.specs.declared.fence_tests.Opening.{Opening}
@@ -15,7 +15,7 @@ use Rattle.lines.specs.declared.fence_tests.Opening.the-variants.{Opens,
 
 -- the end of the run of b that begins at p, within a line that ends at e
 abbrev pub runEnd : ℕ → List ℕ → ℕ → ℕ → ℕ
-runEnd b s p e = min (find (other (is b)) s p) e
+runEnd b s p e = min (afterRun b s p) e
 
 -- the length of a run from p up to j: "Run counts stop at 255."
 abbrev pub runCount : ℕ → ℕ → ℕ

@@ -11,7 +11,7 @@ use lib.ListN.{length, getD, set, replicate, length-set, length-replicate, getD-
 use lib.Seq.{getD-set-same, getD-set-other}
 use borrow.Author.Tests.{ltb-true, ltb-false, le-ltb, leb-true, eqb-true, eqb-false}
 use Rattle.search.specs.Promise.{Gives}
-use Rattle.search.specs.Search.{find, is, other}
+use Rattle.search.specs.Search.{find, afterRun, is, other}
 use Rattle.search.specs.SearchLaws.{decide, clash, past-end, is-yes, other-no, find-ge, find-le, find-at, find-end}
 use Rattle.common.specs.Rules.{entry}
 use Rattle.common.specs.Turn.{Turn, go, stop, found, thenScan, scan, firstTurn}
@@ -52,7 +52,7 @@ module _ (P : Turn Caused → Type 0) where
 module _ (g : Gram) (s m : List ℕ) where
   -- the end of the run that begins at p
   abbrev past : ℕ → ℕ
-  past p = find (other (is (getD s p 0))) s p
+  past p = afterRun (getD s p 0) s p
 
   -- that P may pass the opener at p
   abbrev Passes : (Turn Caused → Type 0) → ℕ → Rule → Type 0

@@ -4,7 +4,7 @@ use mathlib.Core.Bool.{true, false}
 use mathlib.Core.List.{List}
 use Prim.Native.Nat.{ℕ, _%_}
 use lib.ListN.{length, getD}
-use Rattle.search.specs.Search.{find, is, other, nextLine}
+use Rattle.search.specs.Search.{afterRun, nextLine}
 use Rattle.lines.specs.Reader.{readerIn, closeScan}
 use Rattle.common.specs.Turn.{Turn, found}
 use Rattle.common.specs.declared.grammar.Grammar.{Grammar}
@@ -40,10 +40,10 @@ fencedBy g s p count e i = closedBy g s p i (closeScan g (getD s p 0) count s (n
 
 -- a pair at an opener b that is not escaped, by the rows and a memory
 unfoldable pub symPair : Gram → List (List ℕ) → List ℕ → List ℕ → ℕ → ℕ → Sight
-symPair g rows s m p b = keptRun s m p b (cell rows b 3) Symmetric (cell rows b 4) (symTurn g s b (cell rows b 3)) (find (other (is b)) s p)
+symPair g rows s m p b = keptRun s m p b (cell rows b 3) Symmetric (cell rows b 4) (symTurn g s b (cell rows b 3)) (afterRun b s p)
 
 unfoldable pub asymPair : Gram → List (List ℕ) → List ℕ → List ℕ → ℕ → ℕ → Sight
-asymPair g rows s m p b = keptRun s m p b (cell rows b 3) Asymmetric (cell rows b 4) (asymTurn g s (cell rows b 2 % 256)) (find (other (is b)) s p)
+asymPair g rows s m p b = keptRun s m p b (cell rows b 3) Asymmetric (cell rows b 4) (asymTurn g s (cell rows b 2 % 256)) (afterRun b s p)
 
 -- a byte at p that opens no fence, by the rows and a memory
 abbrev pub inlineBy : Gram → List (List ℕ) → List ℕ → List ℕ → ℕ → Sight

@@ -6,7 +6,7 @@ use mathlib.Core.List.{List, map}
 use Prim.Native.Nat.{ℕ, _+_, _-_, _%_}
 use lib.Dec.{eqb, ltb}
 use lib.ListN.{length, getD}
-use Rattle.search.specs.Search.{find, is, other, back, firstPlace, lineEnd, nextLine}
+use Rattle.search.specs.Search.{find, afterRun, is, back, firstPlace, lineEnd, nextLine}
 use Rattle.lines.specs.Paragraph.{nextIn}
 use Rattle.common.specs.Turn.{Turn, go, stop, found, firstTurn, allFound}
 use Rattle.lines.specs.declared.fence_tests.Hit.{Hit}
@@ -48,7 +48,7 @@ symRun count q t = cond (eqb (t - q) count) (found t t) (go t)
 
 -- an escaped byte is passed alone, so that the rest of its run is judged as a run of its own: `` `\`` `` with a backtick and count 1 is 0-4
 abbrev pub symAfter : Gram → List ℕ → ℕ → ℕ → Hit → Turn ℕ
-symAfter g s b count (At q) = cond (escaped g s q) (go (q + 1)) (symRun count q (find (other (is b)) s q))
+symAfter g s b count (At q) = cond (escaped g s q) (go (q + 1)) (symRun count q (afterRun b s q))
 symAfter g s b count (End u) = stop u
 
 unfoldable pub symTurn : Gram → List ℕ → ℕ → ℕ → ℕ → Turn ℕ
@@ -75,8 +75,8 @@ openPair g s p count k i close r = cond (escaped g s p) (go (p + 1)) (cond (eqb 
 -- a byte b at p that opens no fence, by its inline rule
 unfoldable pub inline : Gram → List ℕ → ℕ → ℕ → Rule → Turn Caused
 inline g s p b plain = go (p + 1)
-inline g s p b (sym i count) = openPair g s p count Symmetric i (symTurn g s b count) (find (other (is b)) s p)
-inline g s p b (asym i c count) = openPair g s p count Asymmetric i (asymTurn g s c) (find (other (is b)) s p)
+inline g s p b (sym i count) = openPair g s p count Symmetric i (symTurn g s b count) (afterRun b s p)
+inline g s p b (asym i c count) = openPair g s p count Asymmetric i (asymTurn g s c) (afterRun b s p)
 
 -- ---- a turn: the next byte searched for, "a fence at a line start goes first … a failed fence falls to the inline rule"
 abbrev pub regionAt : Gram → List ℕ → ℕ → Turn Caused
