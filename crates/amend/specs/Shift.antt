@@ -10,7 +10,7 @@ use lib.Dec.{ltb}
 use lib.ListN.{length, getD, length-append}
 use lib.Seq.{getD-append-add}
 use borrow.Author.Tests.{ltb-true}
-use Rattle.search.specs.Search.{find, is, other, back, firstPlace, lineEnd, nextLine}
+use Rattle.search.specs.Search.{find, is, other, back, firstPlace, afterLine}
 use Rattle.search.specs.SearchLaws.{holds-shift, first-move, find-le, find-shift, back-shift, Ends}
 use Rattle.lines.specs.Paragraph.{endsAt, paragraphEnd, hitAt, nextIn}
 use Rattle.common.specs.Turn.{Turn, go, stop, found, allFound, moveT}
@@ -52,7 +52,7 @@ module _ (g : Gram) (lines : Linewise (g .eol) (g .fences)) (a b : List ℕ) (en
   shut-shift p =
       let t = g .fences .shuts (getD b p 0) (g .fences .size b p) in
       simp (getD-append-add, lines .size .behind a b ends, find-shift, length-append, add-assoc, min-up)
-      (first-move (t b) (t (a ++ b)) (length a) (nextLine (length b) (lineEnd (g .eol) b p)) (length b) (λ j h l. lines .shuts (getD b p 0) (g .fences .size b p) .behind a b ends j))
+      (first-move (t b) (t (a ++ b)) (length a) (afterLine (g .eol) b p) (length b) (λ j h l. lines .shuts (getD b p 0) (g .fences .size b p) .behind a b ends j))
 
   fencedTo-shift : (p : ℕ) (t : Bool) (q : ℕ) → fencedTo g (a ++ b) (length a + p) t (length a + q) ≡ Moved (fencedTo g b p t q)
   unfolding Moved

@@ -13,7 +13,7 @@ use lib.ListN.{length, getD, take, drop, length-append, length-take, length-drop
 use lib.Seq.{take-all, drop-nil, take-take, drop-cons, getD-take, length-take-le}
 use borrow.Author.Tests.{ltb-true, ltb-false, lt-ltb, le-ltb}
 use Rattle.search.specs.Promise.{Steps}
-use Rattle.search.specs.Search.{is, holds, find, lineStart, lineEnd}
+use Rattle.search.specs.Search.{is, holds, find, lineStart, lineEnd, afterLine}
 use Rattle.search.specs.SearchLaws.{decide, find-ge, find-le, find-before, find-at, clash, holds-in, line-one, line-next}
 use Rattle.common.specs.Refusals.{Outcome, spanBack, toldSpan}
 use Rattle.common.specs.Items.{stepFor}
@@ -26,7 +26,7 @@ use Rattle.cont.specs.declared.ContStep.{ContStep}
 use Rattle.cont.specs.Frames.{frame, lineMarks, depth, frames}
 use Rattle.common.specs.Entry.{putAt}
 use Rattle.common.specs.EntryLaws.{length-put, put-front}
-use Rattle.cont.specs.Cont.{fresh, framingOf, closedFrames, Stand, stand, FrameTurn, go, close, stop, kept, newMarks, afterLine, closeFrom, openWith, turnOnLine, turnWithOpen, turnWithNone, nextTurn, Shut, thenShut, shutWithin, firstShut, standing, drained, refilled, drainedOr, drainedOrEnd, stepped, answer, state}
+use Rattle.cont.specs.Cont.{fresh, framingOf, closedFrames, Stand, stand, FrameTurn, go, close, stop, kept, newMarks, closeFrom, openWith, turnOnLine, turnWithOpen, turnWithNone, nextTurn, Shut, thenShut, shutWithin, firstShut, standing, drained, refilled, drainedOr, drainedOrEnd, stepped, answer, state}
 use Rattle.cont.specs.MarkLaws.{marks-take, marks-few, marks-none}
 use Rattle.cont.specs.Steps.{Served, Kept, toldStep}
 use Rattle.cont.specs.TurnLaws.{closing-length}
@@ -133,7 +133,7 @@ module _ (m : Framing) (s : List ℕ) (nests : m .cap ≤ 32) where
       c = kept m s p n
 
       a : ℕ
-      a = afterLine m s p
+      a = afterLine (m .eol) s p
 
       moves : p < a
       moves = omega (arith, find-ge (is (m .eol)) s p)

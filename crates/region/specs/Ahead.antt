@@ -7,7 +7,7 @@ use native.Mathlib.Omega.{arith}
 use lib.Dec.{eqb, ltb}
 use lib.ListN.{length, getD}
 use borrow.Author.Tests.{ltb-true, eq-eqb}
-use Rattle.search.specs.Search.{find, is, other, lineEnd, nextLine}
+use Rattle.search.specs.Search.{find, is, other, afterLine}
 use Rattle.search.specs.SearchLaws.{clash, and-true, is-yes, is-true, other-no, find-ge, find-le, find-next, find-at, first-ge, first-le}
 use Rattle.common.specs.Entry.{Shaped}
 use Rattle.common.specs.ItemLaws.{both}
@@ -62,7 +62,7 @@ module _ (g : Gram) (s : List ℕ) where
   pub shut-low : (p : ℕ) → p < length s → p < shutPlace g s p
   unfolding shutPlace
   shut-low p h =
-      omega (arith, find-ge (is (g .eol)) s p, first-ge (g .fences .shuts (getD s p 0) (g .fences .size s p) s) (nextLine (length s) (lineEnd (g .eol) s p)) (length s))
+      omega (arith, find-ge (is (g .eol)) s p, first-ge (g .fences .shuts (getD s p 0) (g .fences .size s p) s) (afterLine (g .eol) s p) (length s))
 
   fenced-ahead : (q p : ℕ) → q ≤ p → p < length s → Ahead (Far (length s)) q (length s) (fenced g s p)
   fenced-ahead q p h l = by (ltb (shutPlace g s p) (length s)) refl

@@ -6,7 +6,7 @@ use mathlib.Core.List.{List, map}
 use Prim.Native.Nat.{ℕ, _+_, _-_, _%_}
 use lib.Dec.{eqb, ltb}
 use lib.ListN.{length, getD}
-use Rattle.search.specs.Search.{find, afterRun, is, back, firstPlace, lineEnd, nextLine}
+use Rattle.search.specs.Search.{find, afterRun, is, back, firstPlace, lineEnd, afterLine}
 use Rattle.lines.specs.Paragraph.{nextIn}
 use Rattle.common.specs.Turn.{Turn, go, stop, found, firstTurn, allFound}
 use Rattle.lines.specs.declared.fence_tests.Hit.{Hit}
@@ -19,12 +19,12 @@ use Rattle.region.specs.declared.Cause.the-variants.{Fence, Symmetric, A
 -- ---- fences
 -- the place of the first later line that closes the fence opened at p, else the text's end
 unfoldable pub shutPlace : Gram → List ℕ → ℕ → ℕ
-shutPlace g s p = firstPlace (g .fences .shuts (getD s p 0) (g .fences .size s p) s) (nextLine (length s) (lineEnd (g .eol) s p)) (length s)
+shutPlace g s p = firstPlace (g .fences .shuts (getD s p 0) (g .fences .size s p) s) (afterLine (g .eol) s p) (length s)
 
 -- "its region ends before the closing line's line end"; where no line closes it, at the text's end
 -- (the scan goes on behind that line end: `~\n~\n>` with minimum 1 and an opener that is the line end is 0-3 alone)
 abbrev pub fencedTo : Gram → List ℕ → ℕ → Bool → ℕ → Turn Caused
-fencedTo g s p true q = found (caused Fence (g .fenceIndex (getD s p 0)) true p (lineEnd (g .eol) s q)) (nextLine (length s) (lineEnd (g .eol) s q))
+fencedTo g s p true q = found (caused Fence (g .fenceIndex (getD s p 0)) true p (lineEnd (g .eol) s q)) (afterLine (g .eol) s q)
 fencedTo g s p false q = found (caused Fence (g .fenceIndex (getD s p 0)) false p (length s)) (length s)
 
 abbrev pub fenced : Gram → List ℕ → ℕ → Turn Caused

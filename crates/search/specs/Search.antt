@@ -77,3 +77,7 @@ lineEnd eol s p = find (is eol) s p
 -- the place after a line's end e, in a text of a length
 abbrev pub nextLine : ℕ → ℕ → ℕ
 nextLine len e = min (e + 1) len
+
+-- the place after the line that p is in: just after its line end, else the text's end
+abbrev pub afterLine : ℕ → List ℕ → ℕ → ℕ
+afterLine eol s p = nextLine (length s) (lineEnd eol s p)
