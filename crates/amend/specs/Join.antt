@@ -24,7 +24,7 @@ use Rattle.region.specs.declared.Cause.{Cause}
 use Rattle.region.specs.declared.Cause.the-variants.{Symmetric, Asymmetric}
 use Rattle.region.specs.Region.{Region, Caused, up, reaches}
 use Rattle.rules.specs.Grammar.{Rule, plain, sym, asym, Gram}
-use Rattle.region.specs.Regions.{shutPlace, fencedTo, fenced, oddBefore, escaped, nextOf, symAfter, symTurn, asymAfter, asymTurn, pairOf, openPair, inline, regionAt, regionTurn, regions}
+use Rattle.region.specs.Regions.{shutPlace, fencedTo, fenced, oddBefore, escaped, nextOf, symAfter, symTurn, asymAfter, asymTurn, pairOf, openPair, inline, regionAt, regionTurn, regionsFrom, regions}
 use Rattle.region.specs.Ahead.{Lies, Meets, Met, next-met, symTurn-ahead, asymTurn-ahead, regionTurn-ahead}
 use Rattle.amend.specs.Local.{Linewise, FreeLineEnd}
 use Rattle.amend.specs.LocalLaws.{find-either, line-in, line-same}
@@ -340,7 +340,7 @@ module _ (g : Gram) (lines : Linewise (g .eol) (g .fences)) (a b : List ℕ) (tw
 
     -- either no region of a reaches its end, and the regions of both are those of a and then those of b, moved up; or one does, in both
     pub regions-decided : Decided (length a) (regions g a) (regions g (a ++ b)) (up (length a) (regions g b))
-    unfolding regions
+    unfolding regions regionsFrom
     regions-decided =
         subst (λ (l : List Caused). Decided (length a) (regions g a) (regions g (a ++ b)) l) (regions-shift g lines a b ends (back-after (g .escape) (g .eol) a ends (apart .escape)))
         (collect-decides (regionTurn-ahead g a) (regionTurn-ahead g (a ++ b)) longer regionTurn-decides (suc (length a)) 0 (omega arith) (omega arith))

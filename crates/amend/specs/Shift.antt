@@ -23,7 +23,7 @@ use Rattle.region.specs.declared.Cause.{Cause}
 use Rattle.region.specs.declared.Cause.the-variants.{Symmetric, Asymmetric}
 use Rattle.region.specs.Region.{Caused, move, up}
 use Rattle.rules.specs.Grammar.{Rule, plain, sym, asym, Gram}
-use Rattle.region.specs.Regions.{shutPlace, fencedTo, fenced, oddBefore, escaped, nextOf, symAfter, symTurn, asymAfter, asymTurn, pairOf, openPair, inline, regionAt, regionFrom, regionTurn, regions}
+use Rattle.region.specs.Regions.{shutPlace, fencedTo, fenced, oddBefore, escaped, nextOf, symAfter, symTurn, asymAfter, asymTurn, pairOf, openPair, inline, regionAt, regionFrom, regionTurn, regionsFrom, regions}
 use Rattle.region.specs.Ahead.{Meets, symTurn-ahead, asymTurn-ahead, regionTurn-ahead}
 use Rattle.amend.specs.Local.{Linewise}
 use Rattle.amend.specs.Places.{ltb-up, leb-up, sub-up, min-up}
@@ -136,8 +136,8 @@ module _ (g : Gram) (lines : Linewise (g .eol) (g .fences)) (a b : List ℕ) (en
       by false u = simp (find-shift, test, u)
 
   -- the regions from the end of a on
-  pub regions-shift : allFound (regionTurn g (a ++ b)) (length (a ++ b)) (length a) ≡ up (length a) (regions g b)
-  unfolding regions Moved
+  pub regions-shift : regionsFrom g (a ++ b) (length a) ≡ up (length a) (regions g b)
+  unfolding regions regionsFrom Moved
   regions-shift =
       ap (allFound (regionTurn g (a ++ b)) (length (a ++ b))) (inv (add-zero (length a)))
       ∙ allFound-move (regionTurn-ahead g b) (move (λ x. length a + x)) (regionTurn g (a ++ b)) (length a) regionTurn-shift (length (a ++ b)) 0 (omega (arith, length-append a b)) (omega arith)

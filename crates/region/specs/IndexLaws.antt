@@ -23,7 +23,7 @@ use Rattle.lines.specs.declared.fence_tests.Hit.the-variants.{At, End}
 use Rattle.region.specs.declared.Cause.{Cause}
 use Rattle.region.specs.declared.Cause.the-variants.{Fence, Symmetric, Asymmetric}
 use Rattle.region.specs.Region.{Caused, Origin, retag}
-use Rattle.region.specs.Regions.{shutPlace, fencedTo, fenced, escaped, nextOf, symAfter, symTurn, asymAfter, asymTurn, pairOf, openPair, inline, regionAt, regionTurn, regions}
+use Rattle.region.specs.Regions.{shutPlace, fencedTo, fenced, escaped, nextOf, symAfter, symTurn, asymAfter, asymTurn, pairOf, openPair, inline, regionAt, regionTurn, regionsFrom, regions}
 use Rattle.region.specs.Ahead.{regionTurn-ahead}
 
 -- the rule that made a region, where fence rule i stands at h i
@@ -110,7 +110,7 @@ module _ (h : ℕ → ℕ) where
 
     -- the regions by rules at other indices are the regions, each with its rule's other index
     pub regions-reindexed : regions (reindexed h g) s ≡ map (retag (reindex h)) (regions g s)
-    unfolding Retold regions
+    unfolding Retold regions regionsFrom
     regions-reindexed = rw zero-add at (allFound-move (regionTurn-ahead g s) (retag (reindex h)) (regionTurn (reindexed h g) s) 0 (λ q i. turn-retold q) (length s) 0 (omega arith) (omega arith))
 
 -- what is written of regions and says nothing of the rules that made them is the same

@@ -24,6 +24,7 @@ use Rattle.region.specs.Sight.{Sight, turned, lost}
 use Rattle.region.specs.Views.{viewTurn, FoundRegion, viewNext, foundRegion}
 use Rattle.region.specs.Memory.{keptPair, keptInline, keptTurn, Remembered, thenKept, keptScan, keptNext, KeptNext}
 use Rattle.region.specs.Ahead.{Lies, run-past, regionTurn-ahead}
+use Rattle.region.specs.NextLaws.{turn-found}
 use Rattle.region.specs.Dead.{OutsideRun, asym-dead, sym-dead}
 use Rattle.region.specs.declared.Cause.{Cause}
 use Rattle.region.specs.declared.Cause.the-variants.{Symmetric, Asymmetric}
@@ -215,11 +216,6 @@ module _ (g : Gram) (s : List ℕ) where
           absurd (omega arith)
       by c k l o a (inr x) y = w .vain c k (omega arith) (omega (arith, getD-set-other m b c u 0 (eqb-false c b x))) a
 
-  -- the turn that an answer of one region tells
-  turnOf : List FoundRegion → Turn Caused
-  turnOf [] = stop 0
-  turnOf (p ∷ l) = found (p .region) (p .next)
-
   -- by such a memory the next region is found, and it is such a memory behind it
   record Truly (m : List ℕ) (q : ℕ) (t : Turn Caused) (k : Remembered) : Type 0 where
     same : k .turn ≡ t
@@ -250,14 +246,8 @@ module _ (g : Gram) (s : List ℕ) where
         none (found a n) x l z = let y : _≡_ {A = ℕ} 0 1 = cc in absurd (omega arith)
 
     pub keeps-sound : (r : Told) (n : ℕ) → d ≡ next.Region r n → Sound g s m′ n
-    unfolding turnOf
     keeps-sound r n e =
-        subst (λ (x : List ℕ). Sound g s x n) (inv (k .memory)) (kept-true (suc (length s)) m q h w .on (regionOf r) n (one (keptNext g s m q .turn) (inv (ap viewNext e) ∙ k .answer)))
-      where
-        one : (t : Turn Caused) → record { region = regionOf r; next = n } ∷ [] ≡ foundRegion t → t ≡ found (regionOf r) n
-        one (go m) e = let z : _≡_ {A = ℕ} 0 1 = cc in absurd (omega arith)
-        one (stop v) e = let z : _≡_ {A = ℕ} 0 1 = cc in absurd (omega arith)
-        one (found a m) e = inv (ap turnOf e)
+        subst (λ (x : List ℕ). Sound g s x n) (inv (k .memory)) (kept-true (suc (length s)) m q h w .on (regionOf r) n (turn-found (regionOf r) n (keptNext g s m q .turn) (inv (ap viewNext e) ∙ k .answer)))
 
 -- ---- a view is of one answer: the answer is read back from it
 toldOf : Caused → Told

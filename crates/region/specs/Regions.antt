@@ -92,9 +92,13 @@ regionTurn g s q = regionFrom g s q (find (g .trigger) s q)
 abbrev pub nextRegion : Gram → List ℕ → ℕ → Turn Caused
 nextRegion g s q = firstTurn (regionTurn g s) (length s) q
 
+-- the regions of a text from a place on
+unfoldable pub regionsFrom : Gram → List ℕ → ℕ → List Caused
+regionsFrom g s q = allFound (regionTurn g s) (length s) q
+
 -- all regions of a text, each with the rule that made it
 unfoldable pub regions : Gram → List ℕ → List Caused
-regions g s = allFound (regionTurn g s) (length s) 0
+regions g s = regionsFrom g s 0
 
 -- the same, with what f says of the rules
 abbrev pub tagged : {T : Type 0} → (Origin → T) → Gram → List ℕ → List (Region T)
