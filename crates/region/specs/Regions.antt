@@ -6,9 +6,11 @@ use mathlib.Core.List.{List, map}
 use Prim.Native.Nat.{ℕ, _+_, _-_, _%_}
 use lib.Dec.{eqb, ltb}
 use lib.ListN.{length, getD}
-use Rattle.search.specs.Search.{find, afterRun, is, back, firstPlace, lineEnd, afterLine}
+use Rattle.search.specs.Search.{find, afterRun, is, back, firstPlace, lineEnd, nextLine, afterLine}
 use Rattle.lines.specs.Paragraph.{nextIn}
 use Rattle.common.specs.Turn.{Turn, go, stop, found, firstTurn, allFound}
+use Rattle.lines.specs.declared.fence_tests.Close.{Close}
+use Rattle.lines.specs.declared.fence_tests.Close.the-variants.{Closed, Unclosed}
 use Rattle.lines.specs.declared.fence_tests.Hit.{Hit}
 use Rattle.lines.specs.declared.fence_tests.Hit.the-variants.{At, End}
 use Rattle.region.specs.Region.{Caused, caused, Region, Origin, retag}
@@ -21,11 +23,17 @@ use Rattle.region.specs.declared.Cause.the-variants.{Fence, Symmetric, A
 unfoldable pub shutPlace : Gram → List ℕ → ℕ → ℕ
 shutPlace g s p = firstPlace (g .fences .shuts (getD s p 0) (g .fences .size s p) s) (afterLine (g .eol) s p) (length s)
 
--- "its region ends before the closing line's line end"; where no line closes it, at the text's end
+-- a fence of rule i that opened at p, by what the search for its close said: "its region ends before the closing line's line end"; where no
+-- line closes it, at the text's end
 -- (the scan goes on behind that line end: `~\n~\n>` with minimum 1 and an opener that is the line end is 0-3 alone)
+abbrev pub closedBy : List ℕ → ℕ → ℕ → Close → Turn Caused
+closedBy s p i (Closed q e) = found (caused Fence i true p e) (nextLine (length s) e)
+closedBy s p i Unclosed = found (caused Fence i false p (length s)) (length s)
+
+-- the fence that opens at p, by whether a line closes it, which begins at q
 abbrev pub fencedTo : Gram → List ℕ → ℕ → Bool → ℕ → Turn Caused
-fencedTo g s p true q = found (caused Fence (g .fenceIndex (getD s p 0)) true p (lineEnd (g .eol) s q)) (afterLine (g .eol) s q)
-fencedTo g s p false q = found (caused Fence (g .fenceIndex (getD s p 0)) false p (length s)) (length s)
+fencedTo g s p true q = closedBy s p (g .fenceIndex (getD s p 0)) (Closed q (lineEnd (g .eol) s q))
+fencedTo g s p false q = closedBy s p (g .fenceIndex (getD s p 0)) Unclosed
 
 abbrev pub fenced : Gram → List ℕ → ℕ → Turn Caused
 fenced g s p = fencedTo g s p (ltb (shutPlace g s p) (length s)) (shutPlace g s p)
