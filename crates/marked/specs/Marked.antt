@@ -3,7 +3,7 @@
 use mathlib.Core.Path.{refl}
 use Rattle.search.specs.Search.{is, either, oneOf, other, holds, firstOf, firstPlace, find, back, lineStart, digit}
 use Rattle.lines.specs.Fences.{opensLine, closesTo, closing}
-use Rattle.lines.specs.Reader.{reader}
+use Rattle.lines.specs.Reader.{shuts, reader}
 use Rattle.lines.specs.Paragraph.{endsAt, paragraphEnd, nextIn}
 use Rattle.common.specs.Turn.{scan, collect, gather}
 use Rattle.region.specs.Regions.{shutPlace, oddBefore, symTurn, asymTurn, inline, regionTurn, regionsFrom, regions}
@@ -20,5 +20,5 @@ use Rattle.amend.specs.Amended.{regionsIn, amendedRegions, offJoint, leftOpen, 
 use Rattle.marked.specs.Page.{All, page}
 
 pub marked : All page
-unfolding is either oneOf other holds firstOf firstPlace find back lineStart opensLine closesTo closing reader endsAt paragraphEnd nextIn scan collect shutPlace oddBefore symTurn asymTurn inline regionTurn regionsFrom regions searched openRule symRule begins opens closes closeEnd nextFence fences leading beyond itemAt itemsOf digit valuedFrom numberLine markAt afterMark marksFrom lineMarks openStart ending frames gather reaches keepBefore keepFrom joint regionsIn amendedRegions misshapen offJoint leftOpen judged settledAnswer amendedAnswer
+unfolding is either oneOf other holds firstOf firstPlace find back lineStart opensLine closesTo closing shuts reader endsAt paragraphEnd nextIn scan collect shutPlace oddBefore symTurn asymTurn inline regionTurn regionsFrom regions searched openRule symRule begins opens closes closeEnd nextFence fences leading beyond itemAt itemsOf digit valuedFrom numberLine markAt afterMark marksFrom lineMarks openStart ending frames gather reaches keepBefore keepFrom joint regionsIn amendedRegions misshapen offJoint leftOpen judged settledAnswer amendedAnswer
 marked = (refl, (refl, (refl, (refl, (refl, (refl, (refl, (refl, (refl, (refl, (refl, (refl, (refl, (refl, (refl, (refl, (refl, (refl, (record { answer = refl; list = refl }, (record { answer = refl; list = refl }, (record { answer = refl; list = refl }, (record { answer = refl; list = refl }, (refl, (record { answer = refl; list = refl }, tt))))))))))))))))))))))))
