@@ -29,7 +29,7 @@ use Rattle.block_numbered.specs.declared.DigitRun.{DigitRun}
 abbrev pub oneToNine : ℕ → Bool
 oneToNine n = ltb 0 n && leb n 9
 
--- as many digits as there are, if they are at most nine
+-- as many digits as there are, if they are at most nine, else 0
 abbrev pub few : ℕ → ℕ
 few n = cond (leb n 9) n 0
 
