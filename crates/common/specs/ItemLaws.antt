@@ -244,22 +244,23 @@ pub record Led (g : ItemGrammar) (s : List ℕ) (a p : ℕ) : Type 0 where
 
 -- it is what a search up to the line's end finds
 module _ (g : ItemGrammar) (s : List ℕ) (a : ℕ) (h : a ≤ length s) (p : ℕ) (l : p < lineEnd (g .eol) s a) where
-  abbrev front : List ℕ
-  front = take (lineEnd (g .eol) s a) s
+  -- the text up to that end
+  abbrev upToEnd : List ℕ
+  upToEnd = take (lineEnd (g .eol) s a) s
 
-  pub led : lineStart (g .eol) s a ≡ true → find (other (blank g)) front a ≡ p → Led g s a p
+  pub led : lineStart (g .eol) s a ≡ true → find (other (blank g)) upToEnd a ≡ p → Led g s a p
   led b f = record {
     begins = b;
-    low = omega (arith, find-ge (other (blank g)) front a);
-    blanks = λ j i m. sym (ap (blank g) (getD-take (lineEnd (g .eol) s a) s j 0 (omega arith))) ∙ other-false (blank g) (getD front j 0) (find-before (other (blank g)) front a j i (omega arith));
+    low = omega (arith, find-ge (other (blank g)) upToEnd a);
+    blanks = λ j i m. sym (ap (blank g) (getD-take (lineEnd (g .eol) s a) s j 0 (omega arith))) ∙ other-false (blank g) (getD upToEnd j 0) (find-before (other (blank g)) upToEnd a j i (omega arith));
     solid =
         sym (ap (blank g) (getD-take (lineEnd (g .eol) s a) s p 0 l))
-        ∙ other-true (blank g) (getD front p 0) (rw f at (find-at (other (blank g)) front a (omega (arith, line-length (g .eol) s a h))));
+        ∙ other-true (blank g) (getD upToEnd p 0) (rw f at (find-at (other (blank g)) upToEnd a (omega (arith, line-length (g .eol) s a h))));
   }
 
-  pub led-find : Led g s a p → find (other (blank g)) front a ≡ p
+  pub led-find : Led g s a p → find (other (blank g)) upToEnd a ≡ p
   led-find w =
-      find-is (other (blank g)) front a p (w .low) (omega (arith, line-length (g .eol) s a h))
+      find-is (other (blank g)) upToEnd a p (w .low) (omega (arith, line-length (g .eol) s a h))
       (λ j i m. ap (other (blank g)) (getD-take (lineEnd (g .eol) s a) s j 0 (omega arith)) ∙ other-no (blank g) (getD s j 0) (w .blanks j i m))
       (ap (other (blank g)) (getD-take (lineEnd (g .eol) s a) s p 0 l) ∙ other-yes (blank g) (getD s p 0) (w .solid))
 

@@ -145,11 +145,11 @@ short-part : (least a b j : ℕ) → a ≤ b → leb least (runCount a j) ≡ fa
 short-part least a b j h e = lt-leb least (runCount b j) (omega (arith, leb-false least (runCount a j) e))
 
 -- the test of a closing run
-abbrev shuts : FenceIter → ℕ → List ℕ → ℕ → ℕ → ℕ → Bool
-shuts g count s q j e = closesRun (either (g .sep) (g .tab)) count s q j e
+abbrev locks : FenceIter → ℕ → List ℕ → ℕ → ℕ → ℕ → Bool
+locks g count s q j e = closesRun (either (g .sep) (g .tab)) count s q j e
 
-shuts-parts : (g : FenceIter) (count : ℕ) (s : List ℕ) → PartsRuns (shuts g count s)
-shuts-parts g count s a b j e h =
+locks-parts : (g : FenceIter) (count : ℕ) (s : List ℕ) → PartsRuns (locks g count s)
+locks-parts g count s a b j e h =
     let y = leb e (find (other (either (g .sep) (g .tab))) s j) in
     and-fewer (leb count (runCount a j)) (leb count (runCount b j)) y y (short-part count a b j h) (λ z. z)
 
@@ -199,7 +199,7 @@ module _ (g : FenceIter) (count : ℕ) (s : List ℕ) where
   module _ (from q : ℕ) (hq : Sought (is (g .byte)) s from q) where
     pub close-none : length s ≤ q → CloseTurned g count s from (close.End (length s))
     unfolding CloseTurned closes
-    close-none l = close-past from (first-gone g s (shuts g count s) (shuts-parts g count s) from q hq l)
+    close-none l = close-past from (first-gone g s (locks g count s) (locks-parts g count s) from q hq l)
 
     module _ (inside : q < length s) (y : Bool) (hy : Gives (lineStart (g .eol) s q) y) where
       pub close-skip : y ≡ false → CloseTurned g count s from (close.Go (q + 1))
@@ -207,16 +207,16 @@ module _ (g : FenceIter) (count : ℕ) (s : List ℕ) where
       close-skip e = (
         omega (arith, hq .low),
         omega arith,
-        close-at from (q + 1) (first-skip g s (shuts g count s) (shuts-parts g count s) from q hq inside (sym (hy .answer) ∙ e)),
+        close-at from (q + 1) (first-skip g s (locks g count s) (locks-parts g count s) from q hq inside (sym (hy .answer) ∙ e)),
       )
 
       -- its run ends at j, its line at e, and n is the place after it
       module _ (start : y ≡ true) (j : ℕ) (hj : Sought (other (is (g .byte))) s q j) (e : ℕ) (he : Sought (is (g .eol)) s j e) (n : ℕ) (hn : Gives (nextLine (length s) e) n) (c : ℕ) (hc : Gives (runCount q j) c) where
-        close-miss : shuts g count s q (wholeRunEnd g s q) (runLine g s q) ≡ false → CloseTurned g count s from (close.Go n)
+        close-miss : locks g count s q (wholeRunEnd g s q) (runLine g s q) ≡ false → CloseTurned g count s from (close.Go n)
         unfolding CloseTurned closes
         close-miss f =
             let z : n ≡ afterRunLine g s q = hn .answer ∙ ap (nextLine (length s)) (he .here ∙ ap (lineEnd (g .eol) s) (hj .here)) in
-            (omega (arith, hq .low, hj .low, he .low, hn .answer), omega (arith, hn .answer), rw z (close-at from (afterRunLine g s q) (first-miss g s (shuts g count s) (shuts-parts g count s) from q hq inside f)))
+            (omega (arith, hq .low, hj .low, he .low, hn .answer), omega (arith, hn .answer), rw z (close-at from (afterRunLine g s q) (first-miss g s (locks g count s) (locks-parts g count s) from q hq inside f)))
 
         pub close-short : c < count → CloseTurned g count s from (close.Go n)
         close-short l = close-miss (simp (← (hj .here), ← (hc .answer), lt-leb count c l))
@@ -229,7 +229,7 @@ module _ (g : FenceIter) (count : ℕ) (s : List ℕ) where
         close-found l z k hz =
             hn .answer
             ∙ ap (nextLine (length s)) (he .here ∙ ap (lineEnd (g .eol) s) (hj .here))
-            ∙ close-on from q (first-meet g s (shuts g count s) (shuts-parts g count s) from q hq inside (sym (hy .answer) ∙ start) (simp (← (hj .here), ← (hc .answer), le-leb count c l, ← (he .here), ← (hz .answer), k))) inside
+            ∙ close-on from q (first-meet g s (locks g count s) (locks-parts g count s) from q hq inside (sym (hy .answer) ∙ start) (simp (← (hj .here), ← (hc .answer), le-leb count c l, ← (he .here), ← (hz .answer), k))) inside
 
 pub ruleset close-turn-rules = (close-none, close-skip, close-short, close-text, close-found)
 
