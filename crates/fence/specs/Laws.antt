@@ -19,7 +19,7 @@ use Rattle.common.specs.Turning.{Ahead, Adv}
 use Rattle.common.specs.Items.{said, placeOf}
 use Rattle.common.specs.ItemLaws.{step-long, step-past, step-seen}
 use Rattle.fence.specs.Fence.{Fence, at, wholeRunEnd, runLine, afterRunLine, begins, closes, spanEnd, closeEnd, fenceAt, openLine, openTurn, rests, firstOpen, answer, state}
-use Rattle.fence.specs.Steps.{CloseTurned, Kept}
+use Rattle.fence.specs.Steps.{EndTurned, Kept}
 use Rattle.fence.specs.declared.FenceIter.{FenceIter}
 use Rattle.fence.specs.declared.FenceStep.{FenceStep}
 use Rattle.fence.specs.declared.CloseTurn.{CloseTurn}
@@ -197,13 +197,13 @@ module _ (g : FenceIter) (count : ℕ) (s : List ℕ) where
 
   -- the ways out of a turn: q is the next fence byte
   module _ (from q : ℕ) (hq : Sought (is (g .byte)) s from q) where
-    pub close-none : length s ≤ q → CloseTurned g count s from (close.End (length s))
-    unfolding CloseTurned closes
+    pub close-none : length s ≤ q → EndTurned g count s from (close.End (length s))
+    unfolding EndTurned closes
     close-none l = close-past from (first-gone g s (locks g count s) (locks-parts g count s) from q hq l)
 
     module _ (inside : q < length s) (y : Bool) (hy : Gives (lineStart (g .eol) s q) y) where
-      pub close-skip : y ≡ false → CloseTurned g count s from (close.Go (q + 1))
-      unfolding CloseTurned closes
+      pub close-skip : y ≡ false → EndTurned g count s from (close.Go (q + 1))
+      unfolding EndTurned closes
       close-skip e = (
         omega (arith, hq .low),
         omega arith,
@@ -212,20 +212,20 @@ module _ (g : FenceIter) (count : ℕ) (s : List ℕ) where
 
       -- its run ends at j, its line at e, and n is the place after it
       module _ (start : y ≡ true) (j : ℕ) (hj : Sought (other (is (g .byte))) s q j) (e : ℕ) (he : Sought (is (g .eol)) s j e) (n : ℕ) (hn : Gives (nextLine (length s) e) n) (c : ℕ) (hc : Gives (runCount q j) c) where
-        close-miss : locks g count s q (wholeRunEnd g s q) (runLine g s q) ≡ false → CloseTurned g count s from (close.Go n)
-        unfolding CloseTurned closes
+        close-miss : locks g count s q (wholeRunEnd g s q) (runLine g s q) ≡ false → EndTurned g count s from (close.Go n)
+        unfolding EndTurned closes
         close-miss f =
             let z : n ≡ afterRunLine g s q = hn .answer ∙ ap (nextLine (length s)) (he .here ∙ ap (lineEnd (g .eol) s) (hj .here)) in
             (omega (arith, hq .low, hj .low, he .low, hn .answer), omega (arith, hn .answer), rw z (close-at from (afterRunLine g s q) (first-miss g s (locks g count s) (locks-parts g count s) from q hq inside f)))
 
-        pub close-short : c < count → CloseTurned g count s from (close.Go n)
+        pub close-short : c < count → EndTurned g count s from (close.Go n)
         close-short l = close-miss (simp (← (hj .here), ← (hc .answer), lt-leb count c l))
 
-        pub close-text : (z : Bool) → z ≡ false → Gives (leb e (find (other (either (g .sep) (g .tab))) s j)) z → CloseTurned g count s from (close.Go n)
+        pub close-text : (z : Bool) → z ≡ false → Gives (leb e (find (other (either (g .sep) (g .tab))) s j)) z → EndTurned g count s from (close.Go n)
         close-text z k hz = close-miss (simp (← (hj .here), ← (he .here), ← (hz .answer), k, and-false))
 
-        pub close-found : count ≤ c → (z : Bool) → z ≡ true → Gives (leb e (find (other (either (g .sep) (g .tab))) s j)) z → CloseTurned g count s from (close.End n)
-        unfolding CloseTurned closes
+        pub close-found : count ≤ c → (z : Bool) → z ≡ true → Gives (leb e (find (other (either (g .sep) (g .tab))) s j)) z → EndTurned g count s from (close.End n)
+        unfolding EndTurned closes
         close-found l z k hz =
             hn .answer
             ∙ ap (nextLine (length s)) (he .here ∙ ap (lineEnd (g .eol) s) (hj .here))
@@ -240,18 +240,18 @@ pub record FenceCloses (g : FenceIter) (count : ℕ) (s : List ℕ) (from q : �
 pub closes-first : (g : FenceIter) (count : ℕ) (s : List ℕ) (q : ℕ) → FenceCloses g count s q q
 closes-first g count s q = record { same = refl }
 
-module _ (g : FenceIter) (count : ℕ) (s : List ℕ) (from q : ℕ) (d : CloseTurn) (turned : CloseTurned g count s q d) where
+module _ (g : FenceIter) (count : ℕ) (s : List ℕ) (from q : ℕ) (d : CloseTurn) (turned : EndTurned g count s q d) where
   pub closes-less : (n : ℕ) → d ≡ close.Go n → length s - n < length s - q
-  unfolding CloseTurned
-  closes-less n e = let w = subst (CloseTurned g count s q) e turned in omega (arith, w)
+  unfolding EndTurned
+  closes-less n e = let w = subst (EndTurned g count s q) e turned in omega (arith, w)
 
   pub closes-again : (n : ℕ) → d ≡ close.Go n → FenceCloses g count s from q → FenceCloses g count s from n
-  unfolding CloseTurned
-  closes-again n e w = record { same = w .same ∙ subst (CloseTurned g count s q) e turned .2 }
+  unfolding EndTurned
+  closes-again n e w = record { same = w .same ∙ subst (EndTurned g count s q) e turned .2 }
 
   pub closes-end : (n : ℕ) → d ≡ close.End n → FenceCloses g count s from q → n ≡ closeEnd g count s from
-  unfolding CloseTurned
-  closes-end n e w = subst (CloseTurned g count s q) e turned ∙ sym (w .same)
+  unfolding EndTurned
+  closes-end n e w = subst (EndTurned g count s q) e turned ∙ sym (w .same)
 
 pub ruleset close-rules = (closes-first, closes-less, closes-again, closes-end)
 
