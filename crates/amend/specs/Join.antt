@@ -11,7 +11,7 @@ use native.Mathlib.Omega.{arith}
 use lib.Dec.{eqb, ltb}
 use lib.ListN.{length, getD, length-append, List·getD-append}
 use borrow.Author.Tests.{ltb-true, ltb-false, lt-ltb, le-ltb, lt-leb}
-use Rattle.search.specs.Search.{find, is, other, holds, firstPlace, lineEnd, nextLine}
+use Rattle.search.specs.Search.{find, is, other, holds, firstPlace, lineEnd, nextLine, afterLine}
 use Rattle.search.specs.SearchLaws.{decide, is-yes, is-no, other-yes, holds-in, holds-prefix, first-ge, first-before, first-at, first-is, first-hit, first-prefix, first-past, find-ge, find-hit, find-prefix, find-past, back-prefix, Ends, start-zero, start-pos, back-after}
 use Rattle.common.specs.ItemLaws.{both}
 use Rattle.lines.specs.Paragraph.{endsAt, paragraphEnd, nextIn}
@@ -24,7 +24,7 @@ use Rattle.region.specs.declared.Cause.{Cause}
 use Rattle.region.specs.declared.Cause.the-variants.{Symmetric, Asymmetric}
 use Rattle.region.specs.Region.{Region, Caused, up, reaches}
 use Rattle.rules.specs.Grammar.{Rule, plain, sym, asym, Gram}
-use Rattle.region.specs.Regions.{shutPlace, fencedTo, fenced, oddBefore, escaped, nextOf, symAfter, symTurn, asymAfter, asymTurn, pairOf, openPair, inline, regionAt, regionTurn, regions}
+use Rattle.region.specs.Regions.{shutPlace, fencedTo, fenced, oddBefore, escaped, nextOf, symAfter, symTurn, asymAfter, asymTurn, pairOf, openPair, inline, regionAt, regionTurn, regionsFrom, regions}
 use Rattle.region.specs.Ahead.{Lies, Meets, Met, next-met, symTurn-ahead, asymTurn-ahead, regionTurn-ahead}
 use Rattle.amend.specs.Local.{Linewise, FreeLineEnd}
 use Rattle.amend.specs.LocalLaws.{find-either, line-in, line-same}
@@ -84,7 +84,7 @@ blank-ends eol a two = by (decide (ltb 0 (length a)))
 module _ (g : Gram) (lines : Linewise (g .eol) (g .fences)) (a b : List ℕ) (ends : Ends (g .eol) a) (p : ℕ) (h : p < length a) where
   -- where its lines begin, and whether one closes it
   from : ℕ
-  from = nextLine (length a) (lineEnd (g .eol) a p)
+  from = afterLine (g .eol) a p
 
   closesFence : List ℕ → ℕ → Bool
   closesFence s q = g .fences .shuts (getD a p 0) (g .fences .size a p) s q
@@ -96,7 +96,7 @@ module _ (g : Gram) (lines : Linewise (g .eol) (g .fences)) (a b : List ℕ) (en
   shut-as : shutPlace g (a ++ b) p ≡ firstPlace (closesFence (a ++ b)) from (length (a ++ b))
   unfolding shutPlace closesFence from
   shut-as =
-      let n : nextLine (length (a ++ b)) (lineEnd (g .eol) a p) ≡ nextLine (length a) (lineEnd (g .eol) a p) = omega (arith, length-append a b, line-in (g .eol) a b ends p h) in
+      let n : nextLine (length (a ++ b)) (lineEnd (g .eol) a p) ≡ afterLine (g .eol) a p = omega (arith, length-append a b, line-in (g .eol) a b ends p h) in
       simp (List·getD-append a b 0 p h, lines .size .within a b ends p h, line-same (g .eol) a b ends p h, n)
 
   shut-same : shutPlace g a p < length a → shutPlace g (a ++ b) p ≡ shutPlace g a p
@@ -110,7 +110,7 @@ module _ (g : Gram) (lines : Linewise (g .eol) (g .fences)) (a b : List ℕ) (en
 
   fencedTo-same : (q : ℕ) → q < length a → fencedTo g (a ++ b) p true q ≡ fencedTo g a p true q
   fencedTo-same q l =
-      let n : nextLine (length (a ++ b)) (lineEnd (g .eol) a q) ≡ nextLine (length a) (lineEnd (g .eol) a q) = omega (arith, length-append a b, line-in (g .eol) a b ends q l) in
+      let n : nextLine (length (a ++ b)) (lineEnd (g .eol) a q) ≡ afterLine (g .eol) a q = omega (arith, length-append a b, line-in (g .eol) a b ends q l) in
       simp (List·getD-append a b 0 p h, line-same (g .eol) a b ends q l, n)
 
   fencedTo-over : (t : Bool) (q : ℕ) → length a ≤ q → Crosses (length a) (fencedTo g (a ++ b) p t q)
@@ -340,7 +340,7 @@ module _ (g : Gram) (lines : Linewise (g .eol) (g .fences)) (a b : List ℕ) (tw
 
     -- either no region of a reaches its end, and the regions of both are those of a and then those of b, moved up; or one does, in both
     pub regions-decided : Decided (length a) (regions g a) (regions g (a ++ b)) (up (length a) (regions g b))
-    unfolding regions
+    unfolding regions regionsFrom
     regions-decided =
         subst (λ (l : List Caused). Decided (length a) (regions g a) (regions g (a ++ b)) l) (regions-shift g lines a b ends (back-after (g .escape) (g .eol) a ends (apart .escape)))
         (collect-decides (regionTurn-ahead g a) (regionTurn-ahead g (a ++ b)) longer regionTurn-decides (suc (length a)) 0 (omega arith) (omega arith))

@@ -13,7 +13,7 @@ use Rattle.search.specs.Search.{find, is, other, either, lineEnd}
 use Rattle.search.specs.SearchLaws.{decide, holds-true, holds-prefix, holds-shift, find-ge, find-le, find-hit, find-prefix, find-past, find-shift, Ends, start-prefix, start-shift, last-byte}
 use Rattle.lines.specs.Fences.{runEnd, opensLine, closesTo, closing}
 use Rattle.common.specs.declared.grammar.Grammar.{Grammar}
-use Rattle.lines.specs.Reader.{editionOne, reader}
+use Rattle.lines.specs.Reader.{shuts, editionOne, reader}
 use Rattle.amend.specs.Local.{Local, Linewise}
 use Rattle.amend.specs.Places.{ltb-up, leb-up, sub-up, min-up}
 
@@ -74,8 +74,8 @@ module _ (g : Grammar) (has : ℕ → Bool) (least : ℕ → ℕ) where
         simp (List·getD-append a b 0 p h, line-same (g .eol) a b ends p h, run-same (g .eol) a b ends p h c, rest-same (g .eol) a b ends p h (is c) (runEnd c a p (lineEnd (g .eol) a p)) (omega arith));
   }
 
-  closing-local : (c n : ℕ) → Local (g .eol) (closing g c n)
-  unfolding closing closesTo
+  closing-local : (c n : ℕ) → Local (g .eol) (shuts g c n)
+  unfolding shuts closing closesTo
   closing-local c n = record {
     behind = λ a b ends p. simp (start-shift (g .eol) a b ends, holds-shift, find-shift, min-up, sub-up, leb-up);
     within = λ a b ends p h.

@@ -11,9 +11,9 @@ use borrow.Author.Tests.{lt-ltb}
 use Rattle.search.specs.Promise.{Gives}
 use Rattle.region.specs.Region.{Caused, regionOf, move, up, reaches, asListed}
 use Rattle.rules.specs.Grammar.{Gram}
-use Rattle.region.specs.Regions.{nextRegion, regions}
+use Rattle.region.specs.Regions.{nextRegion, regionsFrom, regions}
 use Rattle.region.specs.Views.{viewNext, foundRegion}
-use Rattle.region.specs.NextLaws.{regionsFrom, from-start, next-none, next-some, next-ahead}
+use Rattle.region.specs.NextLaws.{from-start, next-none, next-some, next-ahead}
 use Rattle.region.specs.Memory.{KeptNext}
 use Rattle.region.specs.MemoryLaws.{Sound, sound-zeros, keeps-told, keeps-sound}
 use Rattle.region.specs.LoopLaws.{Counting, counting-first, counting-told, counting-end, counting-next, counting-less}

@@ -10,7 +10,7 @@ use lib.Dec.{ltb}
 use lib.ListN.{length, getD, length-append}
 use lib.Seq.{getD-append-add}
 use borrow.Author.Tests.{ltb-true}
-use Rattle.search.specs.Search.{find, is, other, back, firstPlace, lineEnd, nextLine}
+use Rattle.search.specs.Search.{find, is, other, back, firstPlace, afterLine}
 use Rattle.search.specs.SearchLaws.{holds-shift, first-move, find-le, find-shift, back-shift, Ends}
 use Rattle.lines.specs.Paragraph.{endsAt, paragraphEnd, hitAt, nextIn}
 use Rattle.common.specs.Turn.{Turn, go, stop, found, allFound, moveT}
@@ -23,7 +23,7 @@ use Rattle.region.specs.declared.Cause.{Cause}
 use Rattle.region.specs.declared.Cause.the-variants.{Symmetric, Asymmetric}
 use Rattle.region.specs.Region.{Caused, move, up}
 use Rattle.rules.specs.Grammar.{Rule, plain, sym, asym, Gram}
-use Rattle.region.specs.Regions.{shutPlace, fencedTo, fenced, oddBefore, escaped, nextOf, symAfter, symTurn, asymAfter, asymTurn, pairOf, openPair, inline, regionAt, regionFrom, regionTurn, regions}
+use Rattle.region.specs.Regions.{shutPlace, fencedTo, fenced, oddBefore, escaped, nextOf, symAfter, symTurn, asymAfter, asymTurn, pairOf, openPair, inline, regionAt, regionFrom, regionTurn, regionsFrom, regions}
 use Rattle.region.specs.Ahead.{Meets, symTurn-ahead, asymTurn-ahead, regionTurn-ahead}
 use Rattle.amend.specs.Local.{Linewise}
 use Rattle.amend.specs.Places.{ltb-up, leb-up, sub-up, min-up}
@@ -52,7 +52,7 @@ module _ (g : Gram) (lines : Linewise (g .eol) (g .fences)) (a b : List ℕ) (en
   shut-shift p =
       let t = g .fences .shuts (getD b p 0) (g .fences .size b p) in
       simp (getD-append-add, lines .size .behind a b ends, find-shift, length-append, add-assoc, min-up)
-      (first-move (t b) (t (a ++ b)) (length a) (nextLine (length b) (lineEnd (g .eol) b p)) (length b) (λ j h l. lines .shuts (getD b p 0) (g .fences .size b p) .behind a b ends j))
+      (first-move (t b) (t (a ++ b)) (length a) (afterLine (g .eol) b p) (length b) (λ j h l. lines .shuts (getD b p 0) (g .fences .size b p) .behind a b ends j))
 
   fencedTo-shift : (p : ℕ) (t : Bool) (q : ℕ) → fencedTo g (a ++ b) (length a + p) t (length a + q) ≡ regionBehind (fencedTo g b p t q)
   unfolding regionBehind
@@ -136,8 +136,8 @@ module _ (g : Gram) (lines : Linewise (g .eol) (g .fences)) (a b : List ℕ) (en
       by false u = simp (find-shift, test, u)
 
   -- the regions from the end of a on
-  pub regions-shift : allFound (regionTurn g (a ++ b)) (length (a ++ b)) (length a) ≡ up (length a) (regions g b)
-  unfolding regions regionBehind
+  pub regions-shift : regionsFrom g (a ++ b) (length a) ≡ up (length a) (regions g b)
+  unfolding regions regionsFrom regionBehind
   regions-shift =
       ap (allFound (regionTurn g (a ++ b)) (length (a ++ b))) (inv (add-zero (length a)))
       ∙ allFound-move (regionTurn-ahead g b) (move (λ x. length a + x)) (regionTurn g (a ++ b)) (length a) regionTurn-shift (length (a ++ b)) 0 (omega (arith, length-append a b)) (omega arith)

@@ -7,7 +7,7 @@ use lib.Dec.{ltb}
 use lib.ListN.{length, getD, take}
 use lib.Seq.{slice}
 use Rattle.search.specs.Promise.{Gives}
-use Rattle.search.specs.Search.{either, oneOf, holds, find, lineEnd, nextLine}
+use Rattle.search.specs.Search.{either, oneOf, holds, find, lineEnd, afterLine}
 use Rattle.common.specs.Refusals.{Outcome, given, refused, tooLong, past, numberOf}
 use Rattle.common.specs.Turn.{Turn, go, stop, found, Step}
 use Rattle.common.specs.Items.{ItemGrammar, grammar, blank, has, leading, beyond, leads, itemFrom, itemsOf, readTurn, hitTurn, stepFor}
@@ -43,8 +43,8 @@ markers g s = itemsOf g (markLine g) s
 abbrev pub streamHit : ItemGrammar → List ℕ → ℕ → Turn MarkerItem
 streamHit g s p =
     cond (leads (g .eol) (g .sep) (g .tab) s p && holds (blank g) s (p + 1))
-    (found (mark (getD s p 0) (p + 2) (lineEnd (g .eol) s (p + 2))) (nextLine (length s) (lineEnd (g .eol) s (p + 2))))
-    (go (nextLine (length s) (lineEnd (g .eol) s p)))
+    (found (mark (getD s p 0) (p + 2) (lineEnd (g .eol) s (p + 2))) (afterLine (g .eol) s (p + 2)))
+    (go (afterLine (g .eol) s p))
 
 -- what is promised of such a byte, whatever else the scan accepts
 pub record HitSays (eol sep tab : ℕ) (s : List ℕ) (p : ℕ) (r : Turn MarkerItem) : Type 0 where
@@ -93,7 +93,7 @@ unfolded g set s =
     -- the state's place, the first accepted byte from there on, and where the line begins that follows a place's line
     let q = g .pos in
     let p = find (oneOf (take (g .nn) (g .needles))) s q in
-    let below : ℕ → ℕ = λ k. nextLine (length s) (lineEnd (g .eol) s k) in
+    let below : ℕ → ℕ = afterLine (g .eol) s in
     -- the text is too long: 1, and the state as it was
     cond (tooLong s) (refused 1, g)
     -- the place is past the text: 2, and the state as it was

@@ -10,7 +10,7 @@ use lib.ListN.{length, getD, take, drop}
 use lib.Seq.{getD-take, length-slice}
 use borrow.Author.Tests.{lt-ltb, le-ltb, ltb-true, ltb-false}
 use Rattle.search.specs.Promise.{Gives}
-use Rattle.search.specs.Search.{is, either, other, holds, find, Sought, back, lineStart, lineEnd, nextLine}
+use Rattle.search.specs.Search.{is, either, other, holds, find, Sought, back, lineStart, lineEnd, nextLine, afterLine}
 use Rattle.search.specs.SearchLaws.{decide, clash, and-true, is-no, holds-in, holds-true, find-ge, find-le, find-before, find-over, line-next}
 use Rattle.common.specs.Turn.{Turn, go, stop, found, allFound, None}
 use Rattle.common.specs.Turning.{Ahead, Adv, Covers}
@@ -202,10 +202,10 @@ module _ (g : ItemGrammar) (s : List ℕ) (apart : Apart g) where
 
   -- a hit p that is no marker rules out every line up to the end of its own
   failed : (q p : ℕ) → q ≤ p → p < length s → find (g .accepts) s q ≡ p → g .accepts (getD s p 0) ≡ true → ((a : ℕ) → a ≤ p → Has g s a p → ⊥)
-      → Covers (itemAt g (markLine g) s) (AtLine (g .eol) s) (length s) q (go (nextLine (length s) (lineEnd (g .eol) s p)))
+      → Covers (itemAt g (markLine g) s) (AtLine (g .eol) s) (length s) q (go (afterLine (g .eol) s p))
   failed q p h l f y never = let e = find-ge (is (g .eol)) s p in (omega arith, omega arith, line-next (g .eol) s p (omega arith), none)
     where
-      none : None (itemAt g (markLine g) s) q (nextLine (length s) (lineEnd (g .eol) s p))
+      none : None (itemAt g (markLine g) s) q (afterLine (g .eol) s p)
       none a x z = side (decide (ltb p a))
         where
           side : (ltb p a ≡ true) ⊎ (ltb p a ≡ false) → itemAt g (markLine g) s a ≡ []

@@ -7,7 +7,7 @@ use Prim.Native.Nat.{ℕ, _+_, _-_}
 use lib.Dec.{ltb, leb}
 use lib.ListN.{length, getD, take, drop}
 use lib.Seq.{slice}
-use Rattle.search.specs.Search.{either, oneOf, holds, find, back, lineEnd, nextLine, digit}
+use Rattle.search.specs.Search.{either, oneOf, holds, find, back, lineEnd, afterLine, digit}
 use Rattle.decimal.specs.Decimal.{valued}
 use Rattle.common.specs.Refusals.{Outcome, given, refused, tooLong, past, numberOf}
 use Rattle.common.specs.Turn.{Turn, go, stop, found, Step}
@@ -29,7 +29,7 @@ use Rattle.block_numbered.specs.declared.DigitRun.{DigitRun}
 abbrev pub oneToNine : ℕ → Bool
 oneToNine n = ltb 0 n && leb n 9
 
--- as many digits as there are, if they are at most nine
+-- as many digits as there are, if they are at most nine, else 0
 abbrev pub few : ℕ → ℕ
 few n = cond (leb n 9) n 0
 
@@ -78,7 +78,7 @@ pub record DigitsApart (g : ItemGrammar) : Type 0 where
 abbrev pub streamHit : ItemGrammar → List ℕ → ℕ → ℕ → Turn NumberedItem
 streamHit g s p n =
     cond (oneToNine n && (leads (g .eol) (g .sep) (g .tab) s (p - n) && holds (blank g) s (p + 1)))
-    (found (numbered (slice (p - n) p s) (getD s p 0) (p + 2) (lineEnd (g .eol) s (p + 2))) (nextLine (length s) (lineEnd (g .eol) s (p + 2))))
+    (found (numbered (slice (p - n) p s) (getD s p 0) (p + 2) (lineEnd (g .eol) s (p + 2))) (afterLine (g .eol) s (p + 2)))
     (go (p + 1))
 
 -- one turn at q: the next accepted byte, and the digits that it ends; where there is none the scan stays
@@ -138,7 +138,7 @@ unfolded g set s =
     let q = g .pos in
     let p = find (oneOf (take (g .nn) (g .needles))) s q in
     let n = back digit s p in
-    let below : ℕ → ℕ = λ k. nextLine (length s) (lineEnd (g .eol) s k) in
+    let below : ℕ → ℕ = afterLine (g .eol) s in
     -- the text is too long: 1, and the state as it was
     cond (tooLong s) (refused 1, g)
     -- the place is past the text: 2, and the state as it was

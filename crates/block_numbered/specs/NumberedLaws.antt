@@ -10,7 +10,7 @@ use lib.ListN.{length, getD, take, drop, length-take, length-drop}
 use lib.Seq.{getD-take, slice, length-slice, length-take-le, take-all, take-take, drop-drop}
 use borrow.Author.Tests.{lt-ltb, le-ltb, ltb-true, ltb-false, leb-true, leb-false}
 use Rattle.search.specs.Promise.{Gives}
-use Rattle.search.specs.Search.{is, either, other, holds, find, Sought, back, lineStart, lineEnd, nextLine, digit}
+use Rattle.search.specs.Search.{is, either, other, holds, find, Sought, back, lineStart, lineEnd, nextLine, afterLine, digit}
 use Rattle.search.specs.SearchLaws.{decide, clash, and-true, is-no, either-true, other-yes, other-no, other-false, holds-in, holds-true, find-ge, find-le, find-before, find-at, find-is, find-end, find-over, back-le, line-next}
 use Rattle.decimal.specs.Decimal.{valued}
 use Rattle.common.specs.Turn.{go, stop, found, allFound}
@@ -64,7 +64,7 @@ module _ (eol sep tab : ℕ) (t : ℕ → Bool) (s : List ℕ) (q p : ℕ) where
       -- by the tests that are left
       rest : (z : Bool) → Gives (leads eol sep tab s (p - n)) y → Gives (holds (either sep tab) s (p + 1)) z
           → streamTurn (grammar eol sep tab t) s q
-          ≡ cond (y && z) (found (numbered (slice (p - n) p s) (getD s p 0) (p + 2) (lineEnd eol s (p + 2))) (nextLine (length s) (lineEnd eol s (p + 2)))) (go (p + 1))
+          ≡ cond (y && z) (found (numbered (slice (p - n) p s) (getD s p 0) (p + 2) (lineEnd eol s (p + 2))) (afterLine eol s (p + 2))) (go (p + 1))
       unfolding streamTurn
       rest z a b = simp (← (w .here), lt-ltb p (length s) h, some .1, ← count, ← (a .answer), ← (b .answer))
 
@@ -425,7 +425,7 @@ module _ (g : ItemGrammar) (s : List ℕ) (c : DigitsApart g) where
       let z = find-ge (is (g .eol)) s (p + 2) in
       let low = bb .low in (
         omega arith,
-        (λ d. past-line (nextLine (length s) (lineEnd (g .eol) s (p + 2))) (line-next (g .eol) s (p + 2) (omega arith) d) d),
+        (λ d. past-line (afterLine (g .eol) s (p + 2)) (line-next (g .eol) s (p + 2) (omega arith) d) d),
         b,
         ahead (omega arith) (decide (ltb b q)),
         omega arith,

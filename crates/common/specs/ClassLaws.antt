@@ -1,6 +1,6 @@
 -- The rule of a table, proved at all of its entries by one test that antt computes, one entry after the other. Assumes nothing.
 use mathlib.Core.Path.{_≡_, sym, subst, _∙_, refl, ap, fun-ext}
-use mathlib.Core.Bool.{Bool, true, _&&_, false, cond}
+use mathlib.Core.Bool.{Bool, true, _&&_, false}
 use mathlib.Core.List.{List, [], _∷_}
 use Prim.Native.Nat.{ℕ, zero, suc, _+_, _<_}
 use native.Mathlib.Nat.{add-zero, zero-add, add-suc, suc-add, not-suc-le-zero}
@@ -30,24 +30,6 @@ pub class-at : (xs : List ℕ) (k : ℕ) → classes 0 xs ≡ true → length xs
 class-at xs k t l h = subst (λ (m : ℕ). getD xs k 0 ≡ classOf m) (zero-add k) (from xs 0 t k (omega arith))
 
 -- ---- the sets of two classes are those of the house's bytes
--- what a class's number says of being a marker, a delimiter and a digit
-unfoldable numbered : Bool → Bool → Bool → ℕ
-numbered m d z = cond m 1 (cond d 2 (cond z 4 0))
-
-first-class : (m d z : Bool) → eqb (numbered m d z) 1 ≡ m
-unfolding numbered
-first-class true d z = refl
-first-class false true z = refl
-first-class false false true = refl
-first-class false false false = refl
-
-second-class : (m d z : Bool) → (m ≡ true → d ≡ false) → eqb (numbered m d z) 2 ≡ d
-unfolding numbered
-second-class true d z h = sym (h refl)
-second-class false true z h = refl
-second-class false false true h = refl
-second-class false false false h = refl
-
 -- no delimiter is a marker
 apart : (b : ℕ) → oneOf markerBytes b ≡ true → oneOf delimiterBytes b ≡ false
 unfolding oneOf
@@ -59,10 +41,28 @@ apart b u = by (decide (eqb b 45)) (decide (eqb b 42)) (decide (eqb b 43))
     by (inr x) (inr y) (inl z) = let e : b ≡ 43 = eqb-true b 43 z in rw e refl
     by (inr x) (inr y) (inr z) = absurd (clash u (rw (x, y, z) refl))
 
+-- what a byte's class says of being a marker, and of being a delimiter
+module _ (b : ℕ) where
+  first-class : eqb (classOf b) 1 ≡ oneOf markerBytes b
+  first-class = by (decide (oneOf markerBytes b)) (decide (oneOf delimiterBytes b)) (decide (digit b))
+    where
+      by : (oneOf markerBytes b ≡ true) ⊎ (oneOf markerBytes b ≡ false) → (oneOf delimiterBytes b ≡ true) ⊎ (oneOf delimiterBytes b ≡ false) → (digit b ≡ true) ⊎ (digit b ≡ false) → eqb (classOf b) 1 ≡ oneOf markerBytes b
+      by (inl u) v w = simp u
+      by (inr u) (inl v) w = simp (u, v)
+      by (inr u) (inr v) (inl w) = simp (u, v, w)
+      by (inr u) (inr v) (inr w) = simp (u, v, w)
+
+  second-class : eqb (classOf b) 2 ≡ oneOf delimiterBytes b
+  second-class = by (decide (oneOf markerBytes b)) (decide (oneOf delimiterBytes b)) (decide (digit b))
+    where
+      by : (oneOf markerBytes b ≡ true) ⊎ (oneOf markerBytes b ≡ false) → (oneOf delimiterBytes b ≡ true) ⊎ (oneOf delimiterBytes b ≡ false) → (digit b ≡ true) ⊎ (digit b ≡ false) → eqb (classOf b) 2 ≡ oneOf delimiterBytes b
+      by (inl u) v w = simp (u, apart b u)
+      by (inr u) (inl v) w = simp (u, v)
+      by (inr u) (inr v) (inl w) = simp (u, v, w)
+      by (inr u) (inr v) (inr w) = simp (u, v, w)
+
 pub marker-set : (set : List Bool) → Gives (classSet 1) set → set ≡ setOf markerBytes
-unfolding numbered
-marker-set set h = h .answer ∙ ap (λ (f : ℕ → Bool). tabulate f 256 0) (fun-ext (λ b. first-class (oneOf markerBytes b) (oneOf delimiterBytes b) (digit b)))
+marker-set set h = h .answer ∙ ap (λ (f : ℕ → Bool). tabulate f 256 0) (fun-ext first-class)
 
 pub delimiter-set : (set : List Bool) → Gives (classSet 2) set → set ≡ setOf delimiterBytes
-unfolding numbered
-delimiter-set set h = h .answer ∙ ap (λ (f : ℕ → Bool). tabulate f 256 0) (fun-ext (λ b. second-class (oneOf markerBytes b) (oneOf delimiterBytes b) (digit b) (apart b)))
+delimiter-set set h = h .answer ∙ ap (λ (f : ℕ → Bool). tabulate f 256 0) (fun-ext second-class)

@@ -11,7 +11,7 @@ use lib.ListN.{length, getD, take, drop, length-drop, length-take, drop-of-lengt
 use lib.Seq.{drop-cons, getD-take, slice, slice-empty, slice-cons, length-slice}
 use borrow.Author.Tests.{eqb-true, eq-eqb, lt-ltb, le-ltb, ltb-true, ltb-false}
 use Rattle.search.specs.Promise.{Gives, Steps}
-use Rattle.search.specs.Search.{is, oneOf, other, holds, find, Sought, back, lineStart, lineEnd, nextLine}
+use Rattle.search.specs.Search.{is, oneOf, other, holds, find, Sought, back, lineStart, lineEnd, nextLine, afterLine}
 use Rattle.search.specs.SearchLaws.{decide, clash, and-true, is-true, either-true, other-yes, other-no, other-false, holds-in, holds-true, find-ge, find-le, find-at, find-before, find-is, find-end, find-here, find-next, back-run, back-stop, start-zero, line-one, line-next}
 use Rattle.common.specs.Sets.{acceptedFrom, accepted, probeOf, probe}
 use Rattle.common.specs.Refusals.{Outcome, refused}
@@ -244,22 +244,23 @@ pub record Led (g : ItemGrammar) (s : List ℕ) (a p : ℕ) : Type 0 where
 
 -- it is what a search up to the line's end finds
 module _ (g : ItemGrammar) (s : List ℕ) (a : ℕ) (h : a ≤ length s) (p : ℕ) (l : p < lineEnd (g .eol) s a) where
-  abbrev front : List ℕ
-  front = take (lineEnd (g .eol) s a) s
+  -- the text up to that end
+  abbrev upToEnd : List ℕ
+  upToEnd = take (lineEnd (g .eol) s a) s
 
-  pub led : lineStart (g .eol) s a ≡ true → find (other (blank g)) front a ≡ p → Led g s a p
+  pub led : lineStart (g .eol) s a ≡ true → find (other (blank g)) upToEnd a ≡ p → Led g s a p
   led b f = record {
     begins = b;
-    low = omega (arith, find-ge (other (blank g)) front a);
-    blanks = λ j i m. sym (ap (blank g) (getD-take (lineEnd (g .eol) s a) s j 0 (omega arith))) ∙ other-false (blank g) (getD front j 0) (find-before (other (blank g)) front a j i (omega arith));
+    low = omega (arith, find-ge (other (blank g)) upToEnd a);
+    blanks = λ j i m. sym (ap (blank g) (getD-take (lineEnd (g .eol) s a) s j 0 (omega arith))) ∙ other-false (blank g) (getD upToEnd j 0) (find-before (other (blank g)) upToEnd a j i (omega arith));
     solid =
         sym (ap (blank g) (getD-take (lineEnd (g .eol) s a) s p 0 l))
-        ∙ other-true (blank g) (getD front p 0) (rw f at (find-at (other (blank g)) front a (omega (arith, line-length (g .eol) s a h))));
+        ∙ other-true (blank g) (getD upToEnd p 0) (rw f at (find-at (other (blank g)) upToEnd a (omega (arith, line-length (g .eol) s a h))));
   }
 
-  pub led-find : Led g s a p → find (other (blank g)) front a ≡ p
+  pub led-find : Led g s a p → find (other (blank g)) upToEnd a ≡ p
   led-find w =
-      find-is (other (blank g)) front a p (w .low) (omega (arith, line-length (g .eol) s a h))
+      find-is (other (blank g)) upToEnd a p (w .low) (omega (arith, line-length (g .eol) s a h))
       (λ j i m. ap (other (blank g)) (getD-take (lineEnd (g .eol) s a) s j 0 (omega arith)) ∙ other-no (blank g) (getD s j 0) (w .blanks j i m))
       (ap (other (blank g)) (getD-take (lineEnd (g .eol) s a) s p 0 l) ∙ other-yes (blank g) (getD s p 0) (w .solid))
 
@@ -295,7 +296,7 @@ module _ {A : Type 0} (g : ItemGrammar) (line : ℕ → List ℕ → List A) (s 
   read-line q e n l h w f m = simp (lt-ltb q (length s) h, ← (w .here), f, ← (m .answer))
 
   -- the rest of a line has nothing
-  pub line-rest : (a k : ℕ) → a ≤ length s → a ≤ k → None (itemAt g line s) (suc k) (nextLine (length s) (lineEnd (g .eol) s a))
+  pub line-rest : (a k : ℕ) → a ≤ length s → a ≤ k → None (itemAt g line s) (suc k) (afterLine (g .eol) s a)
   line-rest a k h m b l u = no-line b (line-one (g .eol) s a b (omega arith) (omega arith))
 
   -- where `Lies q n i` is what holds of an item i found between q and n
@@ -308,10 +309,10 @@ module _ {A : Type 0} (g : ItemGrammar) (line : ℕ → List ℕ → List A) (s 
     read-adv = record {
       ahead = λ q h.
           both (Ahead Lies q (length s)) (ltb q (length s)) _ _
-          (λ u. by q h (ltb-true q (length s) u) (line q (lineBytes g s q)) (most q (lineEnd (g .eol) s q) (nextLine (length s) (lineEnd (g .eol) s q)) (lineBytes g s q) (bytes-size q h) (omega (arith, find-le (is (g .eol)) s q h)))) (λ u. (omega arith, h));
+          (λ u. by q h (ltb-true q (length s) u) (line q (lineBytes g s q)) (most q (lineEnd (g .eol) s q) (afterLine (g .eol) s q) (lineBytes g s q) (bytes-size q h) (omega (arith, find-le (is (g .eol)) s q h)))) (λ u. (omega arith, h));
     }
       where
-        by : (q : ℕ) → q ≤ length s → q < length s → (l : List A) → AtMost (Lies q (nextLine (length s) (lineEnd (g .eol) s q))) l → Ahead Lies q (length s) (lineFound l (nextLine (length s) (lineEnd (g .eol) s q)))
+        by : (q : ℕ) → q ≤ length s → q < length s → (l : List A) → AtMost (Lies q (afterLine (g .eol) s q)) l → Ahead Lies q (length s) (lineFound l (afterLine (g .eol) s q))
         by q h m [] w = (omega (arith, find-ge (is (g .eol)) s q), omega arith)
         by q h m (x ∷ []) w = (omega (arith, find-ge (is (g .eol)) s q), omega arith, w)
         by q h m (x ∷ y ∷ l) w = absurd w
@@ -327,7 +328,7 @@ module _ {A : Type 0} (g : ItemGrammar) (line : ℕ → List ℕ → List A) (s 
         (λ u. λ k x y. absurd (omega (arith, ltb-false q (length s) u)))
       where
         n : ℕ
-        n = nextLine (length s) (lineEnd (g .eol) s q)
+        n = afterLine (g .eol) s q
 
         a : q ≤ lineEnd (g .eol) s q
         a = find-ge (is (g .eol)) s q

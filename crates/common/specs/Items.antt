@@ -7,7 +7,7 @@ use Prim.Native.Nat.{ℕ, _+_, _-_}
 use lib.Dec.{ltb}
 use lib.ListN.{length}
 use lib.Seq.{slice}
-use Rattle.search.specs.Search.{either, find, back, lineStart, lineEnd, nextLine}
+use Rattle.search.specs.Search.{either, find, back, lineStart, lineEnd, afterLine}
 use Rattle.common.specs.Rules.{entry}
 use Rattle.common.specs.Refusals.{Outcome, given, refuse, leaves, unlessNone, tooLong, past}
 use Rattle.common.specs.Turn.{Turn, go, stop, found, between, Step, yields, ends}
@@ -82,7 +82,7 @@ module _ {A : Type 0} (g : ItemGrammar) (line : ℕ → List ℕ → List A) (s 
 
   -- one turn of a line scan at q, taken for a line's start
   unfoldable pub readTurn : ℕ → Turn A
-  readTurn q = cond (ltb q (length s)) (lineFound (line q (lineBytes g s q)) (nextLine (length s) (lineEnd (g .eol) s q))) (stop q)
+  readTurn q = cond (ltb q (length s)) (lineFound (line q (lineBytes g s q)) (afterLine (g .eol) s q)) (stop q)
 
 -- one turn of a streaming scan at q: what `hit` makes of the next accepted byte's place; where there is none the scan stays
 abbrev pub hitTurn : {A : Type 0} → ItemGrammar → (ℕ → Turn A) → List ℕ → ℕ → Turn A

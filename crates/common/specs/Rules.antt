@@ -1,4 +1,4 @@
--- Fence rules: as columns, and by byte. Assumes nothing.
+-- Rules by byte, from the columns of fence rules, symmetric rules and openers; and tables over the bytes. Assumes nothing.
 -- The page: "by the first rule with that byte".
 use mathlib.Core.Bool.{Bool, cond}
 use mathlib.Core.List.{List, [], _∷_}

@@ -12,7 +12,7 @@ use lib.ListN.{length, take}
 use lib.Seq.{take-all}
 use borrow.Author.Tests.{leb-true, le-leb, ltb-true, ltb-false}
 use Rattle.search.specs.Promise.{Gives, Steps}
-use Rattle.search.specs.Search.{find, lineEnd, nextLine}
+use Rattle.search.specs.Search.{find, afterLine}
 use Rattle.search.specs.SearchLaws.{decide}
 use Rattle.common.specs.Sets.{probe, accepted}
 use Rattle.common.specs.Refusals.{Outcome, given, refused, tooLong, past}
@@ -68,9 +68,9 @@ module _ {S A : Type 0} (c : Scanner S A) (g : S) (set : List Bool) (s : List �
   hit-unfolded r hit q e = of-cond (ofTurn c g set s) (ltb (find (r .accepts) s q) (length s)) _ _ ∙ rw e
 
   pub read-unfolded : (r : ItemGrammar) (line : ℕ → List ℕ → List A) (q : ℕ)
-      → ofTurn c g set s (readTurn r line s q) ≡ cond (ltb q (length s)) (ofLine c g set s (line q (lineBytes r s q)) (nextLine (length s) (lineEnd (r .eol) s q))) (given [], at c g q)
+      → ofTurn c g set s (readTurn r line s q) ≡ cond (ltb q (length s)) (ofLine c g set s (line q (lineBytes r s q)) (afterLine (r .eol) s q)) (given [], at c g q)
   unfolding readTurn
-  read-unfolded r line q = of-cond (ofTurn c g set s) (ltb q (length s)) _ _ ∙ rw (by (line q (lineBytes r s q)) (nextLine (length s) (lineEnd (r .eol) s q)))
+  read-unfolded r line q = of-cond (ofTurn c g set s) (ltb q (length s)) _ _ ∙ rw (by (line q (lineBytes r s q)) (afterLine (r .eol) s q))
     where
       by : (l : List A) (n : ℕ) → ofTurn c g set s (lineFound l n) ≡ ofLine c g set s l n
       by [] n = refl

@@ -5,7 +5,7 @@ use mathlib.Core.List.{List, [], _∷_}
 use Prim.Native.Nat.{ℕ, zero, suc, _+_, _-_, min}
 use lib.Dec.{ltb}
 use lib.ListN.{length, getD, drop, replicate}
-use Rattle.search.specs.Search.{find, is, holds, lineStart, lineEnd, nextLine}
+use Rattle.search.specs.Search.{find, is, holds, lineStart, lineEnd, afterLine}
 use Rattle.common.specs.Refusals.{Outcome, given, leaves, spanValues}
 use Rattle.common.specs.Entry.{putAt}
 use Rattle.common.specs.Items.{unlessRefused}
@@ -64,17 +64,13 @@ kept m s p n = length (marksFrom m s (lineEnd (m .eol) s p) n p)
 abbrev pub newMarks : Framing → List ℕ → ℕ → ℕ → List ℕ
 newMarks m s p n = drop n (lineMarks m s p)
 
--- the place after the line that begins at p
-abbrev pub afterLine : Framing → List ℕ → ℕ → ℕ
-afterLine m s p = nextLine (length s) (lineEnd (m .eol) s p)
-
 -- of n frames open in the cells o those from depth k on closed at the start of the line at p
 abbrev pub closeFrom : Framing → List ℕ → ℕ → List ℕ → ℕ → ℕ → FrameTurn
-closeFrom m s p o n k = close (closedFrames o p k (n - k)) (stand (afterLine m s p) o k)
+closeFrom m s p o n k = close (closedFrames o p k (n - k)) (stand (afterLine (m .eol) s p) o k)
 
 -- new frames behind them, at the places of l
 abbrev pub openWith : Framing → List ℕ → ℕ → List ℕ → ℕ → List ℕ → FrameTurn
-openWith m s p o n l = go (stand (afterLine m s p) (putAt n l o) (n + length l))
+openWith m s p o n l = go (stand (afterLine (m .eol) s p) (putAt n l o) (n + length l))
 
 -- a line that begins with a marker at p, with n frames open in the cells o: from the first that lacks its marker they close at the line's start; where none does, further markers open new ones
 unfoldable pub turnOnLine : Framing → List ℕ → ℕ → List ℕ → ℕ → FrameTurn

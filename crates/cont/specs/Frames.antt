@@ -29,7 +29,7 @@ unfoldable pub marksFrom : Framing → List ℕ → ℕ → ℕ → ℕ → List
 marksFrom m s e zero p = []
 marksFrom m s e (suc n) p = elim (markAt m s e p) [ true ↦ p ∷ marksFrom m s e n (afterMark m s e p) | false ↦ [] ]
 
--- the leading markers of the line that begins at a, "never above min(`max_nest`, 32)"
+-- the leading markers of the line that begins at a, up to the cap, which a fresh state holds to min(`max_nest`, 32)
 unfoldable pub lineMarks : Framing → List ℕ → ℕ → List ℕ
 lineMarks m s a = marksFrom m s (lineEnd (m .eol) s a) (m .cap) a
 

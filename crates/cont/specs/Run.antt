@@ -13,7 +13,7 @@ use lib.ListN.{length, getD, take, drop, length-append, length-take, length-drop
 use lib.Seq.{take-all, drop-nil, take-take, drop-cons, getD-take, length-take-le}
 use borrow.Author.Tests.{ltb-true, ltb-false, lt-ltb, le-ltb}
 use Rattle.search.specs.Promise.{Steps}
-use Rattle.search.specs.Search.{is, holds, find, lineStart, lineEnd}
+use Rattle.search.specs.Search.{is, holds, find, lineStart, lineEnd, afterLine}
 use Rattle.search.specs.SearchLaws.{decide, find-ge, find-le, find-before, find-at, clash, holds-in, line-one, line-next}
 use Rattle.common.specs.Refusals.{Outcome, spanBack, toldSpan}
 use Rattle.common.specs.Items.{stepFor}
@@ -26,7 +26,7 @@ use Rattle.cont.specs.declared.ContStep.{ContStep}
 use Rattle.cont.specs.Frames.{frame, lineMarks, depth, frames}
 use Rattle.common.specs.Entry.{putAt}
 use Rattle.common.specs.EntryLaws.{length-put, put-front}
-use Rattle.cont.specs.Cont.{fresh, framingOf, closedFrames, Stand, stand, FrameTurn, go, close, stop, kept, newMarks, afterLine, closeFrom, openWith, turnOnLine, turnWithOpen, turnWithNone, nextTurn, Shut, thenShut, shutWithin, firstShut, standing, drained, refilled, drainedOr, drainedOrEnd, stepped, answer, state}
+use Rattle.cont.specs.Cont.{fresh, framingOf, closedFrames, Stand, stand, FrameTurn, go, close, stop, kept, newMarks, closeFrom, openWith, turnOnLine, turnWithOpen, turnWithNone, nextTurn, Shut, thenShut, shutWithin, firstShut, standing, drained, refilled, drainedOr, drainedOrEnd, stepped, answer, state}
 use Rattle.cont.specs.MarkLaws.{marks-take, marks-few, marks-none}
 use Rattle.cont.specs.Steps.{Served, Kept, toldStep}
 use Rattle.cont.specs.TurnLaws.{closing-length}
@@ -74,15 +74,15 @@ module _ {t : Stand} {o : List ℕ} (w : HoldsOpen t o) where
 
 module _ (m : Framing) (s : List ℕ) (nests : m .cap ≤ 32) where
   -- where frames are open a scan stands at a line's start, or at the text's end
-  abbrev Starts : ℕ → Type 0
-  Starts q = (opened m s q ≡ []) ⊎ (q < length s → lineStart (m .eol) s q ≡ true)
+  abbrev StartsLine : ℕ → Type 0
+  StartsLine q = (opened m s q ≡ []) ⊎ (q < length s → lineStart (m .eol) s q ≡ true)
 
   -- the frames l that a scan has still to close: those from its place on, or none behind the text's end
   pub record Owes (t : Stand) (l : List Span) : Type 0 where
     pub held : List ℕ
     pub holds : HoldsOpen t held
     pub inside : t .pos ≤ length s
-    pub owes : ((held ≡ opened m s (t .pos)) × Starts (t .pos) × (l ≡ Rest m s (t .pos))) ⊎ ((t .pos ≡ length s) × (held ≡ []) × (l ≡ []))
+    pub owes : ((held ≡ opened m s (t .pos)) × StartsLine (t .pos) × (l ≡ Rest m s (t .pos))) ⊎ ((t .pos ≡ length s) × (held ≡ []) × (l ≡ []))
 
   -- a turn from q that accounts for the frames l
   abbrev Owed : ℕ → List Span → FrameTurn → Type 0
@@ -133,7 +133,7 @@ module _ (m : Framing) (s : List ℕ) (nests : m .cap ≤ 32) where
       c = kept m s p n
 
       a : ℕ
-      a = afterLine m s p
+      a = afterLine (m .eol) s p
 
       moves : p < a
       moves = omega (arith, find-ge (is (m .eol)) s p)
@@ -185,7 +185,7 @@ module _ (m : Framing) (s : List ℕ) (nests : m .cap ≤ 32) where
         some : o ≡ [] → ⊥
         some e = omega (arith, w .holds .count, ap length e)
 
-        begins : o ≡ opened m s q → Starts q → q < length s → lineStart (m .eol) s q ≡ true
+        begins : o ≡ opened m s q → StartsLine q → q < length s → lineStart (m .eol) s q ≡ true
         begins e (inl z) i = absurd (some (e ∙ z))
         begins e (inr f) i = f i
 
@@ -201,7 +201,7 @@ module _ (m : Framing) (s : List ℕ) (nests : m .cap ≤ 32) where
         few : t .count ≤ 32
         few = omega (arith, w .holds .count, w .holds .few)
 
-        by : ((o ≡ opened m s q) × Starts q × (l ≡ Rest m s q)) ⊎ ((q ≡ length s) × (o ≡ []) × (l ≡ [])) → Owed q l (turnWithOpen m s q (t .cells) (t .count))
+        by : ((o ≡ opened m s q) × StartsLine q × (l ≡ Rest m s q)) ⊎ ((q ≡ length s) × (o ≡ []) × (l ≡ [])) → Owed q l (turnWithOpen m s q (t .cells) (t .count))
         by (inr v) = absurd (some (v .1))
         by (inl v) =
             both (Owed q l) (ltb q (length s)) _ _
@@ -249,7 +249,7 @@ module _ (m : Framing) (s : List ℕ) (nests : m .cap ≤ 32) where
         none : o ≡ []
         none = empty o (omega (arith, w .holds .count))
 
-        by : ((o ≡ opened m s q) × Starts q × (l ≡ Rest m s q)) ⊎ ((q ≡ length s) × (o ≡ []) × (l ≡ [])) → Owed q l (turnWithNone m s q (t .cells) (t .count) p)
+        by : ((o ≡ opened m s q) × StartsLine q × (l ≡ Rest m s q)) ⊎ ((q ≡ length s) × (o ≡ []) × (l ≡ [])) → Owed q l (turnWithNone m s q (t .cells) (t .count) p)
         by (inr v) = rw (le-ltb p (length s) (omega (arith, lo, v .0))) (v .2)
         by (inl v) =
             let z : opened m s q ≡ [] = sym (v .0) ∙ none in
@@ -285,15 +285,16 @@ module _ (m : Framing) (s : List ℕ) (nests : m .cap ≤ 32) where
   turn-owed t l w = both (Owed (t .pos) l) (ltb 0 (t .count)) _ _ (λ a. open-owed t l w (ltb-true 0 (t .count) a)) (λ a. fresh-owed t l w (ltb-false 0 (t .count) a))
 
   -- ---- the scan
-  abbrev Told : List Span → Shut → Type 0
-  Told l x = ((x .closed ≡ []) × (l ≡ [])) ⊎ ((r : List Span) × (l ≡ x .closed ++ r) × Owes (x .left) r × (0 < length (x .closed)) × (length (x .closed) ≤ 32))
+  -- what is closed next, of the frames l: none of none, else the first of them, and the others are still owed
+  abbrev Paid : List Span → Shut → Type 0
+  Paid l x = ((x .closed ≡ []) × (l ≡ [])) ⊎ ((r : List Span) × (l ≡ x .closed ++ r) × Owes (x .left) r × (0 < length (x .closed)) × (length (x .closed) ≤ 32))
 
-  pub shut-told : (f : ℕ) (t : Stand) (l : List Span) → Owes t l → length s - t .pos < f → Told l (shutWithin m s f t)
+  pub shut-told : (f : ℕ) (t : Stand) (l : List Span) → Owes t l → length s - t .pos < f → Paid l (shutWithin m s f t)
   unfolding shutWithin
   shut-told zero t l w h = absurd (not-suc-le-zero h)
   shut-told (suc f) t l w h = by (shut-told f) (nextTurn m s t) (turn-owed t l w)
     where
-      by : ((u : Stand) (r : List Span) → Owes u r → length s - u .pos < f → Told r (shutWithin m s f u)) → (c : FrameTurn) → Owed (t .pos) l c → Told l (thenShut (shutWithin m s f) c)
+      by : ((u : Stand) (r : List Span) → Owes u r → length s - u .pos < f → Paid r (shutWithin m s f u)) → (c : FrameTurn) → Owed (t .pos) l c → Paid l (thenShut (shutWithin m s f) c)
       by ih (go u) a = ih u l (a .1) (omega (arith, a .1 .inside))
       by ih (close x u) a = inr a
       by ih (stop u) a = inl (refl, a)
@@ -312,13 +313,13 @@ abbrev pub Left : ContIter → List Span → List Span
 Left g l = drop (g .«pending_idx») (take (g .«pending_len») (g .pending)) ++ l
 
 -- a step that yields the first of `all` and leaves a state with the others
-abbrev Yields : List ℕ → List Span → Step Span ContIter → Type 0
-Yields s all (yields f g) = (l : List Span) × (all ≡ f ∷ Left g l) × SoundState s g l
-Yields s all (ends g) = all ≡ []
+abbrev Delivers : List ℕ → List Span → Step Span ContIter → Type 0
+Delivers s all (yields f g) = (l : List Span) × (all ≡ f ∷ Left g l) × SoundState s g l
+Delivers s all (ends g) = all ≡ []
 
 module _ (s : List ℕ) where
   -- one pending frame taken
-  drained-yields : (g : ContIter) (l : List Span) → SoundState s g l → g .«pending_idx» < g .«pending_len» → Yields s (Left g l) (drained g)
+  drained-yields : (g : ContIter) (l : List Span) → SoundState s g l → g .«pending_idx» < g .«pending_len» → Delivers s (Left g l) (drained g)
   drained-yields g l w h =
       let i = g .«pending_idx» in
       let k = g .«pending_len» in
@@ -331,7 +332,7 @@ module _ (s : List ℕ) where
         record { nests = w .nests; room = w .room; waits = w .waits; drawn = omega arith; owes = w .owes },
       )
 
-  step-yields : (g : ContIter) (l : List Span) → SoundState s g l → Yields s (Left g l) (stepped g s)
+  step-yields : (g : ContIter) (l : List Span) → SoundState s g l → Delivers s (Left g l) (stepped g s)
   unfolding stepped
   step-yields g l w = by (decide (ltb i k))
     where
@@ -344,7 +345,7 @@ module _ (s : List ℕ) where
       x : Shut
       x = firstShut (framingOf g) s (standing g)
 
-      refill : ((x .closed ≡ []) × (l ≡ [])) ⊎ ((r : List Span) × (l ≡ x .closed ++ r) × Owes (framingOf g) s (w .nests) (x .left) r × (0 < length (x .closed)) × (length (x .closed) ≤ 32)) → Yields s l (drainedOrEnd (refilled g x))
+      refill : ((x .closed ≡ []) × (l ≡ [])) ⊎ ((r : List Span) × (l ≡ x .closed ++ r) × Owes (framingOf g) s (w .nests) (x .left) r × (0 < length (x .closed)) × (length (x .closed) ≤ 32)) → Delivers s l (drainedOrEnd (refilled g x))
       refill (inl v) = rw (v .0) (v .1)
       refill (inr v) =
           let z : length (x .closed) ≡ 0 + length (x .closed) = omega arith in
@@ -353,7 +354,7 @@ module _ (s : List ℕ) where
           let e : l ≡ Left (refilled g x) (v .0) = v .1 ∙ ap (λ (y : List Span). y ++ v .0) (sym front) in
           rw (lt-ltb 0 (length (x .closed)) (v .3), e) (drained-yields (refilled g x) (v .0) u (v .3))
 
-      by : (ltb i k ≡ true) ⊎ (ltb i k ≡ false) → Yields s (Left g l) (drainedOr g (drainedOrEnd (refilled g x)))
+      by : (ltb i k ≡ true) ⊎ (ltb i k ≡ false) → Delivers s (Left g l) (drainedOr g (drainedOrEnd (refilled g x)))
       by (inl u) = rw u (drained-yields g l w (ltb-true i k u))
       by (inr u) =
           let h = ltb-false i k u in
@@ -372,7 +373,7 @@ unfolding drain
 drain-left s next steps zero g l w = refl
 drain-left s next steps (suc n) g l w = rw (steps g l w) (by (drain-left s next steps n) (stepped g s) (step-yields s g l w))
   where
-    by : ((u : ContIter) (r : List Span) → SoundState s u r → drain next n u ≡ take n (Left u r)) → (c : Step Span ContIter) → Yields s (Left g l) c → thenDrain (drain next n) c ≡ take (suc n) (Left g l)
+    by : ((u : ContIter) (r : List Span) → SoundState s u r → drain next n u ≡ take n (Left u r)) → (c : Step Span ContIter) → Delivers s (Left g l) c → thenDrain (drain next n) c ≡ take (suc n) (Left g l)
     by ih (yields f u) y = ap (λ (i : List Span). f ∷ i) (ih u (y .0) (y .2)) ∙ ap (take (suc n)) (sym (y .1))
     by ih (ends u) y = ap (take (suc n)) (sym y)
 

@@ -10,7 +10,7 @@ use lib.Dec.{ltb}
 use lib.ListN.{length, getD, drop, set, drop-of-length-le}
 use borrow.Author.Tests.{lt-ltb, le-ltb, ltb-true, ltb-false}
 use Rattle.search.specs.Promise.{Gives}
-use Rattle.search.specs.Search.{is, holds, find, Sought, lineStart, nextLine}
+use Rattle.search.specs.Search.{is, holds, find, Sought, lineStart, nextLine, afterLine}
 use Rattle.search.specs.SearchLaws.{decide, find-ge, find-here, sought, holds-true}
 use Rattle.common.specs.ItemLaws.{both}
 use Rattle.common.specs.declared.span.Span.{Span}
@@ -20,7 +20,7 @@ use Rattle.cont.specs.declared.Turn.{Turn as Told}
 use Rattle.cont.specs.declared.Turn.the-variants.{Go, Close, Stop}
 use Rattle.cont.specs.Frames.{frame, marksFrom, lineMarks}
 use Rattle.common.specs.Entry.{putAt}
-use Rattle.cont.specs.Cont.{closedFrames, Stand, stand, FrameTurn, go, close, stop, kept, newMarks, afterLine, closeFrom, openWith, turnOnLine, nextTurn, thenShut, shutWithin, firstShut}
+use Rattle.cont.specs.Cont.{closedFrames, Stand, stand, FrameTurn, go, close, stop, kept, newMarks, closeFrom, openWith, turnOnLine, nextTurn, thenShut, shutWithin, firstShut}
 use Rattle.cont.specs.Steps.{Peels, Opens, view, TurnWithin, FrameTurned, Scanned}
 use Rattle.cont.specs.MarkLaws.{marks-few, marks-zero}
 
@@ -121,7 +121,7 @@ module _ {m : Framing} {s : List ℕ} {p e n a : ℕ} {r : Peeled} (i : p < leng
   keeps : kept m s p n ≡ r .count
   keeps = ap (λ (x : ℕ). length (marksFrom m s x n p)) (sym (le .here)) ∙ sym (w .count)
 
-  after : afterLine m s p ≡ a
+  after : afterLine (m .eol) s p ≡ a
   after = ap (nextLine (length s)) (sym (le .here)) ∙ sym (nl .answer)
 
   pub line-closes : {o : List ℕ} → r .count < n → FrameTurned (turnOnLine m s p o n) (length s) p n o (Close (r .count) p a)

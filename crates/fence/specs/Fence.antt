@@ -7,7 +7,7 @@ use mathlib.Core.List.{List}
 use Prim.Native.Nat.{ℕ, _+_}
 use lib.Dec.{ltb}
 use lib.ListN.{length}
-use Rattle.search.specs.Search.{find, is, either, other, holds, firstPlace, lineStart, lineEnd, nextLine}
+use Rattle.search.specs.Search.{find, afterRun, is, either, holds, firstPlace, lineStart, lineEnd, afterLine}
 use Rattle.lines.specs.Fences.{runCount, opensRun, closesRun}
 use Rattle.common.specs.Refusals.{Outcome, spanValues}
 use Rattle.common.specs.Turn.{Turn, go, stop, found, firstTurn, allFound}
@@ -33,14 +33,14 @@ at g q = record { byte = g .byte; min = g .min; eol = g .eol; sep = g .sep; tab 
 
 -- the end of the fence byte's run that begins at p: "With a fence byte equal to the line end the run is counted on across lines"
 abbrev pub wholeRunEnd : FenceIter → List ℕ → ℕ → ℕ
-wholeRunEnd g s p = find (other (is (g .byte))) s p
+wholeRunEnd g s p = afterRun (g .byte) s p
 
 -- the end of the line that the run ends in, and the place after it
 abbrev pub runLine : FenceIter → List ℕ → ℕ → ℕ
 runLine g s p = lineEnd (g .eol) s (wholeRunEnd g s p)
 
-abbrev pub lineAfter : FenceIter → List ℕ → ℕ → ℕ
-lineAfter g s p = nextLine (length s) (runLine g s p)
+abbrev pub afterRunLine : FenceIter → List ℕ → ℕ → ℕ
+afterRunLine g s p = afterLine (g .eol) s (wholeRunEnd g s p)
 
 -- whether a run of the fence byte begins its line at p
 unfoldable pub begins : FenceIter → List ℕ → ℕ → Bool
@@ -56,7 +56,7 @@ closes g count s q = begins g s q && closesRun (either (g .sep) (g .tab)) count 
 
 -- where a fence's span ends: after the line at q, if one closes it there, else at the text's end
 abbrev pub spanEnd : FenceIter → List ℕ → Bool → ℕ → ℕ
-spanEnd g s true q = lineAfter g s q
+spanEnd g s true q = afterRunLine g s q
 spanEnd g s false q = length s
 
 -- "The span ends after the closing line's line end, or at the text's end."
@@ -65,7 +65,7 @@ closeEnd g count s from = spanEnd g s (ltb (firstPlace (closes g count s) from (
 
 -- the fence that opens at p
 abbrev pub fenceAt : FenceIter → List ℕ → ℕ → Fence
-fenceAt g s p = record { start = p; end = closeEnd g (runCount p (wholeRunEnd g s p)) s (lineAfter g s p) }
+fenceAt g s p = record { start = p; end = closeEnd g (runCount p (wholeRunEnd g s p)) s (afterRunLine g s p) }
 
 -- the next fence from q on
 abbrev pub nextAt : FenceIter → List ℕ → ℕ → Bool → ℕ → Turn Fence
@@ -82,7 +82,7 @@ fences g s = allFound (nextFence g s) (length s) 0
 -- ---- the step, which follows the Rust in where it stays when nothing is left: at the place from which no fence byte was found
 -- a line that begins with a run of the fence byte at p
 abbrev pub openLine : FenceIter → List ℕ → ℕ → Turn Fence
-openLine g s p = cond (opensRun (g .byte) (g .min) s p (wholeRunEnd g s p) (runLine g s p)) (found (fenceAt g s p) (fenceAt g s p .end)) (go (lineAfter g s p))
+openLine g s p = cond (opensRun (g .byte) (g .min) s p (wholeRunEnd g s p) (runLine g s p)) (found (fenceAt g s p) (fenceAt g s p .end)) (go (afterRunLine g s p))
 
 -- what the fence byte at p, the first from q on, opens: nothing unless it begins its line
 abbrev pub openFrom : FenceIter → List ℕ → ℕ → ℕ → Turn Fence

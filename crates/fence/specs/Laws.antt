@@ -18,8 +18,8 @@ use Rattle.common.specs.Turn.{Turn, go, stop, found, firstTurn}
 use Rattle.common.specs.Turning.{Ahead, Adv}
 use Rattle.common.specs.Items.{said, placeOf}
 use Rattle.common.specs.ItemLaws.{step-long, step-past, step-seen}
-use Rattle.fence.specs.Fence.{Fence, at, wholeRunEnd, runLine, lineAfter, begins, closes, spanEnd, closeEnd, fenceAt, openLine, openTurn, rests, firstOpen, answer, state}
-use Rattle.fence.specs.Steps.{CloseTurned, Kept}
+use Rattle.fence.specs.Fence.{Fence, at, wholeRunEnd, runLine, afterRunLine, begins, closes, spanEnd, closeEnd, fenceAt, openLine, openTurn, rests, firstOpen, answer, state}
+use Rattle.fence.specs.Steps.{EndTurned, Kept}
 use Rattle.fence.specs.declared.FenceIter.{FenceIter}
 use Rattle.fence.specs.declared.FenceStep.{FenceStep}
 use Rattle.fence.specs.declared.CloseTurn.{CloseTurn}
@@ -110,7 +110,7 @@ module _ (g : FenceIter) (s : List ℕ) (R : ℕ → ℕ → ℕ → Bool) (part
       pub byte-here : holds (is (g .byte)) s q ≡ true
       byte-here = holds-in (is (g .byte)) s q inside ∙ (rw (← (hq .here)) at (find-at (is (g .byte)) s from (omega (arith, hq .here))))
 
-      after-in : (q < lineAfter g s q) × (lineAfter g s q ≤ length s)
+      after-in : (q < afterRunLine g s q) × (afterRunLine g s q ≤ length s)
       after-in = (omega (arith, run-some g s q byte-here, find-ge (is (g .eol)) s (wholeRunEnd g s q)), omega arith)
 
       pub first-skip : lineStart (g .eol) s q ≡ false → firstPlace (passes g s R) from (length s) ≡ firstPlace (passes g s R) (q + 1) (length s)
@@ -121,10 +121,10 @@ module _ (g : FenceIter) (s : List ℕ) (R : ℕ → ℕ → ℕ → Bool) (part
               ⊎-elim (λ (u : ltb k q ≡ true). before k h (ltb-true k q u))
               (λ u. let z : k ≡ q = omega (arith, ltb-false k q u) in passes-not k (rw z (begins-start g s q e))) (decide (ltb k q))
 
-      pub first-miss : R q (wholeRunEnd g s q) (runLine g s q) ≡ false → firstPlace (passes g s R) from (length s) ≡ firstPlace (passes g s R) (lineAfter g s q) (length s)
-      first-miss e = first-over (passes g s R) from (lineAfter g s q) (length s) (omega (arith, hq .low, after-in)) (after-in .1) miss
+      pub first-miss : R q (wholeRunEnd g s q) (runLine g s q) ≡ false → firstPlace (passes g s R) from (length s) ≡ firstPlace (passes g s R) (afterRunLine g s q) (length s)
+      first-miss e = first-over (passes g s R) from (afterRunLine g s q) (length s) (omega (arith, hq .low, after-in)) (after-in .1) miss
         where
-          miss : (k : ℕ) → from ≤ k → k < lineAfter g s q → passes g s R k ≡ false
+          miss : (k : ℕ) → from ≤ k → k < afterRunLine g s q → passes g s R k ≡ false
           miss k h l =
               ⊎-elim (λ (u : ltb k q ≡ true). before k h (ltb-true k q u))
               (λ u. passed q byte-here e k (ltb-false k q u) (omega arith)) (decide (ltb k q))
@@ -145,11 +145,11 @@ short-part : (least a b j : ℕ) → a ≤ b → leb least (runCount a j) ≡ fa
 short-part least a b j h e = lt-leb least (runCount b j) (omega (arith, leb-false least (runCount a j) e))
 
 -- the test of a closing run
-abbrev shuts : FenceIter → ℕ → List ℕ → ℕ → ℕ → ℕ → Bool
-shuts g count s q j e = closesRun (either (g .sep) (g .tab)) count s q j e
+abbrev locks : FenceIter → ℕ → List ℕ → ℕ → ℕ → ℕ → Bool
+locks g count s q j e = closesRun (either (g .sep) (g .tab)) count s q j e
 
-shuts-parts : (g : FenceIter) (count : ℕ) (s : List ℕ) → PartsRuns (shuts g count s)
-shuts-parts g count s a b j e h =
+locks-parts : (g : FenceIter) (count : ℕ) (s : List ℕ) → PartsRuns (locks g count s)
+locks-parts g count s a b j e h =
     let y = leb e (find (other (either (g .sep) (g .tab))) s j) in
     and-fewer (leb count (runCount a j)) (leb count (runCount b j)) y y (short-part count a b j h) (λ z. z)
 
@@ -175,7 +175,7 @@ module _ (g : FenceIter) (count : ℕ) (s : List ℕ) where
   unfolding closeEnd
   close-past q h = rw (le-ltb (firstPlace (closes g count s) q (length s)) (length s) h)
 
-  close-on : (q p : ℕ) → firstPlace (closes g count s) q (length s) ≡ p → p < length s → lineAfter g s p ≡ closeEnd g count s q
+  close-on : (q p : ℕ) → firstPlace (closes g count s) q (length s) ≡ p → p < length s → afterRunLine g s p ≡ closeEnd g count s q
   unfolding closeEnd
   close-on q p e h = rw (e, lt-ltb p (length s) h)
 
@@ -188,7 +188,7 @@ module _ (g : FenceIter) (count : ℕ) (s : List ℕ) where
       by : (ltb p (length s) ≡ true) ⊎ (ltb p (length s) ≡ false) → (from ≤ closeEnd g count s from) × (closeEnd g count s from ≤ length s)
       by (inl u) =
           let l = ltb-true p (length s) u in
-          let e : lineAfter g s p ≡ closeEnd g count s from = close-on from p refl l in
+          let e : afterRunLine g s p ≡ closeEnd g count s from = close-on from p refl l in
           let w = first-ge (closes g count s) from (length s) in
           let r = find-ge (other (is (g .byte))) s p in
           let t = find-ge (is (g .eol)) s (wholeRunEnd g s p) in
@@ -197,39 +197,39 @@ module _ (g : FenceIter) (count : ℕ) (s : List ℕ) where
 
   -- the ways out of a turn: q is the next fence byte
   module _ (from q : ℕ) (hq : Sought (is (g .byte)) s from q) where
-    pub close-none : length s ≤ q → CloseTurned g count s from (close.End (length s))
-    unfolding CloseTurned closes
-    close-none l = close-past from (first-gone g s (shuts g count s) (shuts-parts g count s) from q hq l)
+    pub close-none : length s ≤ q → EndTurned g count s from (close.End (length s))
+    unfolding EndTurned closes
+    close-none l = close-past from (first-gone g s (locks g count s) (locks-parts g count s) from q hq l)
 
     module _ (inside : q < length s) (y : Bool) (hy : Gives (lineStart (g .eol) s q) y) where
-      pub close-skip : y ≡ false → CloseTurned g count s from (close.Go (q + 1))
-      unfolding CloseTurned closes
+      pub close-skip : y ≡ false → EndTurned g count s from (close.Go (q + 1))
+      unfolding EndTurned closes
       close-skip e = (
         omega (arith, hq .low),
         omega arith,
-        close-at from (q + 1) (first-skip g s (shuts g count s) (shuts-parts g count s) from q hq inside (sym (hy .answer) ∙ e)),
+        close-at from (q + 1) (first-skip g s (locks g count s) (locks-parts g count s) from q hq inside (sym (hy .answer) ∙ e)),
       )
 
       -- its run ends at j, its line at e, and n is the place after it
       module _ (start : y ≡ true) (j : ℕ) (hj : Sought (other (is (g .byte))) s q j) (e : ℕ) (he : Sought (is (g .eol)) s j e) (n : ℕ) (hn : Gives (nextLine (length s) e) n) (c : ℕ) (hc : Gives (runCount q j) c) where
-        close-miss : shuts g count s q (wholeRunEnd g s q) (runLine g s q) ≡ false → CloseTurned g count s from (close.Go n)
-        unfolding CloseTurned closes
+        close-miss : locks g count s q (wholeRunEnd g s q) (runLine g s q) ≡ false → EndTurned g count s from (close.Go n)
+        unfolding EndTurned closes
         close-miss f =
-            let z : n ≡ lineAfter g s q = hn .answer ∙ ap (nextLine (length s)) (he .here ∙ ap (lineEnd (g .eol) s) (hj .here)) in
-            (omega (arith, hq .low, hj .low, he .low, hn .answer), omega (arith, hn .answer), rw z (close-at from (lineAfter g s q) (first-miss g s (shuts g count s) (shuts-parts g count s) from q hq inside f)))
+            let z : n ≡ afterRunLine g s q = hn .answer ∙ ap (nextLine (length s)) (he .here ∙ ap (lineEnd (g .eol) s) (hj .here)) in
+            (omega (arith, hq .low, hj .low, he .low, hn .answer), omega (arith, hn .answer), rw z (close-at from (afterRunLine g s q) (first-miss g s (locks g count s) (locks-parts g count s) from q hq inside f)))
 
-        pub close-short : c < count → CloseTurned g count s from (close.Go n)
+        pub close-short : c < count → EndTurned g count s from (close.Go n)
         close-short l = close-miss (simp (← (hj .here), ← (hc .answer), lt-leb count c l))
 
-        pub close-text : (z : Bool) → z ≡ false → Gives (leb e (find (other (either (g .sep) (g .tab))) s j)) z → CloseTurned g count s from (close.Go n)
+        pub close-text : (z : Bool) → z ≡ false → Gives (leb e (find (other (either (g .sep) (g .tab))) s j)) z → EndTurned g count s from (close.Go n)
         close-text z k hz = close-miss (simp (← (hj .here), ← (he .here), ← (hz .answer), k, and-false))
 
-        pub close-found : count ≤ c → (z : Bool) → z ≡ true → Gives (leb e (find (other (either (g .sep) (g .tab))) s j)) z → CloseTurned g count s from (close.End n)
-        unfolding CloseTurned closes
+        pub close-found : count ≤ c → (z : Bool) → z ≡ true → Gives (leb e (find (other (either (g .sep) (g .tab))) s j)) z → EndTurned g count s from (close.End n)
+        unfolding EndTurned closes
         close-found l z k hz =
             hn .answer
             ∙ ap (nextLine (length s)) (he .here ∙ ap (lineEnd (g .eol) s) (hj .here))
-            ∙ close-on from q (first-meet g s (shuts g count s) (shuts-parts g count s) from q hq inside (sym (hy .answer) ∙ start) (simp (← (hj .here), ← (hc .answer), le-leb count c l, ← (he .here), ← (hz .answer), k))) inside
+            ∙ close-on from q (first-meet g s (locks g count s) (locks-parts g count s) from q hq inside (sym (hy .answer) ∙ start) (simp (← (hj .here), ← (hc .answer), le-leb count c l, ← (he .here), ← (hz .answer), k))) inside
 
 pub ruleset close-turn-rules = (close-none, close-skip, close-short, close-text, close-found)
 
@@ -240,18 +240,18 @@ pub record FenceCloses (g : FenceIter) (count : ℕ) (s : List ℕ) (from q : �
 pub closes-first : (g : FenceIter) (count : ℕ) (s : List ℕ) (q : ℕ) → FenceCloses g count s q q
 closes-first g count s q = record { same = refl }
 
-module _ (g : FenceIter) (count : ℕ) (s : List ℕ) (from q : ℕ) (d : CloseTurn) (turned : CloseTurned g count s q d) where
+module _ (g : FenceIter) (count : ℕ) (s : List ℕ) (from q : ℕ) (d : CloseTurn) (turned : EndTurned g count s q d) where
   pub closes-less : (n : ℕ) → d ≡ close.Go n → length s - n < length s - q
-  unfolding CloseTurned
-  closes-less n e = let w = subst (CloseTurned g count s q) e turned in omega (arith, w)
+  unfolding EndTurned
+  closes-less n e = let w = subst (EndTurned g count s q) e turned in omega (arith, w)
 
   pub closes-again : (n : ℕ) → d ≡ close.Go n → FenceCloses g count s from q → FenceCloses g count s from n
-  unfolding CloseTurned
-  closes-again n e w = record { same = w .same ∙ subst (CloseTurned g count s q) e turned .2 }
+  unfolding EndTurned
+  closes-again n e w = record { same = w .same ∙ subst (EndTurned g count s q) e turned .2 }
 
   pub closes-end : (n : ℕ) → d ≡ close.End n → FenceCloses g count s from q → n ≡ closeEnd g count s from
-  unfolding CloseTurned
-  closes-end n e w = subst (CloseTurned g count s q) e turned ∙ sym (w .same)
+  unfolding EndTurned
+  closes-end n e w = subst (EndTurned g count s q) e turned ∙ sym (w .same)
 
 pub ruleset close-rules = (closes-first, closes-less, closes-again, closes-end)
 
@@ -320,18 +320,18 @@ pub lies-end : (q n : ℕ) (f : Fence) → Lies q n f → f .end ≤ n
 lies-end q n f l = omega arith
 
 -- a fence that opens at p
-pub fence-lies : (g : FenceIter) (s : List ℕ) (p : ℕ) → holds (is (g .byte)) s p ≡ true → (p < lineAfter g s p) × (p < fenceAt g s p .end) × (fenceAt g s p .end ≤ length s)
+pub fence-lies : (g : FenceIter) (s : List ℕ) (p : ℕ) → holds (is (g .byte)) s p ≡ true → (p < afterRunLine g s p) × (p < fenceAt g s p .end) × (fenceAt g s p .end ≤ length s)
 fence-lies g s p here =
     let w = holds-true (is (g .byte)) s p here in
-    let m : p < lineAfter g s p = omega (arith, run-some g s p here, find-ge (is (g .eol)) s (wholeRunEnd g s p)) in
-    let c = close-inside g (runCount p (wholeRunEnd g s p)) s (lineAfter g s p) (omega arith) in
+    let m : p < afterRunLine g s p = omega (arith, run-some g s p here, find-ge (is (g .eol)) s (wholeRunEnd g s p)) in
+    let c = close-inside g (runCount p (wholeRunEnd g s p)) s (afterRunLine g s p) (omega arith) in
     (m, omega arith, omega arith)
 
 pub turn-adv : (g : FenceIter) (s : List ℕ) → Adv Lies (openTurn g s) (length s)
 unfolding openTurn
 turn-adv g s = record { ahead = λ q h. by q h (find (is (g .byte)) s q) (sought (is (g .byte)) s q (find (is (g .byte)) s q) refl) (ltb (find (is (g .byte)) s q) (length s)) refl }
   where
-    line : (q p : ℕ) → q ≤ p → holds (is (g .byte)) s p ≡ true → (y : Bool) → Ahead Lies q (length s) (cond y (found (fenceAt g s p) (fenceAt g s p .end)) (go (lineAfter g s p)))
+    line : (q p : ℕ) → q ≤ p → holds (is (g .byte)) s p ≡ true → (y : Bool) → Ahead Lies q (length s) (cond y (found (fenceAt g s p) (fenceAt g s p .end)) (go (afterRunLine g s p)))
     line q p h here true = let w = fence-lies g s p here in (omega arith, omega arith, (omega arith, omega arith, omega arith))
     line q p h here false = let w = fence-lies g s p here in (omega arith, omega arith)
 

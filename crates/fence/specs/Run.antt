@@ -19,7 +19,7 @@ use Rattle.common.specs.ItemLaws.{step-taken}
 use Rattle.common.specs.Turn.{Turn, go, stop, found, thenCollect, firstTurn, allFound, Step, drain, stepOf}
 use Rattle.common.specs.Turning.{Ahead, Adv}
 use Rattle.common.specs.TurnLaws.{collect-stop, collect-found, collect-alike, drain-state, all-only}
-use Rattle.fence.specs.Fence.{Fence, fresh, at, wholeRunEnd, runLine, lineAfter, begins, opens, closes, spanEnd, closeEnd, fenceAt, nextAt, nextFence, fences, openTurn, firstOpen, answer, state}
+use Rattle.fence.specs.Fence.{Fence, fresh, at, wholeRunEnd, runLine, afterRunLine, begins, opens, closes, spanEnd, closeEnd, fenceAt, nextAt, nextFence, fences, openTurn, firstOpen, answer, state}
 use Rattle.fence.specs.Steps.{Kept, toldStep, stepped}
 use Rattle.fence.specs.Laws.{begins-true, unlocks, unlocks-parts, first-gone, first-skip, first-miss, first-meet, Lies, fence-lies, turn-adv, turn-stop, turn-skip, turn-line}
 use Rattle.fence.specs.declared.FenceIter.{FenceIter}
@@ -75,8 +75,8 @@ module _ (g : FenceIter) (s : List ℕ) where
           collect-found next-adv h (next-is q p (first-meet g s (unlocks g s) (unlocks-parts g s) q p hp l b u) l)
           ∙ ap (thenCollect All) (turn-line g s q p hp l true (record { answer = sym b }) refl (found (fenceAt g s p) (fenceAt g s p .end)) (record { answer = rw u }))
       line p hp l b (inr u) =
-          collect-alike next-adv h (omega arith) (next-alike q (lineAfter g s p) (first-miss g s (unlocks g s) (unlocks-parts g s) q p hp l u))
-          ∙ ap (thenCollect All) (turn-line g s q p hp l true (record { answer = sym b }) refl (go (lineAfter g s p)) (record { answer = rw u }))
+          collect-alike next-adv h (omega arith) (next-alike q (afterRunLine g s p) (first-miss g s (unlocks g s) (unlocks-parts g s) q p hp l u))
+          ∙ ap (thenCollect All) (turn-line g s q p hp l true (record { answer = sym b }) refl (go (afterRunLine g s p)) (record { answer = rw u }))
 
       start : (p : ℕ) → Sought (is (g .byte)) s q p → p < length s → (lineStart (g .eol) s p ≡ true) ⊎ (lineStart (g .eol) s p ≡ false) → All q ≡ thenCollect All (openTurn g s q)
       start p hp l (inl b) = line p hp l b (decide (unlocks g s p (wholeRunEnd g s p) (runLine g s p)))
@@ -116,7 +116,7 @@ module _ (g : FenceIter) (s : List ℕ) (q : ℕ) where
   unfolding openTurn
   turn-same n =
       let p = find (is (g .byte)) s n in
-      rw (close-same (runCount p (wholeRunEnd g s p)) (lineAfter g s p))
+      rw (close-same (runCount p (wholeRunEnd g s p)) (afterRunLine g s p))
 
   step-at : stepped (at g q) s ≡ stepOf (at g) (firstTurn (openTurn g s) (length s) q)
   unfolding stepped firstOpen

@@ -14,10 +14,10 @@ use Rattle.fence.specs.declared.FenceStep.{FenceStep}
 use Rattle.fence.specs.declared.CloseTurn.{CloseTurn}
 use Rattle.fence.specs.declared.CloseTurn.the-variants.{Go, End}
 
--- the search from q goes on from a later place, or it has its answer
-unfoldable pub CloseTurned : FenceIter → ℕ → List ℕ → ℕ → CloseTurn → Type 0
-CloseTurned g count s q (Go n) = (q < n) × (n ≤ length s) × (closeEnd g count s q ≡ closeEnd g count s n)
-CloseTurned g count s q (End n) = n ≡ closeEnd g count s q
+-- the search from q for a fence's end goes on from a later place, or it has its answer
+unfoldable pub EndTurned : FenceIter → ℕ → List ℕ → ℕ → CloseTurn → Type 0
+EndTurned g count s q (Go n) = (q < n) × (n ≤ length s) × (closeEnd g count s q ≡ closeEnd g count s n)
+EndTurned g count s q (End n) = n ≡ closeEnd g count s q
 
 -- the promise of `next` for its result
 abbrev pub Kept : FenceIter → List ℕ → FenceStep → Type 0

@@ -26,7 +26,7 @@ ghost use Rattle.search.specs.Search.{holds, is};
 ghost use Rattle.common.specs.Refusals.{toldSpan};
 ghost use Rattle.common.specs.Turn.{firstTurn};
 ghost use Rattle.fence.specs.Fence.{fresh, at, closeEnd, openLine, openTurn, view, rests, answer, state};
-ghost use Rattle.fence.specs.Steps.{CloseTurned};
+ghost use Rattle.fence.specs.Steps.{EndTurned};
 
 // The fields of the Rust's iterator; the text is lent beside it.
 pub struct FenceIter {
@@ -92,7 +92,7 @@ impl FenceIter {
 
     // What the next fence byte at or after `search` says to the search for the close of a run of `count`.
     fn close_turn(self, src: &[u8], count: usize, search: usize) -> CloseTurn
-        ensures { λ r. ⌜ CloseTurned self count (now (src .entry)) search r ⌝ }
+        ensures { λ r. ⌜ EndTurned self count (now (src .entry)) search r ⌝ }
     {
         let q = find_byte(src, search, self.byte);
         if q >= src.len() {

@@ -172,7 +172,7 @@ module _ (g : Grammar) (fences s : List ℕ) (p : ℕ) (y : Bool) where
 
 -- what closes a fence is the reader's, whatever the rules are
 pub reader-shuts : (g : Grammar) (has : ℕ → Bool) (least : ℕ → ℕ) (b count : ℕ) (s : List ℕ) → shuts g b count s ≡ reader g has least .shuts b count s
-unfolding reader shuts
+unfolding reader
 reader-shuts g has least b count s = refl
 
 -- ---- the search for a close

@@ -6,16 +6,16 @@ use mathlib.Core.Bool.{Bool, cond, _&&_}
 use mathlib.Core.List.{List}
 use Prim.Native.Nat.{ℕ, _+_, _-_, min}
 use lib.Dec.{ltb, leb}
-use lib.ListN.{getD}
-use Rattle.search.specs.Search.{find, is, either, other, holds, lineStart, lineEnd}
+use lib.ListN.{length, getD}
+use Rattle.search.specs.Search.{find, afterRun, is, either, other, holds, lineStart, lineEnd}
 use Rattle.common.specs.declared.grammar.Grammar.{Grammar}
-use Rattle.common.specs.Rules.{tabulate, entry, ruleIndex, hasRule}
+use Rattle.common.specs.Rules.{tabulate, entry, ruleIndex}
 use Rattle.lines.specs.declared.fence_tests.Opening.{Opening}
 use Rattle.lines.specs.declared.fence_tests.Opening.the-variants.{Opens, Not}
 
 -- the end of the run of b that begins at p, within a line that ends at e
 abbrev pub runEnd : ℕ → List ℕ → ℕ → ℕ → ℕ
-runEnd b s p e = min (find (other (is b)) s p) e
+runEnd b s p e = min (afterRun b s p) e
 
 -- the length of a run from p up to j: "Run counts stop at 255."
 abbrev pub runCount : ℕ → ℕ → ℕ
@@ -57,9 +57,13 @@ unfoldable pub closing : Grammar → ℕ → ℕ → List ℕ → ℕ → Bool
 closing g b count s q = lineStart (g .eol) s q && (holds (is b) s q && closesTo g b count s q (lineEnd (g .eol) s q))
 
 -- ---- the rules
--- "by the first rule with that byte", as a table over the bytes: 0 where there is none, else one more than its minimum
+-- the number that stands for the rule at an index: 0 where there is none, else one more than its minimum
+abbrev pub ruleCell : List ℕ → List ℕ → ℕ → ℕ
+ruleCell bytes mins k = cond (ltb k (length bytes)) (getD mins k 0 + 1) 0
+
+-- "by the first rule with that byte", as a table over the bytes
 abbrev pub fenceCell : List ℕ → List ℕ → ℕ → ℕ
-fenceCell bytes mins b = cond (hasRule bytes b) (getD mins (ruleIndex bytes b) 0 + 1) 0
+fenceCell bytes mins b = ruleCell bytes mins (ruleIndex bytes b)
 
 unfoldable pub fenceTable : List ℕ → List ℕ → List ℕ
 fenceTable bytes mins = tabulate (fenceCell bytes mins) 256 0

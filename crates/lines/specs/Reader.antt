@@ -24,21 +24,22 @@ pub record Fences : Type 0 where
   -- whether a line begins here that closes a fence of a byte and a length
   pub shuts : ℕ → ℕ → List ℕ → ℕ → Bool
 
+-- what closes a fence by the reader of a grammar, whatever the rules are
+unfoldable pub shuts : Grammar → ℕ → ℕ → List ℕ → ℕ → Bool
+shuts g = closing g
+
 -- the page's fences, those of edition 1: `has` says whether a byte has a rule, `least` its minimum
 abbrev pub editionOne : Grammar → (ℕ → Bool) → (ℕ → ℕ) → Fences
 editionOne g has least = record {
   opens = λ s p. lineStart (g .eol) s p && opensLine (g .eol) has least s p;
   enters = opensLine (g .eol) has least;
   size = λ s p. runCount p (runEnd (getD s p 0) s p (lineEnd (g .eol) s p));
-  shuts = closing g;
+  shuts = shuts g;
 }
 
--- the fence reader of a grammar; and what closes a fence by it, whatever the rules are
+-- the fence reader of a grammar
 unfoldable pub reader : Grammar → (ℕ → Bool) → (ℕ → ℕ) → Fences
 reader g has least = editionOne g has least
-
-unfoldable pub shuts : Grammar → ℕ → ℕ → List ℕ → ℕ → Bool
-shuts g = closing g
 
 -- the reader by a table of rules, also one made by hand
 abbrev pub readerIn : Grammar → List ℕ → Fences

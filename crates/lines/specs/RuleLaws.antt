@@ -1,6 +1,6 @@
 -- Laws of the table of fence rules: how a loop fills it, and what it says. Assumes nothing.
 use mathlib.Core.Path.{_≡_, refl, sym, ap, _∙_, fun-ext}
-use mathlib.Core.Bool.{true, false, cond}
+use mathlib.Core.Bool.{true, false}
 use mathlib.Core.List.{List}
 use mathlib.Core.Logic.{_⊎_, inl, inr}
 use Prim.Native.Nat.{ℕ, _+_, _-_, _≤_, _<_}
@@ -14,11 +14,11 @@ use Rattle.search.specs.SearchLaws.{decide, is-yes, is-no, find-here, find-next
 use Rattle.common.specs.Rules.{onByte, ruleIndex, hasRule, leastOf}
 use Rattle.common.specs.Sets.{Index}
 use Rattle.common.specs.TableLaws.{Table, table-entry, table-start, table-set, table-same, table-is}
-use Rattle.lines.specs.Fences.{fenceCell, fenceTable, hasIn, leastIn}
+use Rattle.lines.specs.Fences.{ruleCell, fenceCell, fenceTable, hasIn, leastIn}
 
 -- ---- filled from the last rule to the first: what the rules from i on say of a byte
 unfoldable pub cellFrom : List ℕ → List ℕ → ℕ → ℕ → ℕ
-cellFrom bytes mins i b = cond (ltb (find (is b) bytes i) (length bytes)) (getD mins (find (is b) bytes i) 0 + 1) 0
+cellFrom bytes mins i b = ruleCell bytes mins (find (is b) bytes i)
 
 pub record TableFilled (bytes mins fences : List ℕ) (i : ℕ) : Type 0 where
   pub within : i ≤ length bytes

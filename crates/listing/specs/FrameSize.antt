@@ -9,7 +9,7 @@ use native.Mathlib.Omega.{arith}
 use lib.Dec.{ltb}
 use lib.ListN.{length, take, drop, length-append}
 use borrow.Author.Tests.{ltb-true, ltb-false}
-use Rattle.search.specs.Search.{is, lineStart, lineEnd}
+use Rattle.search.specs.Search.{is, lineStart, lineEnd, afterLine}
 use Rattle.search.specs.SearchLaws.{decide, find-ge, find-le, line-one, line-next}
 use Rattle.common.specs.Turn.{between, None}
 use Rattle.common.specs.Turning.{Each}
@@ -17,7 +17,7 @@ use Rattle.common.specs.EachLaws.{each-append, each-getD, each-drop, each-take,
 use Rattle.common.specs.declared.span.Span.{Span}
 use Rattle.cont.specs.declared.Framing.{Framing}
 use Rattle.cont.specs.Frames.{markAt, afterMark, marksFrom, lineMarks, depth, frames}
-use Rattle.cont.specs.Cont.{closedFrames, afterLine}
+use Rattle.cont.specs.Cont.{closedFrames}
 use Rattle.cont.specs.MarkLaws.{mark-in, after-gt, marks-true, marks-false, marks-zero}
 use Rattle.cont.specs.TurnLaws.{closing-length}
 use Rattle.cont.specs.StackLaws.{opened, deeper, closedAt, Rest, restacked-length, opened-line, opened-same, opened-stretch, closed-no-line, closed-line, rest-at, rest-end, frames-rest}
@@ -82,7 +82,7 @@ module _ (m : Framing) (s : List ℕ) where
   rest-few (suc f) p h l st = by (rest-few f) (decide (ltb p (length s)))
     where
       a : ℕ
-      a = afterLine m s p
+      a = afterLine (m .eol) s p
 
       e : ℕ
       e = lineEnd (m .eol) s p

@@ -3,11 +3,11 @@
 use mathlib.Core.Path.{refl}
 use Rattle.search.specs.Search.{is, either, oneOf, other, holds, firstOf, firstPlace, find, back, lineStart, digit}
 use Rattle.lines.specs.Fences.{opensLine, closesTo, closing}
-use Rattle.lines.specs.Reader.{reader}
+use Rattle.lines.specs.Reader.{shuts, reader}
 use Rattle.lines.specs.Paragraph.{endsAt, paragraphEnd, nextIn}
 use Rattle.common.specs.Turn.{scan, collect, gather}
 use Rattle.common.specs.Turning.{Each}
-use Rattle.region.specs.Regions.{shutPlace, oddBefore, symTurn, asymTurn, inline, regionTurn, regions}
+use Rattle.region.specs.Regions.{shutPlace, oddBefore, symTurn, asymTurn, inline, regionTurn, regionsFrom, regions}
 use Rattle.rules.specs.Columns.{searched, openRule, symRule}
 use Rattle.fence.specs.Fence.{begins, opens, closes, closeEnd, nextFence, fences}
 use Rattle.common.specs.Items.{leading, beyond, itemAt, itemsOf}
@@ -21,5 +21,5 @@ use Rattle.amend.specs.Amended.{regionsIn, amendedRegions, offJoint, leftOpen, 
 use Rattle.marked.specs.Page.{Says, page}
 
 pub marked : Each Says page
-unfolding is either oneOf other holds firstOf firstPlace find back lineStart opensLine closesTo closing reader endsAt paragraphEnd nextIn scan collect shutPlace oddBefore symTurn asymTurn inline regionTurn regions searched openRule symRule begins opens closes closeEnd nextFence fences leading beyond itemAt itemsOf digit valuedFrom numberLine markAt afterMark marksFrom lineMarks openStart ending frames gather reaches keepBefore keepFrom joint regionsIn amendedRegions misshapen offJoint leftOpen judged settledAnswer amendedAnswer
+unfolding is either oneOf other holds firstOf firstPlace find back lineStart opensLine closesTo closing shuts reader endsAt paragraphEnd nextIn scan collect shutPlace oddBefore symTurn asymTurn inline regionTurn regionsFrom regions searched openRule symRule begins opens closes closeEnd nextFence fences leading beyond itemAt itemsOf digit valuedFrom numberLine markAt afterMark marksFrom lineMarks openStart ending frames gather reaches keepBefore keepFrom joint regionsIn amendedRegions misshapen offJoint leftOpen judged settledAnswer amendedAnswer
 marked = (refl, (refl, (refl, (refl, (refl, (refl, (refl, (refl, (refl, (refl, (refl, (refl, (refl, (refl, (refl, (refl, (refl, (refl, (record { answer = refl; list = refl }, (record { answer = refl; list = refl }, (record { answer = refl; list = refl }, (record { answer = refl; list = refl }, (refl, (record { answer = refl; list = refl }, tt))))))))))))))))))))))))

@@ -7,7 +7,7 @@ use Prim.Native.Nat.{ℕ, _+_, _-_, _≤_}
 use native.Mathlib.Omega.{arith}
 use lib.Dec.{ltb}
 use lib.ListN.{length, take, drop}
-use Rattle.search.specs.Search.{find, holds, oneOf, back, lineEnd, nextLine, digit}
+use Rattle.search.specs.Search.{find, holds, oneOf, back, lineEnd, afterLine, digit}
 use Rattle.common.specs.Items.{ItemGrammar, grammar, blank, has, Apart, leads, lineBytes, leading, beyond, itemFrom, lineFound, readTurn, stepFor}
 use Rattle.common.specs.ItemLaws.{both}
 use Rattle.common.specs.Scanning as scanning
@@ -144,7 +144,7 @@ module _ (s : List ℕ) (bytes : ByteRun s) where
       let r = beyond (blank g) l in
       let ds = numbered.readDigits r in
       both (OnFound ByteDelimited) (ltb q (length s)) _ _
-      (λ u. numbered-then g ds (q + length (leading (blank g) l) + length ds) (nextLine (length s) (lineEnd (g .eol) s q)) (drop (length ds) r) (each-drop Byte (length ds) r (beyond-bytes (blank g) l (line-bytes g s q bytes)))) (λ u. tt)
+      (λ u. numbered-then g ds (q + length (leading (blank g) l) + length ds) (afterLine (g .eol) s q) (drop (length ds) r) (each-drop Byte (length ds) r (beyond-bytes (blank g) l (line-bytes g s q bytes)))) (λ u. tt)
 
   numbered-turns : (set : List Bool) (g : BlockNumberedIter) (q : ℕ) → OnFound ByteDelimited (scanning.turn numbered.scanner g set s q)
   unfolding scanning.turn

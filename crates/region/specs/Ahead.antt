@@ -7,7 +7,7 @@ use native.Mathlib.Omega.{arith}
 use lib.Dec.{eqb, ltb}
 use lib.ListN.{length, getD}
 use borrow.Author.Tests.{ltb-true, eq-eqb}
-use Rattle.search.specs.Search.{find, is, other, lineEnd, nextLine}
+use Rattle.search.specs.Search.{find, is, other, afterLine}
 use Rattle.search.specs.SearchLaws.{clash, and-true, is-yes, is-true, other-no, find-ge, find-le, find-next, find-at, first-ge, first-le}
 use Rattle.common.specs.Entry.{Shaped}
 use Rattle.common.specs.ItemLaws.{both}
@@ -21,7 +21,7 @@ use Rattle.region.specs.declared.Cause.{Cause}
 use Rattle.region.specs.declared.Cause.the-variants.{Symmetric, Asymmetric}
 use Rattle.region.specs.Region.{Region, Caused, InOrder, rowOf}
 use Rattle.rules.specs.Grammar.{Rule, plain, sym, asym, Gram}
-use Rattle.region.specs.Regions.{shutPlace, fencedTo, fenced, escaped, nextOf, symAfter, symTurn, asymAfter, asymTurn, pairOf, openPair, inline, regionTurn, regions}
+use Rattle.region.specs.Regions.{shutPlace, fencedTo, fenced, escaped, nextOf, symAfter, symTurn, asymAfter, asymTurn, pairOf, openPair, inline, regionTurn, regionsFrom, regions}
 
 -- a region that is not empty, between the place that a turn stood at and the one that it goes on from
 abbrev pub Lies : {T : Type 0} → ℕ → ℕ → Region T → Type 0
@@ -62,7 +62,7 @@ module _ (g : Gram) (s : List ℕ) where
   pub shut-low : (p : ℕ) → p < length s → p < shutPlace g s p
   unfolding shutPlace
   shut-low p h =
-      omega (arith, find-ge (is (g .eol)) s p, first-ge (g .fences .shuts (getD s p 0) (g .fences .size s p) s) (nextLine (length s) (lineEnd (g .eol) s p)) (length s))
+      omega (arith, find-ge (is (g .eol)) s p, first-ge (g .fences .shuts (getD s p 0) (g .fences .size s p) s) (afterLine (g .eol) s p) (length s))
 
   fenced-ahead : (q p : ℕ) → q ≤ p → p < length s → Ahead (Far (length s)) q (length s) (fenced g s p)
   fenced-ahead q p h l = by (ltb (shutPlace g s p) (length s)) refl
@@ -145,7 +145,7 @@ collect-in-order {step = step} {len = len} adv (suc f) q h =
     (λ r n m i w. (w .0, w .1, omega arith, order-later (r .stop) n len (collect step f n) (w .2) (collect-in-order adv f n i)))
 
 pub regions-in-order : (g : Gram) (s : List ℕ) → InOrder 0 (length s) (regions g s)
-unfolding regions
+unfolding regions regionsFrom
 regions-in-order g s = collect-in-order (regionTurn-ahead g s) (suc (length s)) 0 (omega arith)
 
 -- and so are their rows
@@ -164,5 +164,5 @@ few {step = step} {len = len} adv (suc f) q h =
     by-turn adv (λ t. 2 * length (thenCollect (collect step f) t) ≤ len - q + 1) q h (λ n m i. omega (arith, few adv f n i)) (λ v m i. omega arith) (λ r n m i w. omega (arith, few adv f n i, w .3))
 
 pub regions-few : (g : Gram) (s : List ℕ) → length (regions g s) ≤ length s / 2 + 1
-unfolding regions
+unfolding regions regionsFrom
 regions-few g s = omega (arith, few (regionTurn-far g s) (suc (length s)) 0 (omega arith))

@@ -31,10 +31,10 @@ way (stop v) = 1
 way (found a n) = 2
 
 -- a turn that finds something, or only goes on and not past k
-abbrev Goes : ℕ → Turn ℕ → Type 0
-Goes k (go n) = n ≤ k
-Goes k (stop v) = ⊥
-Goes k (found a n) = Unit {0}
+abbrev NoFurther : ℕ → Turn ℕ → Type 0
+NoFurther k (go n) = n ≤ k
+NoFurther k (stop v) = ⊥
+NoFurther k (found a n) = Unit {0}
 
 module _ (g : Gram) (s : List ℕ) where
   -- where the paragraph of a place ends
@@ -72,15 +72,15 @@ module _ (g : Gram) (s : List ℕ) where
       by (inr u) v = inr (simp (same, find-from (is x) s j k (omega arith) h (ltb-false (find (is x) s j) k u)))
 
   -- what is met is before the paragraph's end, and what else is told is that end
-  Within : ℕ → Hit → Type 0
-  Within j (At q) = q < paragraphEndOf j
-  Within j (End v) = v ≡ paragraphEndOf j
+  InParagraph : ℕ → Hit → Type 0
+  InParagraph j (At q) = q < paragraphEndOf j
+  InParagraph j (End v) = v ≡ paragraphEndOf j
 
-  next-within : (x j : ℕ) → Within j (nextOf g s x j)
-  unfolding nextIn Within
+  next-within : (x j : ℕ) → InParagraph j (nextOf g s x j)
+  unfolding nextIn InParagraph
   next-within x j = by (not (eqb x (g .eol)) && ltb (find (is x) s j) (paragraphEndOf j)) refl
     where
-      by : (t : Bool) → (not (eqb x (g .eol)) && ltb (find (is x) s j) (paragraphEndOf j)) ≡ t → Within j (hitAt t (find (is x) s j) (paragraphEndOf j))
+      by : (t : Bool) → (not (eqb x (g .eol)) && ltb (find (is x) s j) (paragraphEndOf j)) ≡ t → InParagraph j (hitAt t (find (is x) s j) (paragraphEndOf j))
       by true e = ltb-true (find (is x) s j) (paragraphEndOf j) (and-true (not (eqb x (g .eol))) (ltb (find (is x) s j) (paragraphEndOf j)) e .1)
       by false e = refl
 
@@ -89,7 +89,7 @@ module _ (g : Gram) (s : List ℕ) where
       (over : (u : ℕ) → after (End u) ≡ stop u) where
     -- a step that only goes on from before k doesn't pass k
     abbrev Bound : ℕ → Type 0
-    Bound k = (q : ℕ) → q < k → q < length s → getD s q 0 ≡ x → (x ≡ g .eol → ⊥) → Goes k (after (At q))
+    Bound k = (q : ℕ) → q < k → q < length s → getD s q 0 ≡ x → (x ≡ g .eol → ⊥) → NoFurther k (after (At q))
 
     later : (u k : ℕ) → k ≤ length s → Bound k → (f j : ℕ) → j ≤ k → k - j < f → k ≤ paragraphEndOf j → firstTurn step (length s) j ≡ stop u → firstTurn step (length s) k ≡ stop u
     unfolding way
@@ -105,7 +105,7 @@ module _ (g : Gram) (s : List ℕ) where
             met : Met (g .eol) s x j (At q)
             met = subst (Met (g .eol) s x j) at (next-met (g .eol) (g .fences .enters s) s x j (omega arith))
 
-            turn : (t : Turn ℕ) → after (At q) ≡ t → Goes k t → firstTurn step (length s) k ≡ stop u
+            turn : (t : Turn ℕ) → after (At q) ≡ t → NoFurther k t → firstTurn step (length s) k ≡ stop u
             turn (go n) c le =
                 let here : step j ≡ go n = is-step j ∙ ap after at ∙ c in
                 let a = turn-ahead adv (omega arith) here in
@@ -118,15 +118,15 @@ module _ (g : Gram) (s : List ℕ) where
 
     -- where it stops is where the paragraph ends
     stops-at : (u : ℕ) → ((j : ℕ) → j ≤ length s → Bound (paragraphEndOf j)) → (f j : ℕ) → j ≤ length s → length s - j < f → firstTurn step (length s) j ≡ stop u → u ≡ paragraphEndOf j
-    unfolding way Within
+    unfolding way InParagraph
     stops-at u b zero j h l e = absurd (not-suc-le-zero l)
     stops-at u b (suc f) j h l e = by (stops-at u b f) (nextOf g s x j) refl (next-within x j) (next-met (g .eol) (g .fences .enters s) s x j h)
       where
-        by : ((i : ℕ) → i ≤ length s → length s - i < f → firstTurn step (length s) i ≡ stop u → u ≡ paragraphEndOf i) → (t : Hit) → nextOf g s x j ≡ t → Within j t → Met (g .eol) s x j t → u ≡ paragraphEndOf j
+        by : ((i : ℕ) → i ≤ length s → length s - i < f → firstTurn step (length s) i ≡ stop u → u ≡ paragraphEndOf i) → (t : Hit) → nextOf g s x j ≡ t → InParagraph j t → Met (g .eol) s x j t → u ≡ paragraphEndOf j
         by ih (End v) at w met = inv (ap placeOf (inv (scan-stop adv h (is-step j ∙ ap after at ∙ over v)) ∙ e)) ∙ w
         by ih (At q) at w met = turn (after (At q)) refl (b j h q w (met .1) (met .2) (met .3))
           where
-            turn : (t : Turn ℕ) → after (At q) ≡ t → Goes (paragraphEndOf j) t → u ≡ paragraphEndOf j
+            turn : (t : Turn ℕ) → after (At q) ≡ t → NoFurther (paragraphEndOf j) t → u ≡ paragraphEndOf j
             turn (go n) c le =
                 let here : step j ≡ go n = is-step j ∙ ap after at ∙ c in
                 let a = turn-ahead adv h here in
@@ -145,8 +145,8 @@ module _ (g : Gram) (s : List ℕ) where
         later u k w (b w) (suc k) j h (omega arith) (omega arith) e
 
   -- ---- asymmetric: every later place
-  asym-bound : (k q : ℕ) → q < k → Goes k (asymAfter g s (At q))
-  asym-bound k q l = both (Goes k) (escaped g s q) _ _ (λ u. omega arith) (λ u. tt)
+  asym-bound : (k q : ℕ) → q < k → NoFurther k (asymAfter g s (At q))
+  asym-bound k q l = both (NoFurther k) (escaped g s q) _ _ (λ u. omega arith) (λ u. tt)
 
   pub asym-dead : (c u j k : ℕ) → j ≤ k → k ≤ u → j ≤ length s → firstTurn (asymTurn g s c) (length s) j ≡ stop u → firstTurn (asymTurn g s c) (length s) k ≡ stop u
   unfolding asymTurn
@@ -157,9 +157,9 @@ module _ (g : Gram) (s : List ℕ) where
   abbrev pub OutsideRun : ℕ → ℕ → Type 0
   OutsideRun b k = k < length s → getD s k 0 ≡ b → ⊥
 
-  sym-bound : (b count k q : ℕ) → k ≤ length s → OutsideRun b k → q < k → Goes k (symAfter g s b count (At q))
+  sym-bound : (b count k q : ℕ) → k ≤ length s → OutsideRun b k → q < k → NoFurther k (symAfter g s b count (At q))
   sym-bound b count k q w z l =
-      both (Goes k) (escaped g s q) _ _ (λ u. omega arith) (λ u. both (Goes k) (eqb (find (other (is b)) s q - q) count) _ _ (λ v. tt) (λ v. by (decide (ltb k (length s)))))
+      both (NoFurther k) (escaped g s q) _ _ (λ u. omega arith) (λ u. both (NoFurther k) (eqb (find (other (is b)) s q - q) count) _ _ (λ v. tt) (λ v. by (decide (ltb k (length s)))))
     where
       by : (ltb k (length s) ≡ true) ⊎ (ltb k (length s) ≡ false) → find (other (is b)) s q ≤ k
       by (inl u) = let i = ltb-true k (length s) u in find-hit (other (is b)) s q k (omega arith) i (other-yes (is b) (getD s k 0) (is-no b (getD s k 0) (z i)))

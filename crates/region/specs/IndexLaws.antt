@@ -23,7 +23,7 @@ use Rattle.lines.specs.declared.fence_tests.Hit.the-variants.{At, End}
 use Rattle.region.specs.declared.Cause.{Cause}
 use Rattle.region.specs.declared.Cause.the-variants.{Fence, Symmetric, Asymmetric}
 use Rattle.region.specs.Region.{Caused, Origin, retag}
-use Rattle.region.specs.Regions.{shutPlace, fencedTo, fenced, escaped, nextOf, symAfter, symTurn, asymAfter, asymTurn, pairOf, openPair, inline, regionAt, regionTurn, regions}
+use Rattle.region.specs.Regions.{shutPlace, fencedTo, fenced, escaped, nextOf, symAfter, symTurn, asymAfter, asymTurn, pairOf, openPair, inline, regionAt, regionTurn, regionsFrom, regions}
 use Rattle.region.specs.Ahead.{regionTurn-ahead}
 
 -- the rule that made a region, where fence rule i stands at h i
@@ -110,7 +110,7 @@ module _ (h : ℕ → ℕ) where
 
     -- the regions by rules at other indices are the regions, each with its rule's other index
     pub regions-reindexed : regions (reindexed h g) s ≡ map (retag (reindex h)) (regions g s)
-    unfolding Retold regions
+    unfolding Retold regions regionsFrom
     regions-reindexed = rw zero-add at (allFound-move (regionTurn-ahead g s) (retag (reindex h)) (regionTurn (reindexed h g) s) 0 (λ q i. turn-retold q) (length s) 0 (omega arith) (omega arith))
 
 -- what is written of regions and says nothing of the rules that made them is the same
@@ -124,15 +124,15 @@ module _ (rules : List FenceRule) (f : Gathered) (w : AllGathered rules f) (g : 
   abbrev all : List Caused
   all = regions (gramOf g (columns (ruleBytes rules) (ruleMins rules) y t o k n)) s
 
-  abbrev kept : List Caused
-  kept = regions (gramOf g (columns (keptBytes f) (keptMins f) y t o k n)) s
+  abbrev byKept : List Caused
+  byKept = regions (gramOf g (columns (keptBytes f) (keptMins f) y t o k n)) s
 
   -- they are the same regions, and a kept rule's own index is the one that it has in the run
-  pub gathered-regions : all ≡ map (retag (reindex (ownPlace f))) kept
+  pub gathered-regions : all ≡ map (retag (reindex (ownPlace f))) byKept
   gathered-regions = ap (λ (z : Gram). regions z s) (gathered-gram rules f w g y t o k n) ∙ regions-reindexed (ownPlace f) (gramOf g (columns (keptBytes f) (keptMins f) y t o k n)) s
 
-  pub gathered-count : length kept ≡ length all
-  gathered-count = inv (ap length gathered-regions ∙ length-map kept (retag (reindex (ownPlace f))))
+  pub gathered-count : length byKept ≡ length all
+  gathered-count = inv (ap length gathered-regions ∙ length-map byKept (retag (reindex (ownPlace f))))
 
-  pub gathered-flat : (flat : Caused → List ℕ) → ((h : Origin → Origin) (r : Caused) → flat (retag h r) ≡ flat r) → flatten flat kept ≡ flatten flat all
-  gathered-flat flat e = inv (ap (flatten flat) gathered-regions ∙ flatten-retag (reindex (ownPlace f)) flat (e (reindex (ownPlace f))) kept)
+  pub gathered-flat : (flat : Caused → List ℕ) → ((h : Origin → Origin) (r : Caused) → flat (retag h r) ≡ flat r) → flatten flat byKept ≡ flatten flat all
+  gathered-flat flat e = inv (ap (flatten flat) gathered-regions ∙ flatten-retag (reindex (ownPlace f)) flat (e (reindex (ownPlace f))) byKept)

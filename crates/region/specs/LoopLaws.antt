@@ -9,13 +9,13 @@ use Rattle.common.specs.Entry.{flatten, room, putAt, wide}
 use Rattle.common.specs.EntryLaws.{Written, length-flatten, room-fits, rows-next, written-none, written-put, written-all, written-room}
 use Rattle.rules.specs.Grammar.{Gram}
 use Rattle.region.specs.Region.{Region, Caused, regionOf, rowOf}
-use Rattle.region.specs.Regions.{nextRegion, regions}
+use Rattle.region.specs.Regions.{nextRegion, regionsFrom, regions}
 use Rattle.common.specs.Lists.{RowPut, Wrote}
 use Rattle.region.specs.Views.{viewNext, foundRegion}
 use Rattle.region.specs.Ahead.{regions-few}
 use Rattle.region.specs.Memory.{KeptNext}
 use Rattle.region.specs.MemoryLaws.{Sound, sound-zeros, keeps-told, keeps-sound}
-use Rattle.region.specs.NextLaws.{regionsFrom, from-start, next-none, next-some, next-ahead}
+use Rattle.region.specs.NextLaws.{from-start, next-none, next-some, next-ahead}
 use Rattle.region.specs.declared.Region.{Region as Told}
 use Rattle.region.specs.declared.Next.{Next}
 use Rattle.region.specs.declared.Next.the-variants as next

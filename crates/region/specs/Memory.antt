@@ -6,7 +6,7 @@ use mathlib.Core.List.{List}
 use Prim.Native.Nat.{ℕ, zero, suc, _+_, _-_}
 use lib.Dec.{eqb, ltb, leb}
 use lib.ListN.{length, getD, set}
-use Rattle.search.specs.Search.{find, is, other}
+use Rattle.search.specs.Search.{find, afterRun}
 use Rattle.common.specs.Rules.{entry}
 use Rattle.common.specs.Turn.{Turn, go, stop, found, firstTurn}
 use Rattle.rules.specs.Grammar.{Rule, plain, sym, asym, Gram}
@@ -38,8 +38,8 @@ keptOpen g s m p b count k i close r = cond (escaped g s p) (turned (go (p + 1))
 -- a byte b at p that opens no fence, by its inline rule
 unfoldable pub keptInline : Gram → List ℕ → List ℕ → ℕ → ℕ → Rule → Sight
 keptInline g s m p b plain = turned (go (p + 1))
-keptInline g s m p b (sym i count) = keptOpen g s m p b count Symmetric i (symTurn g s b count) (find (other (is b)) s p)
-keptInline g s m p b (asym i c count) = keptOpen g s m p b count Asymmetric i (asymTurn g s c) (find (other (is b)) s p)
+keptInline g s m p b (sym i count) = keptOpen g s m p b count Symmetric i (symTurn g s b count) (afterRun b s p)
+keptInline g s m p b (asym i c count) = keptOpen g s m p b count Asymmetric i (asymTurn g s c) (afterRun b s p)
 
 -- a turn
 abbrev pub keptAt : Gram → List ℕ → List ℕ → ℕ → Sight

@@ -11,7 +11,7 @@ use lib.ListN.{length, getD, set, replicate, length-set, length-replicate, getD-
 use lib.Seq.{getD-set-same, getD-set-other}
 use borrow.Author.Tests.{ltb-true, ltb-false, le-ltb, leb-true, eqb-true, eqb-false}
 use Rattle.search.specs.Promise.{Gives}
-use Rattle.search.specs.Search.{find, is, other}
+use Rattle.search.specs.Search.{find, afterRun, is, other}
 use Rattle.search.specs.SearchLaws.{decide, clash, past-end, is-yes, other-no, find-ge, find-le, find-at, find-end}
 use Rattle.common.specs.Rules.{entry}
 use Rattle.common.specs.Turn.{Turn, go, stop, found, thenScan, scan, firstTurn}
@@ -24,6 +24,7 @@ use Rattle.region.specs.Sight.{Sight, turned, lost}
 use Rattle.region.specs.Views.{viewTurn, FoundRegion, viewNext, foundRegion}
 use Rattle.region.specs.Memory.{keptPair, keptInline, keptTurn, Remembered, thenKept, keptScan, keptNext, KeptNext}
 use Rattle.region.specs.Ahead.{Lies, run-past, regionTurn-ahead}
+use Rattle.region.specs.NextLaws.{turn-found}
 use Rattle.region.specs.Dead.{OutsideRun, asym-dead, sym-dead}
 use Rattle.region.specs.declared.Cause.{Cause}
 use Rattle.region.specs.declared.Cause.the-variants.{Symmetric, Asymmetric}
@@ -51,25 +52,25 @@ module _ (P : Turn Caused → Type 0) where
 
 module _ (g : Gram) (s m : List ℕ) where
   -- the end of the run that begins at p
-  abbrev past : ℕ → ℕ
-  past p = find (other (is (getD s p 0))) s p
+  abbrev ownEnd : ℕ → ℕ
+  ownEnd p = afterRun (getD s p 0) s p
 
   -- that P may pass the opener at p
-  abbrev Passes : (Turn Caused → Type 0) → ℕ → Rule → Type 0
-  Passes P p plain = Unit {0}
-  Passes P p (sym i count) = P (pairOf Symmetric i p (past p) (firstTurn (symTurn g s (getD s p 0) count) (length s) (past p))) → P (go (past p))
-  Passes P p (asym i c count) = P (pairOf Asymmetric i p (past p) (firstTurn (asymTurn g s c) (length s) (past p))) → P (go (past p))
+  abbrev MayPass : (Turn Caused → Type 0) → ℕ → Rule → Type 0
+  MayPass P p plain = Unit {0}
+  MayPass P p (sym i count) = P (pairOf Symmetric i p (ownEnd p) (firstTurn (symTurn g s (getD s p 0) count) (length s) (ownEnd p))) → P (go (ownEnd p))
+  MayPass P p (asym i c count) = P (pairOf Asymmetric i p (ownEnd p) (firstTurn (asymTurn g s c) (length s) (ownEnd p))) → P (go (ownEnd p))
 
-  inline-by : (P : Turn Caused → Type 0) (p : ℕ) (u : Rule) → P (inline g s p (getD s p 0) u) → (leb (past p) (entry 0 m (getD s p 0)) ≡ true → Passes P p u) → P (bare (keptInline g s m p (getD s p 0) u))
+  inline-by : (P : Turn Caused → Type 0) (p : ℕ) (u : Rule) → P (inline g s p (getD s p 0) u) → (leb (ownEnd p) (entry 0 m (getD s p 0)) ≡ true → MayPass P p u) → P (bare (keptInline g s m p (getD s p 0) u))
   unfolding inline keptInline
   inline-by P p plain h w = h
   inline-by P p (sym i count) h w =
-      open-by P (escaped g s p) (eqb (past p - p) count) (leb (past p) (entry 0 m (getD s p 0))) Symmetric i p (getD s p 0) (past p) (firstTurn (symTurn g s (getD s p 0) count) (length s) (past p)) h w
+      open-by P (escaped g s p) (eqb (ownEnd p - p) count) (leb (ownEnd p) (entry 0 m (getD s p 0))) Symmetric i p (getD s p 0) (ownEnd p) (firstTurn (symTurn g s (getD s p 0) count) (length s) (ownEnd p)) h w
   inline-by P p (asym i c count) h w =
-      open-by P (escaped g s p) (eqb (past p - p) count) (leb (past p) (entry 0 m (getD s p 0))) Asymmetric i p (getD s p 0) (past p) (firstTurn (asymTurn g s c) (length s) (past p)) h w
+      open-by P (escaped g s p) (eqb (ownEnd p - p) count) (leb (ownEnd p) (entry 0 m (getD s p 0))) Asymmetric i p (getD s p 0) (ownEnd p) (firstTurn (asymTurn g s c) (length s) (ownEnd p)) h w
 
   turn-by : (P : Turn Caused → Type 0) (q : ℕ) → P (regionTurn g s q)
-      → ((p : ℕ) → q ≤ p → p < length s → leb (past p) (entry 0 m (getD s p 0)) ≡ true → Passes P p (g .rule (getD s p 0)))
+      → ((p : ℕ) → q ≤ p → p < length s → leb (ownEnd p) (entry 0 m (getD s p 0)) ≡ true → MayPass P p (g .rule (getD s p 0)))
       → P (bare (keptTurn g s m q))
   unfolding regionTurn keptTurn
   turn-by P q h w =
@@ -87,13 +88,13 @@ module _ (g : Gram) (s m : List ℕ) where
 -- ---- every turn moves on, whatever the memory
 module _ (g : Gram) (s : List ℕ) where
   -- the run of the byte at p ends after p, within the text, and not at that byte
-  run-ends : (p : ℕ) → p < length s → (p < past g s [] p) × (past g s [] p ≤ length s)
+  run-ends : (p : ℕ) → p < length s → (p < ownEnd g s [] p) × (ownEnd g s [] p ≤ length s)
   run-ends p l = (run-past (getD s p 0) s p l refl, find-le (other (is (getD s p 0))) s p (omega arith))
 
   pub kept-ahead : (m : List ℕ) (q : ℕ) → q ≤ length s → Ahead Lies q (length s) (bare (keptTurn g s m q))
   kept-ahead m q h = turn-by g s m (Ahead Lies q (length s)) q (regionTurn-ahead g s .ahead q h) (λ p i l z. by p i l (g .rule (getD s p 0)))
     where
-      by : (p : ℕ) → q ≤ p → p < length s → (u : Rule) → Passes g s m (Ahead Lies q (length s)) p u
+      by : (p : ℕ) → q ≤ p → p < length s → (u : Rule) → MayPass g s m (Ahead Lies q (length s)) p u
       by p i l plain = tt
       by p i l (sym j count) = λ w. (omega (arith, run-ends p l), run-ends p l .1)
       by p i l (asym j c count) = λ w. (omega (arith, run-ends p l), run-ends p l .1)
@@ -151,12 +152,12 @@ module _ (g : Gram) (s : List ℕ) where
 
   -- its turn is the plain turn
   pub sound-turn : (m : List ℕ) (q : ℕ) → Sound g s m q → bare (keptTurn g s m q) ≡ regionTurn g s q
-  sound-turn m q w = turn-by g s m (λ t. t ≡ regionTurn g s q) q refl (λ p i l z. by p i l z (g .rule (getD s p 0)) (w .vain (getD s p 0) (past g s m p) (omega (arith, run-ends g s p l)) (leb-true _ _ z) (run-apart (getD s p 0) p)))
+  sound-turn m q w = turn-by g s m (λ t. t ≡ regionTurn g s q) q refl (λ p i l z. by p i l z (g .rule (getD s p 0)) (w .vain (getD s p 0) (ownEnd g s m p) (omega (arith, run-ends g s p l)) (leb-true _ _ z) (run-apart (getD s p 0) p)))
     where
-      by : (p : ℕ) → q ≤ p → p < length s → leb (past g s m p) (entry 0 m (getD s p 0)) ≡ true → (u : Rule) → Vain g s (getD s p 0) (past g s m p) u → Passes g s m (λ t. t ≡ regionTurn g s q) p u
+      by : (p : ℕ) → q ≤ p → p < length s → leb (ownEnd g s m p) (entry 0 m (getD s p 0)) ≡ true → (u : Rule) → Vain g s (getD s p 0) (ownEnd g s m p) u → MayPass g s m (λ t. t ≡ regionTurn g s q) p u
       by p i l z plain v = tt
-      by p i l z (sym j count) v = λ e. ap (pairOf Symmetric j p (past g s m p)) (inv (v .1)) ∙ e
-      by p i l z (asym j c count) v = λ e. ap (pairOf Asymmetric j p (past g s m p)) (inv (v .1)) ∙ e
+      by p i l z (sym j count) v = λ e. ap (pairOf Symmetric j p (ownEnd g s m p)) (inv (v .1)) ∙ e
+      by p i l z (asym j c count) v = λ e. ap (pairOf Asymmetric j p (ownEnd g s m p)) (inv (v .1)) ∙ e
 
   -- what a turn learns is true
   abbrev Halts : ℕ → ℕ → ℕ → Rule → Type 0
@@ -188,11 +189,11 @@ module _ (g : Gram) (s : List ℕ) where
       by true true u e = tt
       by true false plain e = tt
       by true false (sym i count) e =
-          open-learns (escaped g s p) (eqb (past g s m p - p) count) (leb (past g s m p) (entry 0 m (getD s p 0))) Symmetric i p (getD s p 0) (past g s m p) (firstTurn (symTurn g s (getD s p 0) count) (length s) (past g s m p))
-          (λ v z. subst (Halts (getD s p 0) (past g s m p) v) (inv e) z)
+          open-learns (escaped g s p) (eqb (ownEnd g s m p - p) count) (leb (ownEnd g s m p) (entry 0 m (getD s p 0))) Symmetric i p (getD s p 0) (ownEnd g s m p) (firstTurn (symTurn g s (getD s p 0) count) (length s) (ownEnd g s m p))
+          (λ v z. subst (Halts (getD s p 0) (ownEnd g s m p) v) (inv e) z)
       by true false (asym i c count) e =
-          open-learns (escaped g s p) (eqb (past g s m p - p) count) (leb (past g s m p) (entry 0 m (getD s p 0))) Asymmetric i p (getD s p 0) (past g s m p) (firstTurn (asymTurn g s c) (length s) (past g s m p))
-          (λ v z. subst (Halts (getD s p 0) (past g s m p) v) (inv e) z)
+          open-learns (escaped g s p) (eqb (ownEnd g s m p - p) count) (leb (ownEnd g s m p) (entry 0 m (getD s p 0))) Asymmetric i p (getD s p 0) (ownEnd g s m p) (firstTurn (asymTurn g s c) (length s) (ownEnd g s m p))
+          (λ v z. subst (Halts (getD s p 0) (ownEnd g s m p) v) (inv e) z)
 
   -- from r on the close of b's rule is sought in vain up to u
   halts-vain : (b r u k : ℕ) (t : Rule) → Halts b r u t → r ≤ k → k ≤ u → r ≤ length s → OutsideRun g s b k → Vain g s b k t
@@ -214,11 +215,6 @@ module _ (g : Gram) (s : List ℕ) where
           let n : 0 ≡ entry 0 (set m b u) c = past-end (set m b u) c (omega (arith, length-set m b u, ltb-false b (length m) y)) in
           absurd (omega arith)
       by c k l o a (inr x) y = w .vain c k (omega arith) (omega (arith, getD-set-other m b c u 0 (eqb-false c b x))) a
-
-  -- the turn that an answer of one region tells
-  turnOf : List FoundRegion → Turn Caused
-  turnOf [] = stop 0
-  turnOf (p ∷ l) = found (p .region) (p .next)
 
   -- by such a memory the next region is found, and it is such a memory behind it
   record Truly (m : List ℕ) (q : ℕ) (t : Turn Caused) (k : Remembered) : Type 0 where
@@ -250,31 +246,25 @@ module _ (g : Gram) (s : List ℕ) where
         none (found a n) x l z = let y : _≡_ {A = ℕ} 0 1 = cc in absurd (omega arith)
 
     pub keeps-sound : (r : Told) (n : ℕ) → d ≡ next.Region r n → Sound g s m′ n
-    unfolding turnOf
     keeps-sound r n e =
-        subst (λ (x : List ℕ). Sound g s x n) (inv (k .memory)) (kept-true (suc (length s)) m q h w .on (regionOf r) n (one (keptNext g s m q .turn) (inv (ap viewNext e) ∙ k .answer)))
-      where
-        one : (t : Turn Caused) → record { region = regionOf r; next = n } ∷ [] ≡ foundRegion t → t ≡ found (regionOf r) n
-        one (go m) e = let z : _≡_ {A = ℕ} 0 1 = cc in absurd (omega arith)
-        one (stop v) e = let z : _≡_ {A = ℕ} 0 1 = cc in absurd (omega arith)
-        one (found a m) e = inv (ap turnOf e)
+        subst (λ (x : List ℕ). Sound g s x n) (inv (k .memory)) (kept-true (suc (length s)) m q h w .on (regionOf r) n (turn-found (regionOf r) n (keptNext g s m q .turn) (inv (ap viewNext e) ∙ k .answer)))
 
 -- ---- a view is of one answer: the answer is read back from it
 toldOf : Caused → Told
 toldOf r = record { start = r .start; end = r .stop; cause = r .tag .cause; index = r .tag .index; closed = r .tag .closed }
 
-nextOf : List FoundRegion → Next
-nextOf [] = next.Nothing
-nextOf (p ∷ l) = next.Region (toldOf (p .region)) (p .next)
+answerOf : List FoundRegion → Next
+answerOf [] = next.Nothing
+answerOf (p ∷ l) = next.Region (toldOf (p .region)) (p .next)
 
-next-back : (d : Next) → nextOf (viewNext d) ≡ d
-unfolding nextOf toldOf
+next-back : (d : Next) → answerOf (viewNext d) ≡ d
+unfolding answerOf toldOf
 next-back (next.Region r n) = refl
 next-back next.Nothing = refl
 
 -- two answers with one view are one
 pub view-unique : (d d′ : Next) → viewNext d ≡ viewNext d′ → d ≡ d′
-view-unique d d′ e = inv (next-back d) ∙ ap nextOf e ∙ next-back d′
+view-unique d d′ e = inv (next-back d) ∙ ap answerOf e ∙ next-back d′
 
 -- two answers to the same step are one, and so are the memories after it
 pub keeps-unique : {g : Gram} {s m : List ℕ} {q : ℕ} {d d′ : Next} {m′ m″ : List ℕ} → KeptNext g s m q d m′ → KeptNext g s m q d′ m″ → (d ≡ d′) × (m′ ≡ m″)

@@ -5,12 +5,12 @@ use Prim.Native.Nat.{ℕ, suc, _≤_, _<_}
 use native.Mathlib.Omega.{arith}
 use lib.ListN.{length}
 use Rattle.search.specs.Promise.{Gives}
-use Rattle.common.specs.Turn.{Turn, go, stop, found, allFound, thenCollect}
+use Rattle.common.specs.Turn.{Turn, go, stop, found, thenCollect}
 use Rattle.common.specs.Turning.{Last}
 use Rattle.common.specs.TurnLaws.{collect-scan, scan-last}
 use Rattle.region.specs.Region.{Caused, regionOf}
 use Rattle.rules.specs.Grammar.{Gram}
-use Rattle.region.specs.Regions.{regionTurn, nextRegion, regions}
+use Rattle.region.specs.Regions.{nextRegion, regionsFrom, regions}
 use Rattle.region.specs.Ahead.{Lies, regionTurn-ahead}
 use Rattle.region.specs.Views.{FoundRegion, viewNext, foundRegion}
 use Rattle.region.specs.declared.Region.{Region as Told}
@@ -22,12 +22,14 @@ turnOf : List FoundRegion → Turn Caused
 turnOf [] = stop 0
 turnOf (p ∷ l) = found (p .region) (p .next)
 
--- the regions of a text from a place on
-unfoldable pub regionsFrom : Gram → List ℕ → ℕ → List Caused
-regionsFrom g s q = allFound (regionTurn g s) (length s) q
+pub turn-found : (r : Caused) (n : ℕ) (t : Turn Caused) → record { region = r; next = n } ∷ [] ≡ foundRegion t → t ≡ found r n
+unfolding turnOf
+turn-found r n (go m) e = let z : _≡_ {A = ℕ} 0 1 = cc in absurd (omega arith)
+turn-found r n (stop v) e = let z : _≡_ {A = ℕ} 0 1 = cc in absurd (omega arith)
+turn-found r n (found a m) e = sym (ap turnOf e)
 
 pub from-start : (g : Gram) (s : List ℕ) → regions g s ≡ regionsFrom g s 0
-unfolding regions regionsFrom
+unfolding regions
 from-start g s = refl
 
 module _ (g : Gram) (s : List ℕ) (q : ℕ) (h : q ≤ length s) where
@@ -38,16 +40,6 @@ module _ (g : Gram) (s : List ℕ) (q : ℕ) (h : q ≤ length s) where
 
   last : Last Lies q (length s) (nextRegion g s q)
   last = scan-last (regionTurn-ahead g s) (λ q n m r i w. (omega arith, w .1, w .2)) (suc (length s)) q h
-
-  -- that turn, where one region comes
-  one : (r : Caused) (n : ℕ) → record { region = r; next = n } ∷ [] ≡ foundRegion (nextRegion g s q) → nextRegion g s q ≡ found r n
-  unfolding turnOf
-  one r n e = by (nextRegion g s q) e
-    where
-      by : (t : Turn Caused) → record { region = r; next = n } ∷ [] ≡ foundRegion t → t ≡ found r n
-      by (go m) e = let z : _≡_ {A = ℕ} 0 1 = cc in absurd (omega arith)
-      by (stop v) e = let z : _≡_ {A = ℕ} 0 1 = cc in absurd (omega arith)
-      by (found a m) e = sym (ap turnOf e)
 
   none : [] ≡ foundRegion (nextRegion g s q) → thenCollect (regionsFrom g s) (nextRegion g s q) ≡ []
   none e = by (nextRegion g s q) last e
@@ -63,7 +55,7 @@ module _ (g : Gram) (s : List ℕ) (q : ℕ) (h : q ≤ length s) where
 
     module _ (r : Told) (n : ℕ) (e : d ≡ next.Region r n) where
       here : nextRegion g s q ≡ found (regionOf r) n
-      here = one (regionOf r) n (sym (ap viewNext e) ∙ told .answer)
+      here = turn-found (regionOf r) n (nextRegion g s q) (sym (ap viewNext e) ∙ told .answer)
 
       pub next-some : regionsFrom g s q ≡ regionOf r ∷ regionsFrom g s n
       next-some = by-first ∙ ap (thenCollect (regionsFrom g s)) here

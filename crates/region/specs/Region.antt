@@ -14,7 +14,7 @@ pub record Region (T : Type 0) : Type 0 where
   pub stop : ℕ
   pub tag : T
 
--- which kind of rule made a region, the index of that rule, and whether a line closed it
+-- which kind of rule made a region, the index of that rule, and, of a fence, whether a line closed it; true of a pair
 pub record Origin : Type 0 where
   pub cause : Cause
   pub index : ℕ

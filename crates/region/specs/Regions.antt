@@ -6,9 +6,11 @@ use mathlib.Core.List.{List, map}
 use Prim.Native.Nat.{ℕ, _+_, _-_, _%_}
 use lib.Dec.{eqb, ltb}
 use lib.ListN.{length, getD}
-use Rattle.search.specs.Search.{find, is, other, back, firstPlace, lineEnd, nextLine}
+use Rattle.search.specs.Search.{find, afterRun, is, back, firstPlace, lineEnd, nextLine, afterLine}
 use Rattle.lines.specs.Paragraph.{nextIn}
 use Rattle.common.specs.Turn.{Turn, go, stop, found, firstTurn, allFound}
+use Rattle.lines.specs.declared.fence_tests.Close.{Close}
+use Rattle.lines.specs.declared.fence_tests.Close.the-variants.{Closed, Unclosed}
 use Rattle.lines.specs.declared.fence_tests.Hit.{Hit}
 use Rattle.lines.specs.declared.fence_tests.Hit.the-variants.{At, End}
 use Rattle.region.specs.Region.{Caused, caused, Region, Origin, retag}
@@ -19,13 +21,19 @@ use Rattle.region.specs.declared.Cause.the-variants.{Fence, Symmetric, A
 -- ---- fences
 -- the place of the first later line that closes the fence opened at p, else the text's end
 unfoldable pub shutPlace : Gram → List ℕ → ℕ → ℕ
-shutPlace g s p = firstPlace (g .fences .shuts (getD s p 0) (g .fences .size s p) s) (nextLine (length s) (lineEnd (g .eol) s p)) (length s)
+shutPlace g s p = firstPlace (g .fences .shuts (getD s p 0) (g .fences .size s p) s) (afterLine (g .eol) s p) (length s)
 
--- "its region ends before the closing line's line end"; where no line closes it, at the text's end
+-- a fence of rule i that opened at p, by what the search for its close said: "its region ends before the closing line's line end"; where no
+-- line closes it, at the text's end
 -- (the scan goes on behind that line end: `~\n~\n>` with minimum 1 and an opener that is the line end is 0-3 alone)
+abbrev pub closedBy : List ℕ → ℕ → ℕ → Close → Turn Caused
+closedBy s p i (Closed q e) = found (caused Fence i true p e) (nextLine (length s) e)
+closedBy s p i Unclosed = found (caused Fence i false p (length s)) (length s)
+
+-- the fence that opens at p, by whether a line closes it, which begins at q
 abbrev pub fencedTo : Gram → List ℕ → ℕ → Bool → ℕ → Turn Caused
-fencedTo g s p true q = found (caused Fence (g .fenceIndex (getD s p 0)) true p (lineEnd (g .eol) s q)) (nextLine (length s) (lineEnd (g .eol) s q))
-fencedTo g s p false q = found (caused Fence (g .fenceIndex (getD s p 0)) false p (length s)) (length s)
+fencedTo g s p true q = closedBy s p (g .fenceIndex (getD s p 0)) (Closed q (lineEnd (g .eol) s q))
+fencedTo g s p false q = closedBy s p (g .fenceIndex (getD s p 0)) Unclosed
 
 abbrev pub fenced : Gram → List ℕ → ℕ → Turn Caused
 fenced g s p = fencedTo g s p (ltb (shutPlace g s p) (length s)) (shutPlace g s p)
@@ -48,7 +56,7 @@ symRun count q t = cond (eqb (t - q) count) (found t t) (go t)
 
 -- an escaped byte is passed alone, so that the rest of its run is judged as a run of its own: `` `\`` `` with a backtick and count 1 is 0-4
 abbrev pub symAfter : Gram → List ℕ → ℕ → ℕ → Hit → Turn ℕ
-symAfter g s b count (At q) = cond (escaped g s q) (go (q + 1)) (symRun count q (find (other (is b)) s q))
+symAfter g s b count (At q) = cond (escaped g s q) (go (q + 1)) (symRun count q (afterRun b s q))
 symAfter g s b count (End u) = stop u
 
 unfoldable pub symTurn : Gram → List ℕ → ℕ → ℕ → ℕ → Turn ℕ
@@ -75,8 +83,8 @@ openPair g s p count k i close r = cond (escaped g s p) (go (p + 1)) (cond (eqb 
 -- a byte b at p that opens no fence, by its inline rule
 unfoldable pub inline : Gram → List ℕ → ℕ → ℕ → Rule → Turn Caused
 inline g s p b plain = go (p + 1)
-inline g s p b (sym i count) = openPair g s p count Symmetric i (symTurn g s b count) (find (other (is b)) s p)
-inline g s p b (asym i c count) = openPair g s p count Asymmetric i (asymTurn g s c) (find (other (is b)) s p)
+inline g s p b (sym i count) = openPair g s p count Symmetric i (symTurn g s b count) (afterRun b s p)
+inline g s p b (asym i c count) = openPair g s p count Asymmetric i (asymTurn g s c) (afterRun b s p)
 
 -- ---- a turn: the next byte searched for, "a fence at a line start goes first … a failed fence falls to the inline rule"
 abbrev pub regionAt : Gram → List ℕ → ℕ → Turn Caused
@@ -92,9 +100,13 @@ regionTurn g s q = regionFrom g s q (find (g .trigger) s q)
 abbrev pub nextRegion : Gram → List ℕ → ℕ → Turn Caused
 nextRegion g s q = firstTurn (regionTurn g s) (length s) q
 
+-- the regions of a text from a place on
+unfoldable pub regionsFrom : Gram → List ℕ → ℕ → List Caused
+regionsFrom g s q = allFound (regionTurn g s) (length s) q
+
 -- all regions of a text, each with the rule that made it
 unfoldable pub regions : Gram → List ℕ → List Caused
-regions g s = allFound (regionTurn g s) (length s) 0
+regions g s = regionsFrom g s 0
 
 -- the same, with what f says of the rules
 abbrev pub tagged : {T : Type 0} → (Origin → T) → Gram → List ℕ → List (Region T)

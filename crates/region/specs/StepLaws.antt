@@ -28,10 +28,10 @@ use Rattle.lines.specs.declared.fence_tests.Close.{Close}
 use Rattle.lines.specs.declared.fence_tests.Close.the-variants as close
 use Rattle.region.specs.Region.{caused}
 use Rattle.rules.specs.Grammar.{Rule, plain, sym, asym, Gram}
-use Rattle.region.specs.Regions.{oddBefore, symAfter, symTurn, asymAfter, asymTurn, shutPlace, fencedTo, fenced}
+use Rattle.region.specs.Regions.{oddBefore, symAfter, symTurn, asymAfter, asymTurn, shutPlace, closedBy, fencedTo, fenced}
 use Rattle.region.specs.Sight.{Sight, turned, lost}
 use Rattle.region.specs.Memory.{keptPair, keptOpen, keptInline, keptTurn}
-use Rattle.region.specs.Parts.{fenceGram, closedBy, fencedBy, symPair, asymPair, inlineBy}
+use Rattle.region.specs.Parts.{fenceGram, fencedBy, symPair, asymPair, inlineBy}
 use Rattle.rules.specs.Rows.{cell, gramBy, ruleIn}
 use Rattle.rules.specs.declared.search_bytes.Alphabet.{Alphabet}
 use Rattle.region.specs.Views.{viewHit}
@@ -84,19 +84,19 @@ module _ (g : Grammar) (fences s : List ℕ) (x j : ℕ) (d : Hit) where
 
 -- ---- a fence
 module _ (g : Grammar) (s : List ℕ) (p b count e i from : ℕ) (d : Close) where
-  closes : Gives (getD s p 0) b → Gives (nextLine (length s) e) from → Gives (closeScan g b count s from) d → closedBy g s p i d ≡ fencedBy g s p count e i
+  closes : Gives (getD s p 0) b → Gives (nextLine (length s) e) from → Gives (closeScan g b count s from) d → closedBy s p i d ≡ fencedBy g s p count e i
   unfolding fencedBy
   closes hb hf hd =
       let e : d ≡ closeScan g (getD s p 0) count s (nextLine (length s) e) = hd .answer ∙ ap (λ (x : ℕ). closeScan g x count s from) (hb .answer) ∙ ap (closeScan g (getD s p 0) count s) (hf .answer) in
-      ap (closedBy g s p i) e
+      ap (closedBy s p i) e
 
   pub fence-closed : (q end n : ℕ) → d ≡ close.Closed q end → Gives (getD s p 0) b → Gives (nextLine (length s) e) from → Gives (closeScan g b count s from) d → Gives (nextLine (length s) end) n
       → turned (found (caused Fence i true p end) n) ≡ turned (fencedBy g s p count e i)
-  fence-closed q end n c hb hf hd hn = ap turned (ap (λ (m : ℕ). found (caused Fence i true p end) m) (hn .answer) ∙ ap (closedBy g s p i) (inv c) ∙ closes hb hf hd)
+  fence-closed q end n c hb hf hd hn = ap turned (ap (λ (m : ℕ). found (caused Fence i true p end) m) (hn .answer) ∙ ap (closedBy s p i) (inv c) ∙ closes hb hf hd)
 
   pub fence-unclosed : d ≡ close.Unclosed → Gives (getD s p 0) b → Gives (nextLine (length s) e) from → Gives (closeScan g b count s from) d
       → turned (found (caused Fence i false p (length s)) (length s)) ≡ turned (fencedBy g s p count e i)
-  fence-unclosed c hb hf hd = ap turned (ap (closedBy g s p i) (inv c) ∙ closes hb hf hd)
+  fence-unclosed c hb hf hd = ap turned (ap (closedBy s p i) (inv c) ∙ closes hb hf hd)
 
 -- ---- a pair by what the search for its close said
 module _ (k : Cause) (i p b r : ℕ) (d : Hit) where
@@ -202,7 +202,7 @@ module _ (a : Alphabet) (fences : List ℕ) (rows : List (List ℕ)) (s m : List
         let j : i ≡ cell rows (getD s p 0) 0 = hi .answer ∙ ap (λ (x : ℕ). cell rows x 0) (hb .answer) in
         simp (w .1, w .2, j, reader-shuts (a .grammar) (hasIn fences) (leastIn fences) (getD s p 0) (readerIn (a .grammar) fences .size s p) s) (by (ltb (shutPlace (gramBy a fences rows) s p) (length s)))
       where
-        by : (y : Bool) → closedBy (a .grammar) s p (cell rows (getD s p 0) 0) (closeAt (a .grammar) s y (shutPlace (gramBy a fences rows) s p)) ≡ fencedTo (gramBy a fences rows) s p y (shutPlace (gramBy a fences rows) s p)
+        by : (y : Bool) → closedBy s p (cell rows (getD s p 0) 0) (closeAt (a .grammar) s y (shutPlace (gramBy a fences rows) s p)) ≡ fencedTo (gramBy a fences rows) s p y (shutPlace (gramBy a fences rows) s p)
         by true = refl
         by false = refl
 

@@ -48,6 +48,10 @@ firstPlace t q e = firstOf t (e - q) q
 unfoldable pub find : (ℕ → Bool) → List ℕ → ℕ → ℕ
 find t s i = firstPlace (holds t s) i (length s)
 
+-- the end of the run of b that begins at p: the first place from p on with another byte, else the text's end
+abbrev pub afterRun : ℕ → List ℕ → ℕ → ℕ
+afterRun b s p = find (other (is b)) s p
+
 -- what a search promises: the place, with its bounds
 pub record Sought (t : ℕ → Bool) (s : List ℕ) (i r : ℕ) : Type 0 where
   pub here : r ≡ find t s i
@@ -73,3 +77,7 @@ lineEnd eol s p = find (is eol) s p
 -- the place after a line's end e, in a text of a length
 abbrev pub nextLine : ℕ → ℕ → ℕ
 nextLine len e = min (e + 1) len
+
+-- the place after the line that p is in: just after its line end, else the text's end
+abbrev pub afterLine : ℕ → List ℕ → ℕ → ℕ
+afterLine eol s p = nextLine (length s) (lineEnd eol s p)

@@ -12,7 +12,7 @@ use lib.ListN.{length, getD, take, drop, length-append, length-take, drop-of-len
 use lib.Seq.{getD-append-add, drop-cons, getD-take}
 use borrow.Author.Tests.{eq-eqb, ne-eqb, eqb-true, eqb-false, lt-ltb, le-ltb, ltb-true, ltb-false, leb-true, le-leb, lt-leb}
 use Rattle.search.specs.Promise.{Gives}
-use Rattle.search.specs.Search.{is, either, oneOf, digit, other, holds, firstOf, firstPlace, find, Sought, back, lineStart, lineEnd, nextLine}
+use Rattle.search.specs.Search.{is, either, oneOf, digit, other, holds, firstOf, firstPlace, find, Sought, back, lineStart, lineEnd, afterLine}
 
 -- ---- truth values
 pub decide : (y : Bool) → (y ≡ true) ⊎ (y ≡ false)
@@ -644,7 +644,7 @@ line-one eol s a (suc j) h l =
     (decide (ltb j (length s))))
 
 -- after a line another begins, or the text ends
-pub line-next : (eol : ℕ) (s : List ℕ) (a : ℕ) → a ≤ length s → nextLine (length s) (lineEnd eol s a) < length s → lineStart eol s (nextLine (length s) (lineEnd eol s a)) ≡ true
+pub line-next : (eol : ℕ) (s : List ℕ) (a : ℕ) → a ≤ length s → afterLine eol s a < length s → lineStart eol s (afterLine eol s a) ≡ true
 line-next eol s a h l =
     let e = lineEnd eol s a in
     let m : min (e + 1) (length s) ≡ suc e = omega arith in

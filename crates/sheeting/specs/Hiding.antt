@@ -6,8 +6,7 @@ use mathlib.Core.List.{List, [], _∷_, map}
 use Prim.Native.Nat.{ℕ, _≤_}
 use lib.ListN.{length}
 use Rattle.rules.specs.Grammar.{Gram}
-use Rattle.region.specs.Regions.{regions}
-use Rattle.region.specs.NextLaws.{regionsFrom}
+use Rattle.region.specs.Regions.{regionsFrom, regions}
 use Rattle.region.specs.MemoryLaws.{Sound}
 use Rattle.cover.specs.Cursor.{covers}
 use Rattle.sheet.specs.Sheet.{inside}

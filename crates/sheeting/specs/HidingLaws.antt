@@ -10,9 +10,9 @@ use borrow.Author.Tests.{le-ltb, le-leb, lt-leb}
 use Rattle.search.specs.Promise.{Gives}
 use Rattle.region.specs.Region.{Caused, InOrder, rowOf}
 use Rattle.rules.specs.Grammar.{Gram}
-use Rattle.region.specs.Regions.{nextRegion, regions}
+use Rattle.region.specs.Regions.{nextRegion, regionsFrom, regions}
 use Rattle.region.specs.Ahead.{regionTurn-ahead, collect-in-order}
-use Rattle.region.specs.NextLaws.{regionsFrom, from-start, next-none, next-some, next-ahead}
+use Rattle.region.specs.NextLaws.{from-start, next-none, next-some, next-ahead}
 use Rattle.cover.specs.Cursor.{covers}
 use Rattle.region.specs.Views.{viewNext, foundRegion}
 use Rattle.region.specs.declared.Region.{Region as Told}
