@@ -19,7 +19,5 @@ pub mod Items
 pub mod Later
 pub mod ItemLaws
 pub mod LaterLaws
-pub mod LineStarts
-pub mod LineStartLaws
 pub mod Scanning
 pub mod ScanningLaws
