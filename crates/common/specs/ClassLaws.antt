@@ -1,15 +1,15 @@
 -- The rule of a table, proved at all of its entries by one test that antt computes, one entry after the other. Assumes nothing.
 use mathlib.Core.Path.{_≡_, sym, subst, _∙_, refl, ap, fun-ext}
-use mathlib.Core.Bool.{Bool, true, _&&_, false}
+use mathlib.Core.Bool.{Bool, true, _&&_, false, cond}
 use mathlib.Core.List.{List, [], _∷_}
 use Prim.Native.Nat.{ℕ, zero, suc, _+_, _<_}
 use native.Mathlib.Nat.{add-zero, zero-add, add-suc, suc-add, not-suc-le-zero}
 use native.Mathlib.Omega.{arith}
 use lib.Dec.{eqb}
 use lib.ListN.{length, getD}
-use borrow.Author.Tests.{eqb-true}
-use Rattle.search.specs.SearchLaws.{and-true, decide, clash}
-use Rattle.common.specs.Sets.{classOf, setOf, markerBytes, delimiterBytes, classSet}
+use borrow.Author.Tests.{eqb-true, ne-eqb}
+use Rattle.search.specs.SearchLaws.{and-true, decide, clash, digit-bounds}
+use Rattle.common.specs.Sets.{isMarker, isDelimiter, houseMarkers, houseDelims, classOf, classSet}
 use Rattle.search.specs.Promise.{Gives}
 use Rattle.search.specs.Search.{oneOf, digit}
 use mathlib.Core.Logic.{_⊎_, inl, inr}
@@ -29,40 +29,45 @@ from (x ∷ xs) i t (suc k) h =
 pub class-at : (xs : List ℕ) (k : ℕ) → classes 0 xs ≡ true → length xs ≡ 256 → k < 256 → getD xs k 0 ≡ classOf k
 class-at xs k t l h = subst (λ (m : ℕ). getD xs k 0 ≡ classOf m) (zero-add k) (from xs 0 t k (omega arith))
 
--- ---- the sets of two classes are those of the house's bytes
+-- ---- what a class tells of a byte
 -- no delimiter is a marker
-apart : (b : ℕ) → oneOf markerBytes b ≡ true → oneOf delimiterBytes b ≡ false
+apart : (b : ℕ) → isMarker b ≡ true → isDelimiter b ≡ false
 unfolding oneOf
 apart b u = by (decide (eqb b 45)) (decide (eqb b 42)) (decide (eqb b 43))
   where
-    by : (eqb b 45 ≡ true) ⊎ (eqb b 45 ≡ false) → (eqb b 42 ≡ true) ⊎ (eqb b 42 ≡ false) → (eqb b 43 ≡ true) ⊎ (eqb b 43 ≡ false) → oneOf delimiterBytes b ≡ false
+    by : (eqb b 45 ≡ true) ⊎ (eqb b 45 ≡ false) → (eqb b 42 ≡ true) ⊎ (eqb b 42 ≡ false) → (eqb b 43 ≡ true) ⊎ (eqb b 43 ≡ false) → isDelimiter b ≡ false
     by (inl x) y z = let e : b ≡ 45 = eqb-true b 45 x in rw e refl
     by (inr x) (inl y) z = let e : b ≡ 42 = eqb-true b 42 y in rw e refl
     by (inr x) (inr y) (inl z) = let e : b ≡ 43 = eqb-true b 43 z in rw e refl
     by (inr x) (inr y) (inr z) = absurd (clash u (rw (x, y, z) refl))
 
--- what a byte's class says of being a marker, and of being a delimiter
+-- no digit is a delimiter
+pub digit-delimiter : (b : ℕ) → digit b ≡ true → isDelimiter b ≡ false
+unfolding oneOf
+digit-delimiter b e = let low = digit-bounds b e .0 in rw (ne-eqb b 46 (λ z. omega arith), ne-eqb b 41 (λ z. omega arith))
+
 module _ (b : ℕ) where
-  first-class : eqb (classOf b) 1 ≡ oneOf markerBytes b
-  first-class = by (decide (oneOf markerBytes b)) (decide (oneOf delimiterBytes b)) (decide (digit b))
+  pub class-marker : eqb (classOf b) 1 ≡ isMarker b
+  class-marker = by (isMarker b) (isDelimiter b) (digit b)
     where
-      by : (oneOf markerBytes b ≡ true) ⊎ (oneOf markerBytes b ≡ false) → (oneOf delimiterBytes b ≡ true) ⊎ (oneOf delimiterBytes b ≡ false) → (digit b ≡ true) ⊎ (digit b ≡ false) → eqb (classOf b) 1 ≡ oneOf markerBytes b
-      by (inl u) v w = simp u
-      by (inr u) (inl v) w = simp (u, v)
-      by (inr u) (inr v) (inl w) = simp (u, v, w)
-      by (inr u) (inr v) (inr w) = simp (u, v, w)
+      by : (m d z : Bool) → eqb (cond m 1 (cond d 2 (cond z 4 0))) 1 ≡ m
+      by true d z = refl
+      by false true z = refl
+      by false false true = refl
+      by false false false = refl
 
-  second-class : eqb (classOf b) 2 ≡ oneOf delimiterBytes b
-  second-class = by (decide (oneOf markerBytes b)) (decide (oneOf delimiterBytes b)) (decide (digit b))
+  pub class-delimiter : eqb (classOf b) 2 ≡ isDelimiter b
+  class-delimiter = by (isMarker b) (isDelimiter b) (digit b) (apart b)
     where
-      by : (oneOf markerBytes b ≡ true) ⊎ (oneOf markerBytes b ≡ false) → (oneOf delimiterBytes b ≡ true) ⊎ (oneOf delimiterBytes b ≡ false) → (digit b ≡ true) ⊎ (digit b ≡ false) → eqb (classOf b) 2 ≡ oneOf delimiterBytes b
-      by (inl u) v w = simp (u, apart b u)
-      by (inr u) (inl v) w = simp (u, v)
-      by (inr u) (inr v) (inl w) = simp (u, v, w)
-      by (inr u) (inr v) (inr w) = simp (u, v, w)
+      by : (m d z : Bool) → (m ≡ true → d ≡ false) → eqb (cond m 1 (cond d 2 (cond z 4 0))) 2 ≡ d
+      by true d z h = sym (h refl)
+      by false true z h = refl
+      by false false true h = refl
+      by false false false h = refl
 
-pub marker-set : (set : List Bool) → Gives (classSet 1) set → set ≡ setOf markerBytes
-marker-set set h = h .answer ∙ ap (λ (f : ℕ → Bool). tabulate f 256 0) (fun-ext first-class)
+-- ---- the sets of two classes are those of the house's bytes
+pub marker-set : (set : List Bool) → Gives (classSet 1) set → set ≡ houseMarkers
+marker-set set h = h .answer ∙ ap (λ (f : ℕ → Bool). tabulate f 256 0) (fun-ext class-marker)
 
-pub delimiter-set : (set : List Bool) → Gives (classSet 2) set → set ≡ setOf delimiterBytes
-delimiter-set set h = h .answer ∙ ap (λ (f : ℕ → Bool). tabulate f 256 0) (fun-ext second-class)
+pub delimiter-set : (set : List Bool) → Gives (classSet 2) set → set ≡ houseDelims
+delimiter-set set h = h .answer ∙ ap (λ (f : ℕ → Bool). tabulate f 256 0) (fun-ext class-delimiter)

@@ -1,5 +1,4 @@
 pub mod Refusals
-pub mod Grammars
 pub mod Content
 pub mod Rules
 pub mod Sets
@@ -16,6 +15,7 @@ pub mod EntryLaws
 pub mod Lists
 pub mod ListLaws
 pub mod Items
+pub mod Grammars
 pub mod Later
 pub mod ItemLaws
 pub mod LaterLaws

@@ -27,9 +27,22 @@ markerBytes = 45 ∷ 42 ∷ 43 ∷ []
 abbrev pub delimiterBytes : List ℕ
 delimiterBytes = 46 ∷ 41 ∷ []
 
+-- whether a byte is one, and the set of them
+abbrev pub isMarker : ℕ → Bool
+isMarker = oneOf markerBytes
+
+abbrev pub isDelimiter : ℕ → Bool
+isDelimiter = oneOf delimiterBytes
+
+abbrev pub houseMarkers : List Bool
+houseMarkers = setOf markerBytes
+
+abbrev pub houseDelims : List Bool
+houseDelims = setOf delimiterBytes
+
 -- "1 for a marker, 2 for a delimiter, 4 for a digit, 0 otherwise"
 abbrev pub classOf : ℕ → ℕ
-classOf b = cond (oneOf markerBytes b) 1 (cond (oneOf delimiterBytes b) 2 (cond (digit b) 4 0))
+classOf b = cond (isMarker b) 1 (cond (isDelimiter b) 2 (cond (digit b) 4 0))
 
 -- the set of the bytes of a class
 abbrev pub classSet : ℕ → List Bool

@@ -10,7 +10,7 @@ use Rattle.block_marker.specs.Marker as marker
 use Rattle.block_marker.specs.declared.BlockMarkerIter.{BlockMarkerIter}
 use Rattle.block_numbered.specs.Numbered as numbered
 use Rattle.block_numbered.specs.declared.BlockNumberedIter.{BlockNumberedIter}
-use Rattle.feed.specs.Items.{marked, counted, contentStart}
+use Rattle.feed.specs.Items.{marked, counted}
 use Rattle.feed.specs.declared.item.SheetItem.{SheetItem}
 use Rattle.feed.specs.declared.Head.{Head}
 use Rattle.feed.specs.declared.Head.the-variants as head
@@ -49,7 +49,7 @@ freshFeed g markers delims s = record {
 
 -- which head is next: the one that starts first, the marker's where both start at one place
 abbrev pub picked : Head → Head → Pick
-picked (head.Item x) (head.Item y) = cond (ltb (contentStart y) (contentStart x)) (pick.Number y) (pick.Mark x)
+picked (head.Item x) (head.Item y) = cond (ltb (y .start) (x .start)) (pick.Number y) (pick.Mark x)
 picked (head.Item x) head.End = pick.Mark x
 picked head.End (head.Item y) = pick.Number y
 picked head.End head.End = pick.Neither

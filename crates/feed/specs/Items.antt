@@ -23,10 +23,6 @@ marked i = record { start = i .span .start; end = i .span .end; kind = 0; byte =
 abbrev pub counted : NumberedItem → SheetItem
 counted i = record { start = i .span .start; end = i .span .end; kind = 1; byte = i .delimiter; number = i .number }
 
--- an item's "content start": what the order goes by, and what a region hides it by
-abbrev pub contentStart : SheetItem → ℕ
-contentStart i = i .start
-
 -- ---- all of them
 -- the items that a state's scan has before it
 unfoldable pub markItemsFrom : BlockMarkerIter → List Bool → List ℕ → List SheetItem
@@ -46,4 +42,8 @@ numberedItems g set s = numberedItemsFrom (numbered.fresh (g .eol) (g .sep) (g .
 unfoldable pub merge : List SheetItem → List SheetItem → List SheetItem
 merge [] ys = ys
 merge (x ∷ xs) [] = x ∷ xs
-merge (x ∷ xs) (y ∷ ys) = elim (ltb (contentStart y) (contentStart x)) [ true ↦ y ∷ merge (x ∷ xs) ys | false ↦ x ∷ merge xs (y ∷ ys) ]
+merge (x ∷ xs) (y ∷ ys) = elim (ltb (y .start) (x .start)) [ true ↦ y ∷ merge (x ∷ xs) ys | false ↦ x ∷ merge xs (y ∷ ys) ]
+
+-- the place by which a region hides an item: its "content start"
+abbrev pub testedPlace : SheetItem → ℕ
+testedPlace i = i .start

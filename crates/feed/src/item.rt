@@ -1,6 +1,6 @@
 // The items of a work sheet, from both scanners.
 ghost use Rattle.search.specs.Promise.{Gives};
-ghost use Rattle.feed.specs.Items.{contentStart};
+ghost use Rattle.feed.specs.Items.{testedPlace};
 
 // Where the content starts and ends, the kind (0 marker, 1 numbered), the accepted byte, and the number (0 for a marker).
 pub struct SheetItem {
@@ -11,9 +11,9 @@ pub struct SheetItem {
     pub number: u32,
 }
 
-// Where the item's content starts: a region hides the item if it holds this place, whatever else of the item it holds.
-pub fn content_start(item: SheetItem) -> usize
-    ensures { λ r. ⌜ Gives (contentStart item) r ⌝ }
+// Where a region hides the item, whatever else of the item it holds: its content's start.
+pub fn tested_place(item: SheetItem) -> usize
+    ensures { λ r. ⌜ Gives (testedPlace item) r ⌝ }
 {
     item.start as usize
 }

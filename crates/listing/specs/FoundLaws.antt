@@ -27,7 +27,8 @@ use Rattle.feed.specs.Items.{markItems, numberedItems, merge}
 use Rattle.sheet.specs.Sheet.{five, sheetOf, sheetAnswer, sheetList, Sheeted}
 use Rattle.sheet.specs.SheetLaws.{five-numbers}
 use Rattle.sheet.specs.RunLaws.{items-few, outside-few}
-use Rattle.listing.specs.Listing.{houseRules, houseGram, houseMarkers, houseDelims, houseRegions, houseSheet}
+use Rattle.common.specs.Sets.{houseMarkers, houseDelims}
+use Rattle.listing.specs.Listing.{houseRules, houseGram, houseRegions, houseSheet}
 use Rattle.listing.specs.Held.{RegionsIn, ItemsIn}
 
 -- an answer that says given is no refusal, and its value is the given one

@@ -11,7 +11,7 @@ use borrow.Author.Tests.{ltb-true, eqb-true}
 use Rattle.common.specs.Rules.{tabulate}
 use Rattle.search.specs.Search.{find, oneOf, back, holds, digit}
 use Rattle.search.specs.SearchLaws.{decide, clash, find-at}
-use Rattle.common.specs.Sets.{acceptedFrom}
+use Rattle.common.specs.Sets.{acceptedFrom, houseMarkers, houseDelims}
 use Rattle.common.specs.Items.{ItemGrammar, blank, leads, hitTurn}
 use Rattle.common.specs.Scanning.{Scanner, byNeedles, turn}
 use Rattle.common.specs.ItemLaws.{both}
@@ -21,10 +21,9 @@ use Rattle.block_marker.specs.Marker as marker
 use Rattle.block_marker.specs.declared.MarkerItem.{MarkerItem}
 use Rattle.block_numbered.specs.Numbered as numbered
 use Rattle.block_numbered.specs.declared.NumberedItem.{NumberedItem}
-use Rattle.feed.specs.Items.{merge, contentStart}
+use Rattle.feed.specs.Items.{merge, testedPlace}
 use Rattle.sheet.specs.Sheet.{inside, outside}
 use Rattle.feed.specs.declared.item.SheetItem.{SheetItem}
-use Rattle.listing.specs.Listing.{houseMarkers, houseDelims}
 
 -- one of some bytes is a byte
 one-small : (l : List ℕ) (x : ℕ) → Each (λ y. y < 256) l → oneOf l x ≡ true → x < 256
@@ -102,8 +101,8 @@ module _ (P : SheetItem → Type 0) where
   pub each-outside : (regions : List (List ℕ)) (l : List SheetItem) → Each P l → Each P (outside regions l)
   unfolding outside
   each-outside regions [] w = tt
-  each-outside regions (i ∷ l) w = by (each-outside regions l (w .1)) (decide (inside regions (contentStart i)))
+  each-outside regions (i ∷ l) w = by (each-outside regions l (w .1)) (decide (inside regions (testedPlace i)))
     where
-      by : Each P (outside regions l) → (inside regions (contentStart i) ≡ true) ⊎ (inside regions (contentStart i) ≡ false) → Each P (outside regions (i ∷ l))
+      by : Each P (outside regions l) → (inside regions (testedPlace i) ≡ true) ⊎ (inside regions (testedPlace i) ≡ false) → Each P (outside regions (i ∷ l))
       by f (inl u) = rw (u, outside) f
       by f (inr u) = rw (u, outside) (w .0, f)

@@ -11,7 +11,7 @@ use lib.ListN.{length, getD}
 use Rattle.common.specs.Entry.{flatten, over}
 use Rattle.common.specs.Grammars.{house}
 use Rattle.common.specs.Refusals.{Outcome, given, refuse, leaves, spanValues}
-use Rattle.common.specs.Sets.{setOf, markerBytes, delimiterBytes}
+use Rattle.common.specs.Sets.{houseMarkers, houseDelims}
 use Rattle.fence.specs.Fence as fence
 use Rattle.fence.specs.declared.FenceIter.{FenceIter}
 use Rattle.cont.specs.Frames.{frames}
@@ -42,13 +42,6 @@ houseRules = record {
     openCounts = 1 ∷ [];
   };
 }
-
--- "markers `- * +`; delimiters `. )`"
-abbrev pub houseMarkers : List Bool
-houseMarkers = setOf markerBytes
-
-abbrev pub houseDelims : List Bool
-houseDelims = setOf delimiterBytes
 
 -- the grammar of its regions
 abbrev pub houseGram : Gram

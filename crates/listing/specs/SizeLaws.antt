@@ -37,7 +37,8 @@ use Rattle.sheet.specs.Sheet.{sheetOf}
 use Rattle.feed.specs.declared.item.SheetItem.{SheetItem}
 use Rattle.listing.specs.Lines.{field, fields, line, lines}
 use Rattle.listing.specs.Put.{Room}
-use Rattle.listing.specs.Listing.{houseGram, houseFence, houseFraming, houseMarkers, houseDelims, houseRegions, regionLines, fenceFields, fenceLinesOf, frameLines, itemLinesOf, markerLines, numberedLines, sheetRow, houseSheet, sheetLines, entries, printed}
+use Rattle.common.specs.Sets.{houseMarkers, houseDelims}
+use Rattle.listing.specs.Listing.{houseGram, houseFence, houseFraming, houseRegions, regionLines, fenceFields, fenceLinesOf, frameLines, itemLinesOf, markerLines, numberedLines, sheetRow, houseSheet, sheetLines, entries, printed}
 use Rattle.listing.specs.FoundLaws.{few-regions, few-shown}
 use Rattle.listing.specs.FrameSize.{Inside, frames-inside, frames-few}
 use Rattle.listing.specs.ItemSize.{Mark, Delimiter, mark-byte, number-byte, each-merge, each-outside}

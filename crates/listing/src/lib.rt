@@ -23,7 +23,8 @@ ghost use Rattle.search.specs.Promise.{Gives};
 ghost use Rattle.common.specs.Refusals.{told};
 ghost use Rattle.listing.specs.Put.{Laid, Room};
 ghost use Rattle.listing.specs.Held.{RegionsIn};
-ghost use Rattle.listing.specs.Listing.{houseMarkers, houseDelims, entries, printed, Printed};
+ghost use Rattle.common.specs.Sets.{houseMarkers, houseDelims};
+ghost use Rattle.listing.specs.Listing.{entries, printed, Printed};
 ghost use Rattle.listing.specs.Parts.{laterLines};
 
 // The most bytes of a text that is listed.

@@ -14,7 +14,8 @@ ghost use mathlib.Core.Path.{_≡_};
 ghost use Prim.Native.Nat.{_≤_};
 ghost use lib.ListN.{length};
 ghost use Rattle.listing.specs.Put.{Laid, Room};
-ghost use Rattle.listing.specs.Listing.{houseMarkers, houseDelims, fenceLinesOf, frameLines, markerLines, numberedLines};
+ghost use Rattle.common.specs.Sets.{houseMarkers, houseDelims};
+ghost use Rattle.listing.specs.Listing.{fenceLinesOf, frameLines, markerLines, numberedLines};
 ghost use Rattle.listing.specs.Parts.{fenceLines, spanLines, itemLines, scanLines};
 
 // The fences of one byte.

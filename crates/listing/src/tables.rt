@@ -14,7 +14,8 @@ ghost use Prim.Native.Nat.{_≤_, _*_};
 ghost use lib.ListN.{length};
 ghost use Rattle.listing.specs.Lines.{line};
 ghost use Rattle.listing.specs.Put.{LaidWithin, Laid, Room};
-ghost use Rattle.listing.specs.Listing.{houseMarkers, houseDelims, rowFields, sheetLines};
+ghost use Rattle.common.specs.Sets.{houseMarkers, houseDelims};
+ghost use Rattle.listing.specs.Listing.{rowFields, sheetLines};
 ghost use Rattle.listing.specs.Held.{RegionsIn, heldLines, ItemsIn, filedLines};
 ghost use Rattle.common.specs.Entry.{wide};
 

@@ -12,7 +12,7 @@ use Rattle.common.specs.EntryLaws.{Written, length-flatten, room-fits, written-
 use Rattle.common.specs.Lists.{RowPut}
 use Rattle.common.specs.declared.grammar.Grammar.{Grammar}
 use Rattle.cover.specs.Cursor.{Rising}
-use Rattle.feed.specs.Items.{contentStart}
+use Rattle.feed.specs.Items.{testedPlace}
 use Rattle.feed.specs.Feeds.{taken}
 use Rattle.feed.specs.Ahead.{ahead}
 use Rattle.feed.specs.FeedLaws.{Took, Started, took}
@@ -27,11 +27,11 @@ use Rattle.sheet.specs.declared.item.Seen.{Seen}
 use Rattle.sheet.specs.declared.item.Seen.the-variants as seen
 
 -- ---- an item and those behind it
-outside-hidden : (regions : List (List ℕ)) (i : SheetItem) (l : List SheetItem) → inside regions (contentStart i) ≡ true → outside regions (i ∷ l) ≡ outside regions l
+outside-hidden : (regions : List (List ℕ)) (i : SheetItem) (l : List SheetItem) → inside regions (testedPlace i) ≡ true → outside regions (i ∷ l) ≡ outside regions l
 unfolding outside
 outside-hidden regions i l e = rw (e, outside)
 
-outside-shown : (regions : List (List ℕ)) (i : SheetItem) (l : List SheetItem) → inside regions (contentStart i) ≡ false → outside regions (i ∷ l) ≡ i ∷ outside regions l
+outside-shown : (regions : List (List ℕ)) (i : SheetItem) (l : List SheetItem) → inside regions (testedPlace i) ≡ false → outside regions (i ∷ l) ≡ i ∷ outside regions l
 unfolding outside
 outside-shown regions i l e = rw (e, outside)
 
@@ -63,25 +63,25 @@ module _ (markers delims : List Bool) (s : List ℕ) (regions : List (List ℕ))
       next : ahead markers delims s f ≡ i ∷ ahead markers delims s (t .rest)
       next = took-it .same ∙ rw e
 
-      rises : Rising low (contentStart i ∷ map contentStart (ahead markers delims s (t .rest)))
-      rises = subst (λ (k : List SheetItem). Rising low (map contentStart k)) next (r .rising)
+      rises : Rising low (testedPlace i ∷ map testedPlace (ahead markers delims s (t .rest)))
+      rises = subst (λ (k : List SheetItem). Rising low (map testedPlace k)) next (r .rising)
 
       -- its place is not before the last one
-      pub item-later : low ≤ contentStart i
+      pub item-later : low ≤ testedPlace i
       item-later = rises .0
 
-      pub item-onward : Onward markers delims s (contentStart i) (t .rest)
+      pub item-onward : Onward markers delims s (testedPlace i) (t .rest)
       item-onward = record { within = took-it .within; rising = rises .1; few = omega (arith, r .few, ap length next) }
 
       fewer : length (ahead markers delims s (t .rest)) < length (ahead markers delims s f)
       fewer = omega (arith, ap length next)
 
       module _ {Goes : Type 0} (goes : Goes) where
-        pub left-hidden : inside regions (contentStart i) ≡ true → Turned markers delims s regions Goes f seen.Hidden (t .rest)
+        pub left-hidden : inside regions (testedPlace i) ≡ true → Turned markers delims s regions Goes f seen.Hidden (t .rest)
         unfolding left
         left-hidden h = record { same = ap (outside regions) next ∙ outside-hidden regions i (ahead markers delims s (t .rest)) h; goes = (goes, fewer) }
 
-        pub left-shown : inside regions (contentStart i) ≡ false → Turned markers delims s regions Goes f (seen.Shown i) (t .rest)
+        pub left-shown : inside regions (testedPlace i) ≡ false → Turned markers delims s regions Goes f (seen.Shown i) (t .rest)
         unfolding left
         left-shown h = record { same = ap (outside regions) next ∙ outside-shown regions i (ahead markers delims s (t .rest)) h; goes = (goes, fewer) }
 

@@ -9,7 +9,7 @@ use Rattle.common.specs.Entry.{rows, room, Shaped, wide}
 use Rattle.common.specs.declared.refusal.Found.{Found}
 use Rattle.common.specs.declared.refusal.Found.the-variants as found
 use Rattle.cover.specs.Cursor.{Rising, Ended}
-use Rattle.feed.specs.Items.{contentStart}
+use Rattle.feed.specs.Items.{testedPlace}
 use Rattle.feed.specs.Ahead.{Within, ahead}
 use Rattle.sheet.specs.Sheet.{inside, outside}
 use Rattle.feed.specs.declared.item.SheetItem.{SheetItem}
@@ -41,7 +41,7 @@ module _ (markers delims : List Bool) (s : List ℕ) where
   -- scanners that may go on: no content ahead starts before `low`, the last place that was asked for
   pub record Onward (low : ℕ) (f : Feed) : Type 0 where
     pub within : Within f (length s)
-    pub rising : Rising low (map contentStart (ahead markers delims s f))
+    pub rising : Rising low (map testedPlace (ahead markers delims s f))
     pub few : length (ahead markers delims s f) ≤ length s
 
   -- what a turn from the scanners f to f′ tells of the items left, and, unless that was the end, what lets it go on, with fewer ahead

@@ -19,14 +19,14 @@ use Rattle.block_marker.specs.MarkerRun as marker-run
 use Rattle.block_numbered.specs.Numbered as numbered
 use Rattle.block_numbered.specs.NumberedRun as numbered-run
 use Rattle.cover.specs.Cursor.{Rising}
-use Rattle.feed.specs.Items.{marked, counted, markItemsFrom, numberedItemsFrom, markItems, numberedItems, merge, contentStart}
+use Rattle.feed.specs.Items.{marked, counted, markItemsFrom, numberedItemsFrom, markItems, numberedItems, merge, testedPlace}
 use Rattle.sheet.specs.Sheet.{inside, outside}
 use Rattle.feed.specs.FeedLaws.{merge-number, merge-mark}
 use Rattle.feed.specs.declared.item.SheetItem.{SheetItem}
 
 -- items whose content starts never fall, none of them before `low`
 abbrev Rises : ℕ → List SheetItem → Type 0
-Rises low l = Rising low (map contentStart l)
+Rises low l = Rising low (map testedPlace l)
 
 rises-later : (q n : ℕ) (l : List SheetItem) → q ≤ n → Rises n l → Rises q l
 rises-later q n [] h w = tt
@@ -93,15 +93,15 @@ module _ (g : Grammar) (markers delims : List Bool) (s : List ℕ) where
   items-few = omega (arith, merge-length (markItems g markers s) (numberedItems g delims s), mark-rises g markers s .1, numbered-rises g delims s .1)
 
   -- the places that decide never fall
-  pub places-rise : Rising 0 (map contentStart (merge (markItems g markers s) (numberedItems g delims s)))
+  pub places-rise : Rising 0 (map testedPlace (merge (markItems g markers s) (numberedItems g delims s)))
   places-rise = merge-rises 0 (markItems g markers s) (numberedItems g delims s) (mark-rises g markers s .0) (numbered-rises g delims s .0)
 
 -- ---- those that are shown
 pub outside-few : (regions : List (List ℕ)) (l : List SheetItem) → length (outside regions l) ≤ length l
 unfolding outside
 outside-few regions [] = omega arith
-outside-few regions (i ∷ l) = by (outside-few regions l) (decide (inside regions (contentStart i)))
+outside-few regions (i ∷ l) = by (outside-few regions l) (decide (inside regions (testedPlace i)))
   where
-    by : length (outside regions l) ≤ length l → (inside regions (contentStart i) ≡ true) ⊎ (inside regions (contentStart i) ≡ false) → length (outside regions (i ∷ l)) ≤ suc (length l)
+    by : length (outside regions l) ≤ length l → (inside regions (testedPlace i) ≡ true) ⊎ (inside regions (testedPlace i) ≡ false) → length (outside regions (i ∷ l)) ≤ suc (length l)
     by ih (inl u) = rw (u, outside) (omega arith)
     by ih (inr u) = rw (u, outside) (omega arith)

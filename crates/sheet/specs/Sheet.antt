@@ -10,7 +10,7 @@ use Rattle.common.specs.Entry.{flatten, rows, over, wide}
 use Rattle.common.specs.Lists.{filledAnswer}
 use Rattle.common.specs.Refusals.{Outcome, refuse, leaves, tooLong}
 use Rattle.common.specs.declared.grammar.Grammar.{Grammar}
-use Rattle.feed.specs.Items.{markItems, numberedItems, merge, contentStart}
+use Rattle.feed.specs.Items.{markItems, numberedItems, merge, testedPlace}
 use Rattle.cover.specs.Cursor.{covers}
 use Rattle.cover.specs.Shape.{misshapen}
 use Rattle.feed.specs.declared.item.SheetItem.{SheetItem}
@@ -29,7 +29,7 @@ inside (r ∷ l) p = covers p r || inside l p
 -- the items "whose content start isn't inside a region"
 unfoldable pub outside : List (List ℕ) → List SheetItem → List SheetItem
 outside regions [] = []
-outside regions (i ∷ l) = elim (inside regions (contentStart i)) [ true ↦ outside regions l | false ↦ i ∷ outside regions l ]
+outside regions (i ∷ l) = elim (inside regions (testedPlace i)) [ true ↦ outside regions l | false ↦ i ∷ outside regions l ]
 
 -- ---- the sheet
 -- "The work sheet takes a text, the grammar bytes, the marker and delimiter sets and a list": s, g, the sets, and the n regions of l

@@ -14,7 +14,7 @@ use Rattle.common.specs.declared.refusal.Found.the-variants as found
 use Rattle.cover.specs.Cursor.{coverAnswer, coverNext, covers, coverage, Ended}
 use Rattle.cover.specs.CursorLaws.{query-ended}
 use Rattle.cover.specs.declared.cursor.Cover.{Cover}
-use Rattle.feed.specs.Items.{contentStart}
+use Rattle.feed.specs.Items.{testedPlace}
 use Rattle.sheet.specs.Sheet.{inside}
 use Rattle.feed.specs.Feeds.{taken}
 use Rattle.sheet.specs.Parts.{SortedRows, isAt, Hid, Ready, TurnedBy}
@@ -65,14 +65,14 @@ module _ (markers delims : List Bool) (l : List ℕ) (n : ℕ) (s : List ℕ) (f
 
   module _ (i : SheetItem) (e : t .head ≡ head.Item i) (g : Gives (taken markers delims s (f .feed)) t) (r : Ready markers delims l n s f) where
     -- the item's place is not before the last one
-    pub item-ended : Ended wide l n (f .index) (contentStart i)
+    pub item-ended : Ended wide l n (f .index) (testedPlace i)
     item-ended = record { within = r .ended .within; before = λ j h. omega (arith, r .ended .before j h, item-later markers delims s (rows wide n l) (r .low) (f .feed) (r .onward) t g i e) }
 
-    module _ (q : Query) (h : Hid l n (contentStart i) q) where
+    module _ (q : Query) (h : Hid l n (testedPlace i) q) where
       -- what comes after it, with the cursor moved on
       goes-on : Ready markers delims l n s (record { feed = t .rest; index = q .index })
       goes-on = record {
-        low = contentStart i;
+        low = testedPlace i;
         onward = item-onward markers delims s (rows wide n l) (r .low) (f .feed) (r .onward) t g i e;
         orderly = r .orderly;
         ended = h .ended;

@@ -12,7 +12,7 @@ use cover::shape::is_misshapen;
 use feed::Feed;
 use feed::Head;
 use feed::item::SheetItem;
-use feed::item::content_start;
+use feed::item::tested_place;
 use feed::start;
 use feed::take;
 use item::Seen;
@@ -27,7 +27,7 @@ ghost use Rattle.common.specs.Lists.{Wrote, Filled};
 ghost use Rattle.common.specs.Refusals.{told};
 ghost use Rattle.cover.specs.Cursor.{Ended};
 ghost use Rattle.cover.specs.Shape.{misshapen};
-ghost use Rattle.feed.specs.Items.{contentStart};
+ghost use Rattle.feed.specs.Items.{testedPlace};
 ghost use Rattle.sheet.specs.Sheet.{five, sheetOf, Sheeted};
 ghost use Rattle.sheet.specs.Parts.{isAt, SortedRows, Hid, left, Ready, TurnedBy};
 
@@ -63,10 +63,10 @@ fn is_at(found: Found) -> bool
 // Whether a region hides the item. The items come by rising places, so that the cursor's answer is plain coverage.
 fn hides(list: &[u32], count: usize, index: usize, item: SheetItem) -> Query
     requires { ⌜ SortedRows (now list) count ⌝ }
-    requires { ⌜ Ended wide (now list) count index (contentStart item) ⌝ }
-    ensures { λ r. ⌜ Hid (now (list .entry)) count (contentStart item) r ⌝ }
+    requires { ⌜ Ended wide (now list) count index (testedPlace item) ⌝ }
+    ensures { λ r. ⌜ Hid (now (list .entry)) count (testedPlace item) r ⌝ }
 {
-    let cover = covering_end(list, count, index, content_start(item));
+    let cover = covering_end(list, count, index, tested_place(item));
     let found = cover.found;
     Query {
         hidden: is_at(found),

@@ -24,7 +24,7 @@ use Rattle.region.specs.LoopLaws.{row-wide}
 use Rattle.region.specs.MemoryLaws.{sound-zeros}
 use Rattle.cover.specs.Cursor.{covers}
 use Rattle.rules.specs.declared.search_bytes.Alphabet.{Alphabet}
-use Rattle.feed.specs.Items.{contentStart}
+use Rattle.feed.specs.Items.{testedPlace}
 use Rattle.sheet.specs.Sheet.{five, inside, outside, sheetOf}
 use Rattle.feed.specs.Feeds.{freshFeed, taken}
 use Rattle.feed.specs.FeedLaws.{Started, started}
@@ -61,7 +61,7 @@ module _ (g : Gram) (markers delims : List Bool) (s : List ℕ) (w : Sieve) (t :
   pub turned-end : (m : List ℕ) → t .head ≡ head.End → Gives (taken markers delims s (w .feed)) t → SieveReady g markers delims s w → SieveTurned g markers delims s m w (record { seen = seen.End; rest = record { feed = t .rest; hider = w .hider } })
   turned-end m e d r = left-end markers delims s (map rowOf (regions g s)) (r .low) (w .feed) (r .onward) t d _ e
 
-  module _ (i : SheetItem) (e : t .head ≡ head.Item i) (d : Gives (taken markers delims s (w .feed)) t) (r : SieveReady g markers delims s w) (p : ℕ) (at : Gives (contentStart i) p) where
+  module _ (i : SheetItem) (e : t .head ≡ head.Item i) (d : Gives (taken markers delims s (w .feed)) t) (r : SieveReady g markers delims s w) (p : ℕ) (at : Gives (testedPlace i) p) where
     -- the item's place is not before the last one
     pub item-hides : HidesFrom g s p (w .hider)
     item-hides = hides-later g s p (w .hider) (r .low) (omega (arith, item-later markers delims s (map rowOf (regions g s)) (r .low) (w .feed) (r .onward) t d i e, at .answer)) (r .hides)
@@ -70,14 +70,14 @@ module _ (g : Gram) (markers delims : List Bool) (s : List ℕ) (w : Sieve) (t :
       goes-on : ReadyBy g markers delims s m (record { feed = t .rest; hider = h })
       goes-on = record {
         ready = record {
-          low = contentStart i;
+          low = testedPlace i;
           onward = item-onward markers delims s (map rowOf (regions g s)) (r .low) (w .feed) (r .onward) t d i e;
           hides = rw (at .answer) at (moved .passed .hides);
         };
         sound = moved .sound;
       }
 
-      told : Gives (covers p (h .start ∷ h .stop ∷ [])) y → inside (map rowOf (regions g s)) (contentStart i) ≡ y
+      told : Gives (covers p (h .start ∷ h .stop ∷ [])) y → inside (map rowOf (regions g s)) (testedPlace i) ≡ y
       told v = rw (← (at .answer)) (moved .passed .hidden) ∙ sym (v .answer)
 
       pub turned-hidden : y ≡ true → Gives (covers p (h .start ∷ h .stop ∷ [])) y → SieveTurned g markers delims s m w (record { seen = seen.Hidden; rest = record { feed = t .rest; hider = h } })

@@ -12,7 +12,7 @@ use common::span::MAX_INPUT_LEN;
 use feed::Feed;
 use feed::Head;
 use feed::item::SheetItem;
-use feed::item::content_start;
+use feed::item::tested_place;
 use feed::start;
 use feed::take;
 use hiding::Hider;
@@ -99,7 +99,7 @@ fn turn(
             },
         },
         Head::Item(i) => {
-            let place = content_start(i);
+            let place = tested_place(i);
             let hider = pass(before, place, text, alphabet, fences, rows, dead);
             let rest = Sieve { feed, hider };
             if hides(hider, place) {

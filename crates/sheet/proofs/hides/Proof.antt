@@ -4,8 +4,8 @@ use Rattle.sheet.specs.ShowLaws.{hid}
 use Rattle.sheet.proofs.hides.Statement.{statement}
 use Rattle.sheet.proofs.hides.Tie as tie
 
-content-start-requires : tie.Need-content-start-requires
-content-start-requires c κs = search needs
+tested-place-requires : tie.Need-tested-place-requires
+tested-place-requires c κs = search needs
 
 covering-end-requires : tie.Need-covering-end-requires
 covering-end-requires c κs = search needs
@@ -17,4 +17,4 @@ returns : tie.Need-returns
 returns c = search hid
 
 pub hides-spec : {M : Type 1} → statement M
-hides-spec = tie.close (tie.spec content-start-requires covering-end-requires is-at-requires returns)
+hides-spec = tie.close (tie.spec tested-place-requires covering-end-requires is-at-requires returns)

@@ -13,8 +13,8 @@ enum-told c = search needs
 enum-known-head : tie.Need-enum-known-head
 enum-known-head c = search needs
 
-content-start-requires : tie.Need-content-start-requires
-content-start-requires c κs = search needs
+tested-place-requires : tie.Need-tested-place-requires
+tested-place-requires c κs = search needs
 
 pass-requires : tie.Need-pass-requires
 pass-requires c κs = search item-hides
@@ -38,7 +38,7 @@ turn-spec =
     take-requires
     enum-told
     enum-known-head
-    content-start-requires
+    tested-place-requires
     pass-requires
     hides-requires
     returns

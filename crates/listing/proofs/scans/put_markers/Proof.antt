@@ -2,7 +2,8 @@
 use Prim.Native.Nat.{_-_}
 use Rattle.block_marker.specs.Marker.{scanner, told}
 use Rattle.block_marker.specs.MarkerRun.{lawful}
-use Rattle.listing.specs.Listing.{houseMarkers, markerLines}
+use Rattle.common.specs.Sets.{houseMarkers}
+use Rattle.listing.specs.Listing.{markerLines}
 use Rattle.block_marker.specs.declared.BlockMarkerIter.{BlockMarkerIter}
 use Rattle.listing.specs.Going.{ItemsGoing}
 use Rattle.listing.specs.ScannerLines.{items-first}

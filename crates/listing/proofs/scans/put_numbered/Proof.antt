@@ -2,7 +2,8 @@
 use Prim.Native.Nat.{_-_}
 use Rattle.block_numbered.specs.Numbered.{scanner, told}
 use Rattle.block_numbered.specs.NumberedRun.{lawful}
-use Rattle.listing.specs.Listing.{houseDelims, numberedLines}
+use Rattle.common.specs.Sets.{houseDelims}
+use Rattle.listing.specs.Listing.{numberedLines}
 use Rattle.block_numbered.specs.declared.BlockNumberedIter.{BlockNumberedIter}
 use Rattle.listing.specs.Going.{ItemsGoing}
 use Rattle.listing.specs.ScannerLines.{items-first}
