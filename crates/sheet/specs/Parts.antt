@@ -18,7 +18,7 @@ use Rattle.sheet.specs.declared.Query.{Query}
 use Rattle.sheet.specs.declared.item.Seen.{Seen}
 use Rattle.sheet.specs.declared.item.Seen.the-variants as seen
 use Rattle.sheet.specs.declared.Walk.{Walk}
-use Rattle.sheet.specs.declared.Step.{Step}
+use Rattle.sheet.specs.declared.SheetStep.{SheetStep}
 
 -- ---- the items, whatever the regions come from
 -- what a turn tells, and the items behind it
@@ -76,5 +76,5 @@ module _ (markers delims : List Bool) (l : List ℕ) (n : ℕ) (s : List ℕ) wh
     pub ended : Ended wide l n (w .index) low
 
   -- the promise of a turn
-  abbrev pub TurnedBy : Walk → Step → Type 0
+  abbrev pub TurnedBy : Walk → SheetStep → Type 0
   TurnedBy w t = Turned markers delims s (rows wide n l) (Ready (t .rest)) (w .feed) (t .seen) (t .rest .feed)

@@ -23,7 +23,7 @@ use Rattle.feed.specs.declared.item.SheetItem.{SheetItem}
 use Rattle.feed.specs.declared.Head.the-variants as head
 use Rattle.feed.specs.declared.Taken.{Taken}
 use Rattle.sheet.specs.declared.Walk.{Walk}
-use Rattle.sheet.specs.declared.Step.{Step}
+use Rattle.sheet.specs.declared.SheetStep.{SheetStep}
 use Rattle.sheet.specs.declared.Query.{Query}
 use Rattle.sheet.specs.declared.item.Seen.the-variants as seen
 
@@ -85,7 +85,7 @@ module _ (markers delims : List Bool) (l : List ℕ) (n : ℕ) (s : List ℕ) (f
       turned-shown u = left-shown markers delims s (rows wide n l) (r .low) (f .feed) (r .onward) t g i e goes-on (sym (h .hidden) ∙ u)
 
 -- unless that was the end it may go on
-module _ (markers delims : List Bool) (l : List ℕ) (n : ℕ) (s : List ℕ) (f : Walk) (t : Step) where
+module _ (markers delims : List Bool) (l : List ℕ) (n : ℕ) (s : List ℕ) (f : Walk) (t : SheetStep) where
   pub ready-hidden : t .seen ≡ seen.Hidden → TurnedBy markers delims l n s f t → Ready markers delims l n s (t .rest)
   ready-hidden e w = (rw e at (w .goes)) .0
 

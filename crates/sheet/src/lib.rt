@@ -44,7 +44,7 @@ struct Walk {
 }
 
 // What a turn tells, and what comes after the item.
-struct Step {
+struct SheetStep {
     seen: Seen,
     rest: Walk,
 }
@@ -82,7 +82,7 @@ fn turn(
     delims: &[bool; 256],
     list: &[u32],
     count: usize,
-) -> Step
+) -> SheetStep
     requires { ⌜ Ready (now markers) (now delims) (now list) count (now src) w ⌝ }
     ensures { λ r. ⌜ TurnedBy (now (markers .entry)) (now (delims .entry)) (now (list .entry)) count (now (src .entry)) w r ⌝ }
 {
@@ -90,7 +90,7 @@ fn turn(
     let head = taken.head;
     let feed = taken.rest;
     match head {
-        Head::End => Step {
+        Head::End => SheetStep {
             seen: Seen::End,
             rest: Walk {
                 feed,
@@ -104,12 +104,12 @@ fn turn(
                 index: h.index,
             };
             if h.hidden {
-                return Step {
+                return SheetStep {
                     seen: Seen::Hidden,
                     rest,
                 };
             }
-            Step {
+            SheetStep {
                 seen: Seen::Shown(i),
                 rest,
             }
