@@ -7,8 +7,8 @@ use mathlib.Core.List.{List, [], _++_, map}
 use Prim.Native.Nat.{ℕ, _+_}
 use lib.Dec.{ltb}
 use lib.ListN.{length, take, drop}
-use Rattle.common.specs.Entry.{flatten, rows, over, wide}
-use Rattle.common.specs.Refusals.{Outcome, refuse, leaves, tooLong, past}
+use Rattle.common.specs.Entry.{flatten, rows, wide}
+use Rattle.common.specs.Refusals.{Outcome, refuse, tooLong, past}
 use Rattle.common.specs.declared.grammar.Grammar.{Grammar}
 use Rattle.region.specs.Region.{Region, up, reaches, keepBefore, keepFrom, Listed, row, unrow, tagOf}
 use Rattle.rules.specs.Grammar.{Gram}
@@ -17,7 +17,7 @@ use Rattle.cover.specs.Shape.{misshapen}
 use Rattle.amend.specs.Amend.{Edit, movedBy, joint}
 use Rattle.joint.specs.Joint.{openEnd, lineEndIsMark}
 use Rattle.region.specs.Regions.{tagged}
-use Rattle.common.specs.Lists.{filledAnswer}
+use Rattle.common.specs.Lists.{filledAnswer, filledBy}
 
 -- ---- lists as regions
 -- the first n regions of a list
@@ -100,4 +100,4 @@ module _ (g : Grammar) (c : Columns) (s l : List ℕ) (n : ℕ) (e : Edit) where
 -- changes nothing beyond them."
 pub record Amended (g : Grammar) (c : Columns) (s l : List ℕ) (n : ℕ) (e : Edit) (out out′ : List ℕ) (o : Outcome) : Type 0 where
   pub answer : o ≡ amendedAnswer g c s l n e out
-  pub list : out′ ≡ leaves (amendedAnswer g c s l n e out) out (over (flatten row (amendedList g c s l n e)) out)
+  pub list : out′ ≡ filledBy (amendedAnswer g c s l n e out) (flatten row (amendedList g c s l n e)) out

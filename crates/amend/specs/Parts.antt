@@ -5,8 +5,9 @@ use mathlib.Core.Bool.{Bool, false}
 use mathlib.Core.List.{List, [], _++_}
 use Prim.Native.Nat.{ℕ, _+_, _-_, _*_, _≤_}
 use lib.ListN.{length, drop}
-use Rattle.common.specs.Entry.{flatten, over, putAt, wide}
-use Rattle.common.specs.Refusals.{Outcome, given, refused, leaves, numberOf}
+use Rattle.common.specs.Lists.{filledBy}
+use Rattle.common.specs.Entry.{flatten, putAt, wide}
+use Rattle.common.specs.Refusals.{Outcome, given, refused, numberOf}
 use Rattle.region.specs.Region.{up, reaches, InOrder, Listed, Caused, row}
 use Rattle.rules.specs.Grammar.{Gram}
 use Rattle.region.specs.Regions.{regions}
@@ -81,7 +82,7 @@ pub record CutsReady (l : List ℕ) (n : ℕ) (cuts : Cuts) (r : List ℕ) : Typ
 -- what settling promises
 pub record Settled (eol len : ℕ) (build : List ℕ → List Listed) (l : List Listed) (e : Edit) (out out′ : List ℕ) (o : Outcome) : Type 0 where
   pub answer : o ≡ settledAnswer eol len build l e out
-  pub list : out′ ≡ leaves (settledAnswer eol len build l e out) out (over (flatten row (amendedRegions build len e l)) out)
+  pub list : out′ ≡ filledBy (settledAnswer eol len build l e out) (flatten row (amendedRegions build len e l)) out
 
 -- ---- writing
 -- the rows before, the replacement's own, and the rows from `after` on

@@ -27,12 +27,12 @@ pub record ColumnRuns : Type 0 where
   pub fenceMins : List ℕ
   pub inline : InlineRuns
 
--- "fence rule records given as bytes (two bytes a rule)", and the inline rules
+-- fence rules in two bytes each, the byte and the minimum, and the inline rules
 pub record RuleRuns : Type 0 where
   pub fenceRules : List ℕ
   pub inline : InlineRuns
 
--- ---- "count columns are byte runs of exactly four times the byte column's length, else 6"
+-- ---- 6: a count column has four bytes for each byte of its byte column
 unfoldable pub uneven : InlineRuns → Bool
 uneven i = not (fourfold (i .symCounts) (i .symBytes)) || (differ (i .openers) (i .closers) || not (fourfold (i .openCounts) (i .openers)))
 
@@ -40,7 +40,7 @@ uneven i = not (fourfold (i .symCounts) (i .symBytes)) || (differ (i .openers) (
 unfoldable pub unevenColumns : ColumnRuns → Bool
 unevenColumns c = differ (c .fenceBytes) (c .fenceMins) || uneven (c .inline)
 
--- the same of fence rules in two bytes each: "an odd length is 6"
+-- the same of fence rules in two bytes each: an odd length is refused too
 unfoldable pub unevenRules : RuleRuns → Bool
 unevenRules c = not (eqb (length (c .fenceRules) % 2) 0) || uneven (c .inline)
 
@@ -55,7 +55,7 @@ columnsIn c = record { fenceBytes = c .fenceBytes; fenceMins = c .fenceMins; inl
 abbrev pub fenceRuleOf : List ℕ → FenceRule
 fenceRuleOf l = record { byte = getD l 0 0; min = getD l 1 0 }
 
--- "two bytes a rule"
+-- the rules of a run
 unfoldable pub fenceRulesOf : List ℕ → List FenceRule
 fenceRulesOf l = map fenceRuleOf (rows 2 (length l / 2) l)
 

@@ -1,6 +1,6 @@
 -- Numbers as four bytes, low byte first, and runs whose numbers keep to limits. Assumes nothing.
 -- The page: "there each number of a list is four bytes, low byte first."
-use mathlib.Core.Bool.{Bool, true, false, cond, _&&_}
+use mathlib.Core.Bool.{Bool, true, false, _&&_}
 use mathlib.Core.List.{List, [], _∷_, map}
 use Prim.Native.Nat.{ℕ, _+_, _*_, _/_, _%_}
 use lib.Dec.{eqb, leb}
@@ -27,10 +27,6 @@ fourfold run l = eqb (length run) (length l * 4)
 abbrev pub rowBytes : ℕ
 rowBytes = wide * 4
 
--- a flag as a number
-abbrev pub asFlag : Bool → ℕ
-asFlag on = cond on 1 0
-
 -- whether there is one number for each limit, and none is over its limit
 unfoldable pub within : List ℕ → List ℕ → Bool
 within [] [] = true
@@ -38,7 +34,6 @@ within [] (x ∷ xs) = false
 within (m ∷ ms) [] = false
 within (m ∷ ms) (x ∷ xs) = leb x m && within ms xs
 
--- "a state run of the wrong length is refused with 2, a cell that is no byte/flag where the field is one likewise": whole cells, one for
--- each limit, a byte's limit 255, a flag's 1
+-- whether a run holds a state: whole cells, one for each limit, and none over its limit; a byte's is 255, a flag's 1
 unfoldable pub readable : List ℕ → List ℕ → Bool
 readable limits run = fourfold run limits && within limits (cells run)

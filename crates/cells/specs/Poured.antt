@@ -3,15 +3,11 @@
 -- each number of a list is four bytes, low byte first."
 use mathlib.Core.Path.{_≡_}
 use mathlib.Core.Bool.{Bool}
-use mathlib.Core.List.{List, []}
+use mathlib.Core.List.{List}
 use Prim.Native.Nat.{ℕ}
-use Rattle.common.specs.Entry.{flatten, over}
-use Rattle.common.specs.Lists.{filledAnswer, buildAnswer}
-use Rattle.common.specs.Refusals.{Outcome, leaves}
-use Rattle.common.specs.declared.grammar.Grammar.{Grammar}
-use Rattle.region.specs.Region.{Caused}
-use Rattle.region.specs.Regions.{regions}
-use Rattle.rules.specs.Columns.{Columns, gramOf}
+use Rattle.common.specs.Entry.{flatten}
+use Rattle.common.specs.Lists.{filledAnswer, buildAnswer, filledBy}
+use Rattle.common.specs.Refusals.{Outcome}
 use Rattle.cells.specs.Reply.{fitted, Replied}
 
 -- the runs that an entry writes to
@@ -22,7 +18,7 @@ pub record ListRuns : Type 0 where
 -- a reply, and a list that is written on success alone
 pub record Poured (o : Outcome) (l : List ℕ) (before after : ListRuns) (r : ℕ) : Type 0 where
   pub reply : Replied o (before .answer) (after .answer) r
-  pub left : after .list ≡ leaves (fitted o (before .answer)) (before .list) (over l (before .list))
+  pub left : after .list ≡ filledBy (fitted o (before .answer)) l (before .list)
 
 -- a list's entries poured into a run, w bytes each
 abbrev pub PouredAs : {A : Type 0} → (A → List ℕ) → ℕ → List A → ListRuns → ListRuns → ℕ → Type 0
@@ -32,7 +28,3 @@ PouredAs flat w l before after r = Poured (filledAnswer w l (before .list)) (fla
 -- "For building: 1, 6, 3.", of a list whose entries have w bytes each, with the list that is left
 abbrev pub BuiltAs : {A : Type 0} → (A → List ℕ) → ℕ → Bool → List A → List ℕ → ListRuns → ListRuns → ℕ → Type 0
 BuiltAs flat w bad l s before after r = Poured (buildAnswer w bad l s (before .list)) (flatten flat l) before after r
-
--- the regions that columns build
-abbrev pub builtBy : Grammar → Columns → List ℕ → List Caused
-builtBy g c s = regions (gramOf g c) s

@@ -6,8 +6,9 @@ use mathlib.Core.List.{List, _∷_}
 use Prim.Native.Nat.{ℕ, _+_}
 use lib.Dec.{ltb}
 use lib.ListN.{length}
-use Rattle.common.specs.Entry.{flatten, over, putAt}
-use Rattle.common.specs.Refusals.{Outcome, refuse, served, leaves}
+use Rattle.common.specs.Lists.{filledBy}
+use Rattle.common.specs.Entry.{flatten, putAt}
+use Rattle.common.specs.Refusals.{Outcome, refuse, served}
 use Rattle.cells.specs.Bytes.{four}
 
 -- numbers set from place k on; all other places stay as they are
@@ -22,7 +23,7 @@ pub record LaidIf (k : ℕ) (l out out′ : List ℕ) : Type 0 where
 abbrev pub written : List ℕ → List ℕ
 written vs = flatten four (length vs ∷ vs)
 
--- "last 3 for an answer run that is too short"
+-- 3, tried last: whether the answer run is too short for the values
 abbrev pub short : Outcome → List ℕ → Bool
 short o run = ltb (length run) (length (written (o .values)))
 
@@ -30,11 +31,11 @@ short o run = ltb (length run) (length (written (o .values)))
 unfoldable pub fitted : Outcome → List ℕ → Outcome
 fitted o run = cond (served o) (refuse 3 (short o run) o) o
 
--- "writes its values to a lent answer run on success alone"; "A refusal changes no byte of any lent run"
+-- the answer run that is left: the values are written on success alone
 unfoldable pub answered : Outcome → List ℕ → List ℕ
-answered o run = leaves (fitted o run) run (over (written (o .values)) run)
+answered o run = filledBy (fitted o run) (written (o .values)) run
 
--- "An entry returns 0 or the refusal's number and writes its values to a lent answer run on success alone"
+-- the promise of an entry: it returns 0 or the refusal's number, and writes its values to a lent answer run on success alone
 pub record Replied (o : Outcome) (run run′ : List ℕ) (r : ℕ) : Type 0 where
   pub number : r ≡ fitted o run .number
   pub list : run′ ≡ answered o run

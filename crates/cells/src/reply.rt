@@ -6,10 +6,11 @@ ghost use mathlib.Core.List.{_++_};
 ghost use Prim.Native.Nat.{_+_, _*_, _/_, _≤_};
 ghost use lib.Dec.{ltb};
 ghost use lib.ListN.{length};
+ghost use Rattle.common.specs.Sets.{asFlag};
 ghost use Rattle.search.specs.Promise.{Gives};
 ghost use Rattle.common.specs.Entry.{flatten};
 ghost use Rattle.common.specs.Refusals.{given, told, toldFound};
-ghost use Rattle.cells.specs.Bytes.{four, asFlag};
+ghost use Rattle.cells.specs.Bytes.{four};
 ghost use Rattle.cells.specs.Reply.{Replied, LaidAt, LaidIf};
 
 // Writes a number's four bytes from place `k` on.

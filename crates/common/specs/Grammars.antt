@@ -10,7 +10,7 @@ house = record { eol = 10; escape = 92; sep = 32; tab = 9 }
 
 -- its lines with a marker, and with a number's delimiter
 abbrev pub houseMarks : ItemGrammar
-houseMarks = grammar 10 32 9 isMarker
+houseMarks = grammar (house .eol) (house .sep) (house .tab) isMarker
 
 abbrev pub houseNumbers : ItemGrammar
-houseNumbers = grammar 10 32 9 isDelimiter
+houseNumbers = grammar (house .eol) (house .sep) (house .tab) isDelimiter

@@ -1,7 +1,7 @@
 -- Items that lead a line: what both item scanners read a text by, the bytes of a line, and what a scanner makes of a scan's answer. Assumes nothing.
 -- The page: "Optional separators and tabs, one accepted byte, one separator or tab; the span is the rest of the line."
 use mathlib.Core.Path.{_≡_}
-use mathlib.Core.Bool.{Bool, true, false, cond, _||_, _&&_}
+use mathlib.Core.Bool.{Bool, true, false, cond, _&&_}
 use mathlib.Core.List.{List, [], _∷_}
 use Prim.Native.Nat.{ℕ, _+_, _-_}
 use lib.Dec.{ltb}
@@ -89,7 +89,7 @@ abbrev pub hitTurn : {A : Type 0} → ItemGrammar → (ℕ → Turn A) → List 
 hitTurn g hit s q = cond (ltb (find (g .accepts) s q) (length s)) (hit (find (g .accepts) s q)) (stop q)
 
 -- ---- a scanner's step, by its scan's answer
--- "For a scanner: 1, 2.", else what follows; of a state that may be misplaced in its text
+-- "For a scanner: 1, 2.", as for a leaf that takes a place and no rules; else what follows. The place, or the state, may be misplaced in its text
 abbrev pub unlessRefused : List ℕ → Bool → Outcome → Outcome
 unlessRefused s misplaced o = refuse 1 (tooLong s) (refuse 2 misplaced o)
 

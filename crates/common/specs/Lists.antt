@@ -18,6 +18,10 @@ pub record Wrote {A : Type 0} (flat : A → List ℕ) (l : List A) (out out′ :
   pub count : n ≡ length l
   pub list : out′ ≡ over (flatten flat l) out
 
+-- "Success writes the regions from place 0 … and changes nothing beyond them"; a refusal changes nothing: the run that an outcome leaves of `out`
+abbrev pub filledBy : Outcome → List ℕ → List ℕ → List ℕ
+filledBy o l out = leaves o out (over l out)
+
 -- ---- entries of w numbers each, written where there is room for them
 -- 3: "the answer has more regions, or items, than there is room for"
 abbrev pub crowded : {A : Type 0} → ℕ → List A → List ℕ → Bool
@@ -27,9 +31,9 @@ crowded w l out = overfull w out (length l)
 abbrev pub filledAnswer : {A : Type 0} → ℕ → List A → List ℕ → Outcome
 filledAnswer w l out = refuse 3 (crowded w l out) (given (length l ∷ []))
 
--- "Success writes the regions from place 0 … and changes nothing beyond them"; a refusal changes nothing
+-- and the list that is left
 abbrev pub filledList : {A : Type 0} → (A → List ℕ) → ℕ → List A → List ℕ → List ℕ
-filledList flat w l out = leaves (filledAnswer w l out) out (over (flatten flat l) out)
+filledList flat w l out = filledBy (filledAnswer w l out) (flatten flat l) out
 
 -- "For building: 1, 6, 3.", of a text and of the list that rules make of it, where columns may differ
 unfoldable pub buildAnswer : {A : Type 0} → ℕ → Bool → List A → List ℕ → List ℕ → Outcome

@@ -81,7 +81,7 @@ refusalOf n =
 
 -- served by its values, or refused by its number
 unfoldable pub read : {A : Type 0} → (List ℕ → A) → (Refusal → A) → Outcome → A
-read f g o = elim (eqb (o .number) 0) [ true ↦ f (o .values) | false ↦ g (refusalOf (o .number)) ]
+read f g o = elim (served o) [ true ↦ f (o .values) | false ↦ g (refusalOf (o .number)) ]
 
 -- one answer where there are no values, else by the values
 abbrev pub unlessNone : {A : Type 0} → A → (List ℕ → A) → List ℕ → A

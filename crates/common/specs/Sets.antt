@@ -11,6 +11,10 @@ use Rattle.search.specs.Search.{oneOf, digit}
 use Rattle.common.specs.Rules.{tabulate}
 use Rattle.common.specs.declared.sets.Probe.{Probe}
 
+-- a flag as a number
+abbrev pub asFlag : Bool → ℕ
+asFlag on = cond on 1 0
+
 -- a byte's place in a table of 256 entries: the byte itself
 pub record Index (b r : ℕ) : Type 0 where
   pub same : r ≡ b

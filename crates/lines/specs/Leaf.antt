@@ -3,6 +3,7 @@
 use mathlib.Core.Bool.{Bool, false}
 use mathlib.Core.List.{List, [], _∷_}
 use Prim.Native.Nat.{ℕ}
+use Rattle.common.specs.Items.{unlessRefused}
 use Rattle.search.specs.Search.{is, back, lineEnd}
 use Rattle.common.specs.Refusals.{Outcome, given, refuse, tooLong, past, differ}
 use Rattle.common.specs.Rules.{onByte, hasRule, leastOf}
@@ -13,11 +14,11 @@ use Rattle.lines.specs.declared.fence_tests.Hit.the-variants.{At, End}
 
 -- "first line-end byte at or after a place, else the length"
 unfoldable pub findLineEnd : List ℕ → ℕ → ℕ → Outcome
-findLineEnd s from eol = refuse 1 (tooLong s) (refuse 2 (past s from) (given (lineEnd eol s from ∷ [])))
+findLineEnd s from eol = unlessRefused s (past s from) (given (lineEnd eol s from ∷ []))
 
 -- "run of escape bytes just before"
 unfoldable pub countEscape : List ℕ → ℕ → ℕ → Outcome
-countEscape s pos escape = refuse 1 (tooLong s) (refuse 2 (past s pos) (given (back (is escape) s pos ∷ [])))
+countEscape s pos escape = unlessRefused s (past s pos) (given (back (is escape) s pos ∷ []))
 
 abbrev pub toldHit : Hit → Outcome
 toldHit (At q) = given (q ∷ [])

@@ -1,5 +1,5 @@
 -- Fence readers: what an edition says of fences, asked of a place in a text. Assumes nothing.
--- The page, module 6: "A fence at a line start goes first, by the first rule with that byte"; whatever asks of fences asks a reader.
+-- The page, module 6: "A fence at a line start goes first, by the first rule with that byte"; the regions and their paragraphs ask a reader.
 use mathlib.Core.Bool.{Bool, true, false, cond, _&&_}
 use mathlib.Core.List.{List}
 use Prim.Native.Nat.{ℕ}

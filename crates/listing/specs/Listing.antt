@@ -8,9 +8,10 @@ use mathlib.Core.List.{List, [], _∷_, _++_}
 use Prim.Native.Nat.{ℕ}
 use lib.Dec.{eqb, ltb}
 use lib.ListN.{length, getD}
-use Rattle.common.specs.Entry.{flatten, over}
+use Rattle.common.specs.Lists.{filledBy}
+use Rattle.common.specs.Entry.{flatten}
 use Rattle.common.specs.Grammars.{house}
-use Rattle.common.specs.Refusals.{Outcome, given, refuse, leaves, spanValues}
+use Rattle.common.specs.Refusals.{Outcome, given, refuse, spanValues}
 use Rattle.common.specs.Sets.{houseMarkers, houseDelims}
 use Rattle.fence.specs.Fence as fence
 use Rattle.fence.specs.declared.FenceIter.{FenceIter}
@@ -116,7 +117,7 @@ listingAnswer s out = refuse 3 (ltb (length out) (length (printed s))) (given (l
 
 -- the listing over the front of the run, and nothing beyond it changed; a refusal changes nothing
 unfoldable pub listingRun : List ℕ → List ℕ → List ℕ
-listingRun s out = leaves (listingAnswer s out) out (over (printed s) out)
+listingRun s out = filledBy (listingAnswer s out) (printed s) out
 
 pub record Printed (s out out′ : List ℕ) (o : Outcome) : Type 0 where
   pub answer : o ≡ listingAnswer s out

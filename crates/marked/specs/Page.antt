@@ -2,19 +2,14 @@
 -- The page: the section "Marked examples".
 use mathlib.Core.Path.{_≡_}
 use mathlib.Core.List.{List, [], _∷_}
-use Prim.Native.Nat.{ℕ, _/_}
-use lib.ListN.{length}
-use Rattle.search.specs.Search.{oneOf}
-use Rattle.common.specs.Entry.{flatten, over, wide}
-use Rattle.common.specs.Grammars.{house}
-use Rattle.common.specs.Items.{ItemGrammar, grammar}
+use Prim.Native.Nat.{ℕ}
+use Rattle.common.specs.Entry.{flatten, room, over, wide}
+use Rattle.common.specs.Grammars.{house, houseNumbers}
 use Rattle.common.specs.Refusals.{given, refused, spanValues}
-use Rattle.common.specs.Sets.{delimiterBytes}
-use Rattle.region.specs.Regions.{regions}
 use Rattle.fence.specs.Fence.{fences}
 use Rattle.block_numbered.specs.Numbered.{numbers, values}
 use Rattle.cont.specs.Frames.{frames}
-use Rattle.listing.specs.Listing.{houseRules, houseGram, houseFence, houseFraming}
+use Rattle.listing.specs.Listing.{houseRules, houseRegions, houseFence, houseFraming}
 use Rattle.amend.specs.Amended.{edit, Amended}
 use Rattle.region.specs.Region.{rowOf}
 
@@ -31,11 +26,7 @@ pub data Row : Type 0 where
 
 -- the list that building leaves of a text
 abbrev pub own : List ℕ → List ℕ
-own s = flatten rowOf (regions houseGram s)
-
--- "delimiters `. )`"
-abbrev pub delimiters : ItemGrammar
-delimiters = grammar (house .eol) (house .sep) (house .tab) (oneOf delimiterBytes)
+own s = flatten rowOf (houseRegions s)
 
 -- a run with room for four regions
 abbrev pub zeros : List ℕ
@@ -45,10 +36,10 @@ zeros = 0 ∷ 0 ∷ 0 ∷ 0 ∷ 0 ∷ 0 ∷ 0 ∷ 0 ∷ []
 abbrev pub Says : Row → Type 0
 Says (listed s l) = own s ≡ l
 Says (hasFences byte s l) = flatten spanValues (fences (houseFence byte) s) ≡ l
-Says (hasNumbers s l) = flatten values (numbers delimiters s) ≡ l
+Says (hasNumbers s l) = flatten values (numbers houseNumbers s) ≡ l
 Says (framed nest s l) = flatten spanValues (frames (houseFraming nest) s) ≡ l
-Says (mended s a b r l) = Amended house houseRules s (own s) (length (own s) / wide) (edit a b r) zeros (over l zeros) (given (length l / wide ∷ []))
-Says (refusing s a b r n) = Amended house houseRules s (own s) (length (own s) / wide) (edit a b r) zeros zeros (refused n)
+Says (mended s a b r l) = Amended house houseRules s (own s) (room wide (own s)) (edit a b r) zeros (over l zeros) (given (room wide l ∷ []))
+Says (refusing s a b r n) = Amended house houseRules s (own s) (room wide (own s)) (edit a b r) zeros zeros (refused n)
 
 -- the texts of P11 (`a`, an empty line, ~~~, b, ~~~, an empty line, <c>) and of P12 (~~~, an empty line, ~~~)
 abbrev pub eleventh : List ℕ

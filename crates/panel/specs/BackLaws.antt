@@ -20,7 +20,7 @@ use Rattle.common.specs.TurnLaws.{by-turn, scan-ends}
 use Rattle.common.specs.Items.{placeOf, stateBy}
 use Rattle.common.specs.Scanning.{Fields, Scanner, moved, probed, fresh, at, first, state}
 use Rattle.common.specs.ScanningLaws.{Lawful, turn-adv}
-use Rattle.common.specs.Sets.{acceptedFrom, accepted, padded, probe}
+use Rattle.common.specs.Sets.{acceptedFrom, accepted, padded, probe, asFlag}
 use Rattle.fence.specs.declared.FenceIter.{FenceIter}
 use Rattle.fence.specs.Fence as fence
 use Rattle.fence.specs.Laws.{turn-adv as fence-adv}
@@ -30,7 +30,7 @@ use Rattle.block_marker.specs.MarkerRun.{lawful as marker-lawful}
 use Rattle.block_numbered.specs.declared.BlockNumberedIter.{BlockNumberedIter}
 use Rattle.block_numbered.specs.Numbered as numbered
 use Rattle.block_numbered.specs.NumberedRun.{lawful as numbered-lawful}
-use Rattle.cells.specs.Bytes.{four, cells, fourfold, asFlag, within, readable}
+use Rattle.cells.specs.Bytes.{four, cells, fourfold, within, readable}
 use Rattle.cells.specs.ByteLaws.{length-four}
 use Rattle.cells.specs.BackLaws.{Narrow, cells-four, reply-served}
 use Rattle.cells.specs.CellLaws.{within-at}

@@ -4,12 +4,11 @@ use mathlib.Core.List.{List, [], _∷_, _++_}
 use Prim.Native.Nat.{ℕ}
 use Rattle.search.specs.Promise.{Gives}
 use Rattle.common.specs.Refusals.{given}
-use Rattle.common.specs.Sets.{setOf, probe}
+use Rattle.common.specs.Sets.{setOf, probe, asFlag}
 use Rattle.common.specs.declared.sets.Probe.{Probe}
 use Rattle.rules.specs.Columns.{searchBytes}
 use Rattle.rules.specs.declared.search_bytes.SearchBytes.{SearchBytes}
 use mathlib.Core.Bool.{Bool}
-use Rattle.cells.specs.Bytes.{asFlag}
 use Rattle.cells.specs.Reply.{Replied}
 use Rattle.panel.specs.Leaves.{probeValues, probeAnswer, searchValues, searchAnswer}
 

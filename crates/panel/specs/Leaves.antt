@@ -3,11 +3,10 @@
 use mathlib.Core.List.{List, _∷_}
 use Prim.Native.Nat.{ℕ}
 use Rattle.common.specs.Refusals.{Outcome, given}
-use Rattle.common.specs.Sets.{setOf, probe}
+use Rattle.common.specs.Sets.{setOf, probe, asFlag}
 use Rattle.common.specs.declared.sets.Probe.{Probe}
 use Rattle.rules.specs.Columns.{searchBytes}
 use Rattle.rules.specs.declared.search_bytes.SearchBytes.{SearchBytes}
-use Rattle.cells.specs.Bytes.{asFlag}
 
 -- a probe's values: the flag, the count, and the needles
 abbrev pub probeValues : Probe → List ℕ

@@ -6,8 +6,10 @@ use mathlib.Core.List.{List, [], _∷_}
 use Prim.Native.Nat.{ℕ}
 use lib.Dec.{eqb}
 use lib.ListN.{getD}
+use Rattle.common.specs.Sets.{asFlag}
+use Rattle.common.specs.Items.{unlessRefused}
 use Rattle.common.specs.Entry.{flatten}
-use Rattle.common.specs.Refusals.{Outcome, refuse, leaves, tooLong}
+use Rattle.common.specs.Refusals.{Outcome, leaves}
 use Rattle.common.specs.Scanning as scanning
 use Rattle.common.specs.Scanning.{Fields, Scanner}
 use Rattle.fence.specs.declared.FenceIter.{FenceIter}
@@ -16,7 +18,7 @@ use Rattle.block_marker.specs.declared.BlockMarkerIter.{BlockMarkerIter}
 use Rattle.block_marker.specs.Marker as marker
 use Rattle.block_numbered.specs.declared.BlockNumberedIter.{BlockNumberedIter}
 use Rattle.block_numbered.specs.Numbered as numbered
-use Rattle.cells.specs.Bytes.{four, cells, fourfold, asFlag, readable}
+use Rattle.cells.specs.Bytes.{four, cells, fourfold, readable}
 use Rattle.cells.specs.Reply.{fitted, Replied}
 
 -- ---- `new`: it writes the cells of a fresh state
@@ -30,7 +32,7 @@ pub record StateRuns : Type 0 where
   pub state : List ℕ
   pub answer : List ℕ
 
--- "on success writes the next state back and the answer"
+-- a reply, and the state's run, over which success writes the next state
 pub record Moved (o : Outcome) (next : List ℕ) (before after : StateRuns) (r : ℕ) : Type 0 where
   pub reply : Replied o (before .answer) (after .answer) r
   pub left : after .state ≡ leaves (fitted o (before .answer)) (before .state) (flatten four next)
@@ -46,7 +48,7 @@ pub record Stepper (G : Type 0) : Type 0 where
 
 -- a step's answer over a state's run: "For a scanner: 1, 2."
 unfoldable pub stepAnswer : {G : Type 0} → Stepper G → List ℕ → StateRuns → Outcome
-stepAnswer c s before = refuse 1 (tooLong s) (refuse 2 (not (readable (c .limits) (before .state))) (c .answer (c .read (cells (before .state))) s))
+stepAnswer c s before = unlessRefused s (not (readable (c .limits) (before .state))) (c .answer (c .read (cells (before .state))) s)
 
 -- the promise of a step
 abbrev pub Stepped : {G : Type 0} → Stepper G → List ℕ → StateRuns → StateRuns → ℕ → Type 0

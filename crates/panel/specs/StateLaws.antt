@@ -12,13 +12,13 @@ use Rattle.common.specs.Entry.{flatten}
 use Rattle.common.specs.EntryLaws.{put-over}
 use Rattle.common.specs.Refusals.{Outcome, given, refused, numberOf}
 use Rattle.common.specs.RefusalLaws.{number-some}
-use Rattle.common.specs.Sets.{Index, setOf}
+use Rattle.common.specs.Sets.{Index, setOf, asFlag}
 use Rattle.common.specs.declared.refusal.Refusal.{Refusal}
 use Rattle.block_marker.specs.declared.BlockMarkerIter.{BlockMarkerIter}
 use Rattle.block_marker.specs.Marker as marker
 use Rattle.block_numbered.specs.declared.BlockNumberedIter.{BlockNumberedIter}
 use Rattle.block_numbered.specs.Numbered as numbered
-use Rattle.cells.specs.Bytes.{four, cells, fourfold, asFlag, readable}
+use Rattle.cells.specs.Bytes.{four, cells, fourfold, readable}
 use Rattle.cells.specs.Reply.{LaidIf, fitted, Replied}
 use Rattle.panel.specs.State.{Made, StateRuns, Moved, Stepper, stepAnswer, Stepped, fenceLimits, fenceFrom, itemLimits, markerCells, markerFrom, numberedCells, numberedFrom, itemCells, itemFields, itemRead}
 use Rattle.cells.specs.ByteLaws.{length-four}

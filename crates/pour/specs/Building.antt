@@ -2,13 +2,14 @@
 -- The page: "For building: 1, 6, 3." and "each number of a list is four bytes, low byte first."
 use mathlib.Core.List.{List}
 use Prim.Native.Nat.{ℕ}
+use Rattle.region.specs.Regions.{builtBy}
 use Rattle.common.specs.Entry.{flatten}
 use Rattle.common.specs.declared.grammar.Grammar.{Grammar}
 use Rattle.region.specs.Region.{Caused, rowOf}
 use Rattle.rules.specs.Columns.{Columns}
 use Rattle.cells.specs.ByteRules.{ColumnRuns, RuleRuns, unevenColumns, unevenRules, columnsIn, ruleColumnsIn}
 use Rattle.cells.specs.Bytes.{four, rowBytes}
-use Rattle.cells.specs.Poured.{ListRuns, PouredAs, BuiltAs, builtBy}
+use Rattle.cells.specs.Poured.{ListRuns, PouredAs, BuiltAs}
 
 -- a region's bytes: its start, and its exclusive end
 abbrev pub regionBytes : Caused → List ℕ
@@ -22,6 +23,6 @@ PouredBy g c s before after r = PouredAs regionBytes rowBytes (builtBy g c s) be
 abbrev pub BuiltBytes : Grammar → ColumnRuns → List ℕ → ListRuns → ListRuns → ℕ → Type 0
 BuiltBytes g c s before after r = BuiltAs regionBytes rowBytes (unevenColumns c) (builtBy g (columnsIn c) s) s before after r
 
--- by fence rules of two bytes each: "an odd length is 6"
+-- by fence rules of two bytes each
 abbrev pub BuiltRules : Grammar → RuleRuns → List ℕ → ListRuns → ListRuns → ℕ → Type 0
 BuiltRules g c s before after r = BuiltAs regionBytes rowBytes (unevenRules c) (builtBy g (ruleColumnsIn c) s) s before after r

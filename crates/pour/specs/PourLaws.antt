@@ -14,7 +14,7 @@ use Rattle.lines.specs.Fences.{fenceTable}
 use Rattle.common.specs.declared.grammar.Grammar.{Grammar}
 use Rattle.region.specs.Region.{Caused}
 use Rattle.rules.specs.Grammar.{Gram}
-use Rattle.region.specs.Regions.{regions}
+use Rattle.region.specs.Regions.{regions, builtBy}
 use Rattle.common.specs.Lists.{RowPut}
 use Rattle.rules.specs.Columns.{alphabetOf}
 use Rattle.rules.specs.Rows.{gramBy, Folded}
@@ -27,7 +27,7 @@ use Rattle.rules.specs.declared.search_bytes.Alphabet.{Alphabet}
 use Rattle.rules.specs.declared.records.Gathered.{Gathered}
 use Rattle.cells.specs.Bytes.{four, cells, rowBytes}
 use Rattle.cells.specs.Reply.{LaidIf, Replied, fitted}
-use Rattle.cells.specs.Poured.{ListRuns, PouredAs, builtBy}
+use Rattle.cells.specs.Poured.{ListRuns, PouredAs}
 use Rattle.pour.specs.Building.{regionBytes, PouredBy}
 use Rattle.cells.specs.ByteRules.{inlineIn, InlineRuns, ColumnRuns, RuleRuns, columnsIn, fenceRulesOf, ruleColumnsIn}
 use Rattle.cells.specs.ReplyLaws.{laid-there}

@@ -15,6 +15,8 @@ use Rattle.lines.specs.declared.fence_tests.Hit.{Hit}
 use Rattle.lines.specs.declared.fence_tests.Hit.the-variants.{At, End}
 use Rattle.region.specs.Region.{Caused, caused, Region, Origin, retag}
 use Rattle.rules.specs.Grammar.{Rule, plain, sym, asym, Gram}
+use Rattle.rules.specs.Columns.{Columns, gramOf}
+use Rattle.common.specs.declared.grammar.Grammar.{Grammar}
 use Rattle.region.specs.declared.Cause.{Cause}
 use Rattle.region.specs.declared.Cause.the-variants.{Fence, Symmetric, Asymmetric}
 
@@ -111,3 +113,7 @@ regions g s = regionsFrom g s 0
 -- the same, with what f says of the rules
 abbrev pub tagged : {T : Type 0} → (Origin → T) → Gram → List ℕ → List (Region T)
 tagged f g s = map (retag f) (regions g s)
+
+-- the regions that columns build
+abbrev pub builtBy : Grammar → Columns → List ℕ → List Caused
+builtBy g c s = regions (gramOf g c) s

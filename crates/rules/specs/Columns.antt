@@ -64,8 +64,11 @@ unfoldable pub searched : Columns → List ℕ
 searched c = gainedOf (c .fenceBytes) (c .inline .symBytes) (c .inline .openers)
 
 -- ---- the same as an array of eleven and a count
+abbrev pub asBytes : List ℕ → SearchBytes
+asBytes l = record { bytes = padded 11 l; count = length l }
+
 abbrev pub noBytes : SearchBytes
-noBytes = record { bytes = padded 11 []; count = 0 }
+noBytes = asBytes []
 
 -- one byte more, also for a record made by hand
 unfoldable pub withByte : SearchBytes → ℕ → SearchBytes
@@ -74,9 +77,6 @@ withByte w b = cond (leb 11 (w .count) || oneOf (take (w .count) (w .bytes)) b) 
 unfoldable pub gathered : SearchBytes → List ℕ → SearchBytes
 gathered w [] = w
 gathered w (b ∷ bs) = gathered (withByte w b) bs
-
-abbrev pub asBytes : List ℕ → SearchBytes
-asBytes l = record { bytes = padded 11 l; count = length l }
 
 abbrev pub searchBytes : List ℕ → List ℕ → List ℕ → SearchBytes
 searchBytes fences symmetric openers = asBytes (gainedOf fences symmetric openers)

@@ -6,9 +6,9 @@ use mathlib.Core.Bool.{Bool, true, false, _||_}
 use mathlib.Core.List.{List, [], _∷_}
 use Prim.Native.Nat.{ℕ}
 use lib.ListN.{length}
-use Rattle.common.specs.Entry.{flatten, rows, over, wide}
-use Rattle.common.specs.Lists.{filledAnswer}
-use Rattle.common.specs.Refusals.{Outcome, refuse, leaves, tooLong}
+use Rattle.common.specs.Entry.{flatten, rows, wide}
+use Rattle.common.specs.Lists.{filledAnswer, filledBy}
+use Rattle.common.specs.Refusals.{Outcome, refuse, tooLong}
 use Rattle.common.specs.declared.grammar.Grammar.{Grammar}
 use Rattle.feed.specs.Items.{markItems, numberedItems, merge, testedPlace}
 use Rattle.cover.specs.Cursor.{covers}
@@ -44,7 +44,7 @@ sheetAnswer g markers delims l n s out =
 -- the run that is left; a refusal changes nothing
 unfoldable pub sheetList : Grammar → List Bool → List Bool → List ℕ → ℕ → List ℕ → List ℕ → List ℕ
 sheetList g markers delims l n s out =
-    leaves (sheetAnswer g markers delims l n s out) out (over (flatten five (sheetOf g markers delims l n s)) out)
+    filledBy (sheetAnswer g markers delims l n s out) (flatten five (sheetOf g markers delims l n s)) out
 
 -- the promise of a work sheet: its answer, and the run that it leaves
 pub record Sheeted (g : Grammar) (markers delims : List Bool) (l : List ℕ) (n : ℕ) (s out out′ : List ℕ) (o : Outcome) : Type 0 where

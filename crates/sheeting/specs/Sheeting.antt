@@ -10,12 +10,12 @@ use Rattle.common.specs.Sets.{setOf}
 use Rattle.common.specs.declared.grammar.Grammar.{Grammar}
 use Rattle.region.specs.Region.{Caused, rowOf}
 use Rattle.rules.specs.Grammar.{Gram}
-use Rattle.region.specs.Regions.{regions}
+use Rattle.region.specs.Regions.{regions, builtBy}
 use Rattle.sheet.specs.Sheet.{five, sheetOf}
 use Rattle.sheet.specs.Parts.{left, Onward, Turned}
 use Rattle.feed.specs.declared.item.SheetItem.{SheetItem}
 use Rattle.cells.specs.Bytes.{four}
-use Rattle.cells.specs.Poured.{ListRuns, PouredAs, BuiltAs, builtBy}
+use Rattle.cells.specs.Poured.{ListRuns, PouredAs, BuiltAs}
 use Rattle.cells.specs.ByteRules.{ColumnRuns, unevenColumns, columnsIn}
 use Rattle.region.specs.MemoryLaws.{Sound}
 use Rattle.sheeting.specs.Hiding.{HidesFrom}

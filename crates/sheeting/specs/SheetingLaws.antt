@@ -15,7 +15,7 @@ use Rattle.common.specs.Lists.{RowPut, Wrote}
 use Rattle.common.specs.Sets.{setOf}
 use Rattle.common.specs.declared.grammar.Grammar.{Grammar}
 use Rattle.rules.specs.Grammar.{Gram}
-use Rattle.region.specs.Regions.{regions}
+use Rattle.region.specs.Regions.{regions, builtBy}
 use Rattle.lines.specs.Fences.{fenceTable}
 use Rattle.rules.specs.Columns.{alphabetOf, gramOf}
 use Rattle.rules.specs.Rows.{gramBy, Folded}
@@ -38,7 +38,7 @@ use Rattle.feed.specs.declared.Taken.{Taken}
 use Rattle.cells.specs.Bytes.{four, cells}
 use Rattle.cells.specs.Reply.{LaidIf, Replied}
 use Rattle.cells.specs.ReplyLaws.{laid-there}
-use Rattle.cells.specs.Poured.{ListRuns, builtBy}
+use Rattle.cells.specs.Poured.{ListRuns}
 use Rattle.cells.specs.ByteRules.{ColumnRuns, inlineIn, columnsIn}
 use Rattle.cells.specs.PouredLaws.{pour-full, pour-done}
 use Rattle.sheeting.specs.Hiding.{HidesFrom, PassedOn}

@@ -27,10 +27,9 @@ ghost use lib.Dec.{leb};
 ghost use lib.ListN.{length};
 ghost use Rattle.search.specs.Promise.{Gives};
 ghost use Rattle.common.specs.Sets.{setOf};
-ghost use Rattle.region.specs.Regions.{regions};
+ghost use Rattle.region.specs.Regions.{regions, builtBy};
 ghost use Rattle.common.specs.Lists.{RowPut, Wrote};
 ghost use Rattle.rules.specs.Rows.{gramBy};
-ghost use Rattle.cells.specs.Poured.{builtBy};
 ghost use Rattle.cells.specs.ByteRules.{columnsIn};
 ghost use Rattle.sheeting.specs.Sheeting.{itemBytes, leftBy, SieveReady, ReadyBy, SieveTurned, sheetWith, SheetPoured, SheetBytes};
 

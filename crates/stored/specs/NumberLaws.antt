@@ -5,6 +5,7 @@ use mathlib.Core.List.{List}
 use Prim.Native.Nat.{ℕ, _+_, _≤_, _<_}
 use lib.ListN.{length, set}
 use borrow.Author.Tests.{le-leb, lt-leb}
+use Rattle.common.specs.Sets.{asFlag}
 use Rattle.search.specs.Promise.{Gives}
 use Rattle.common.specs.Refusals.{numberOf}
 use Rattle.common.specs.declared.refusal.Refusal.{Refusal}
@@ -13,7 +14,7 @@ use Rattle.common.specs.declared.refusal.Found.the-variants.{At, Nothing, Refus
 use Rattle.stored.specs.Fold.{fold}
 use Rattle.stored.specs.FoldLaws.{Folds, folds-all}
 use Rattle.stored.specs.Sums.{clipped, fedAnswer}
-use Rattle.stored.specs.Numbers.{withNumber, saidList, bit, saidValue, saidRefusal, saidFound, upToRefusal}
+use Rattle.stored.specs.Numbers.{withNumber, saidList, saidValue, saidRefusal, saidFound, upToRefusal}
 use Rattle.stored.specs.declared.sums.Sums.{Sums}
 use Rattle.stored.specs.declared.numbers.Numbers.{Numbers}
 
@@ -28,10 +29,10 @@ module _ (n : Numbers) (x : ℕ) (s : Sums) (g : Gives (fedAnswer (n .sums) x (n
   said-kept h = simp (lt-leb 128 (n .count) h, g .answer)
 
 module _ (n : Numbers) (on : Bool) (r : Numbers) where
-  pub flag-on : on ≡ true → Gives (withNumber n 1) r → r ≡ withNumber n (bit on)
+  pub flag-on : on ≡ true → Gives (withNumber n 1) r → r ≡ withNumber n (asFlag on)
   flag-on e g = g .answer ∙ rw e
 
-  pub flag-off : on ≡ false → Gives (withNumber n 0) r → r ≡ withNumber n (bit on)
+  pub flag-off : on ≡ false → Gives (withNumber n 0) r → r ≡ withNumber n (asFlag on)
   flag-off e g = g .answer ∙ rw e
 
 -- ---- a list: its length, and a loop over its numbers

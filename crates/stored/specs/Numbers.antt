@@ -1,7 +1,7 @@
 -- Runs of numbers, and what a list says of an answer. Assumes nothing.
 -- The head of the first list: "A text, and any other list, is its length and its numbers." and "An answer is 1 and the value, or 2 for None,
 -- or 0 where the Rust panicked."
-use mathlib.Core.Bool.{Bool, true, false, cond}
+use mathlib.Core.Bool.{true, false, cond}
 use mathlib.Core.List.{List}
 use Prim.Native.Nat.{ℕ, _+_}
 use lib.Dec.{leb}
@@ -30,10 +30,6 @@ withNumber n x = cond (leb 128 (n .count))
 -- "A text, and any other list, is its length and its numbers."
 unfoldable pub saidList : Numbers → List ℕ → Numbers
 saidList n l = fold withNumber (withNumber n (clipped (length l))) l
-
--- a flag is 1 or 0
-abbrev pub bit : Bool → ℕ
-bit on = cond on 1 0
 
 -- the numbers of a block's answer: "how many questions were asked, and two sums"
 unfoldable pub saidSums : Sums → Numbers

@@ -1,10 +1,11 @@
 // Runs of numbers: those of a line, and answers. They are handed on by value: that is proved far faster than a lent list.
 use crate::sums::Sums;
 use crate::sums::number_of;
+ghost use Rattle.common.specs.Sets.{asFlag};
 ghost use Rattle.search.specs.Promise.{Gives};
 ghost use Rattle.stored.specs.Fold.{fold};
 ghost use Rattle.stored.specs.Sums.{clipped};
-ghost use Rattle.stored.specs.Numbers.{afterSums, noNumbers, withNumber, saidList, bit, saidSums, entriesBegun, entriesEnded};
+ghost use Rattle.stored.specs.Numbers.{afterSums, noNumbers, withNumber, saidList, saidSums, entriesBegun, entriesEnded};
 
 // The most numbers that a line has.
 pub const MOST: usize = 128;
@@ -83,7 +84,7 @@ impl Numbers {
     }
 
     pub fn flag(self, on: bool) -> Self
-        ensures { λ r. ⌜ Gives (withNumber self (bit on)) r ⌝ }
+        ensures { λ r. ⌜ Gives (withNumber self (asFlag on)) r ⌝ }
     {
         if on {
             return self.and(1);
