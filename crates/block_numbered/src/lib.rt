@@ -76,9 +76,9 @@ enum NumberedFirst {
 }
 
 // Digits that were read: their number, and where they end.
-struct DigitRun {
-    number: u32,
-    end: usize,
+pub struct DigitRun {
+    pub number: u32,
+    pub end: usize,
 }
 
 // What a digit counts.
@@ -130,7 +130,7 @@ fn digits_before(src: &[u8], p: usize) -> usize
 }
 
 // The digits of a line from `from` on, nine at the most.
-fn read_digits(line: &[u8], from: usize) -> DigitRun
+pub fn read_digits(line: &[u8], from: usize) -> DigitRun
     ensures { λ r. ⌜ Gives (digitsAt from (readDigits (drop from (now (line .entry))))) r ⌝ }
 {
     let mut i = from;

@@ -41,7 +41,11 @@ apart b u = by (decide (eqb b 45)) (decide (eqb b 42)) (decide (eqb b 43))
     by (inr x) (inr y) (inl z) = let e : b ≡ 43 = eqb-true b 43 z in rw e refl
     by (inr x) (inr y) (inr z) = absurd (clash u (rw (x, y, z) refl))
 
--- no digit is a delimiter
+-- a digit is neither
+pub digit-marker : (b : ℕ) → digit b ≡ true → isMarker b ≡ false
+unfolding oneOf
+digit-marker b e = let low = digit-bounds b e .0 in rw (ne-eqb b 45 (λ z. omega arith), ne-eqb b 42 (λ z. omega arith), ne-eqb b 43 (λ z. omega arith))
+
 pub digit-delimiter : (b : ℕ) → digit b ≡ true → isDelimiter b ≡ false
 unfolding oneOf
 digit-delimiter b e = let low = digit-bounds b e .0 in rw (ne-eqb b 46 (λ z. omega arith), ne-eqb b 41 (λ z. omega arith))
@@ -64,6 +68,15 @@ module _ (b : ℕ) where
       by false true z h = refl
       by false false true h = refl
       by false false false h = refl
+
+  pub class-digit : eqb (classOf b) 4 ≡ digit b
+  class-digit = by (isMarker b) (isDelimiter b) (digit b) (digit-marker b) (digit-delimiter b)
+    where
+      by : (m d z : Bool) → (z ≡ true → m ≡ false) → (z ≡ true → d ≡ false) → eqb (cond m 1 (cond d 2 (cond z 4 0))) 4 ≡ z
+      by m d true h i = rw (h refl, i refl)
+      by true d false h i = refl
+      by false true false h i = refl
+      by false false false h i = refl
 
 -- ---- the sets of two classes are those of the house's bytes
 pub marker-set : (set : List Bool) → Gives (classSet 1) set → set ≡ houseMarkers

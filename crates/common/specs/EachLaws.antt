@@ -1,6 +1,6 @@
 -- Laws of what all of a list have. Assumes nothing.
 use mathlib.Core.List.{List, [], _∷_, _++_}
-use Prim.Native.Nat.{ℕ, zero, suc, _+_, _<_}
+use Prim.Native.Nat.{ℕ, zero, suc, _+_, _≤_, _<_}
 use native.Mathlib.Omega.{arith}
 use lib.ListN.{getD, set, take, drop, replicate}
 use Rattle.common.specs.Entry.{putAt}
@@ -12,6 +12,18 @@ module _ {A : Type 0} (P : A → Type 0) where
   pub each-append : (a b : List A) → Each P a → Each P b → Each P (a ++ b)
   each-append [] b v w = w
   each-append (x ∷ a) b v w = (v .0, each-append a b (v .1) w)
+
+  pub each-left : (a b : List A) → Each P (a ++ b) → Each P a
+  each-left [] b w = tt
+  each-left (x ∷ a) b w = (w .0, each-left a b (w .1))
+
+  pub each-right : (a b : List A) → Each P (a ++ b) → Each P b
+  each-right [] b w = w
+  each-right (x ∷ a) b w = each-right a b (w .1)
+
+  pub each-all : ((x : A) → P x) → (l : List A) → Each P l
+  each-all f [] = tt
+  each-all f (x ∷ l) = (f x, each-all f l)
 
   pub each-getD : (l : List A) (d : A) → Each P l → P d → (i : ℕ) → P (getD l i d)
   each-getD [] d v h i = h
@@ -46,10 +58,10 @@ module _ {A : Type 0} (P : A → Type 0) where
   each-take (suc n) [] v = tt
   each-take (suc n) (x ∷ l) v = (v .0, each-take n l (v .1))
 
-  pub each-gather : (at : ℕ → List A) (n a : ℕ) → ((k : ℕ) → k < a + n → Each P (at k)) → Each P (gather at n a)
+  pub each-gather : (at : ℕ → List A) (n a : ℕ) → ((k : ℕ) → a ≤ k → k < a + n → Each P (at k)) → Each P (gather at n a)
   unfolding gather
   each-gather at zero a w = tt
-  each-gather at (suc n) a w = each-append (at a) (gather at n (suc a)) (w a (omega arith)) (each-gather at n (suc a) (λ k h. w k (omega arith)))
+  each-gather at (suc n) a w = each-append (at a) (gather at n (suc a)) (w a (omega arith) (omega arith)) (each-gather at n (suc a) (λ k l h. w k (omega arith) (omega arith)))
 
 pub each-as : {A : Type 0} (P Q : A → Type 0) → ((a : A) → P a → Q a) → (l : List A) → Each P l → Each Q l
 each-as P Q f [] w = tt

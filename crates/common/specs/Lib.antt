@@ -19,5 +19,7 @@ pub mod Grammars
 pub mod Later
 pub mod ItemLaws
 pub mod LaterLaws
+pub mod LineStarts
+pub mod LineStartLaws
 pub mod Scanning
 pub mod ScanningLaws

@@ -43,6 +43,8 @@ impl Grammar {
 
     pub const DELIMITERS: u8 = 2;
 
+    pub const DIGITS: u8 = 4;
+
     // How many distinct bytes a builder searches for at the most.
     pub const MAX_NEEDLES: usize = 11;
 

@@ -46,7 +46,7 @@ pub fn class(b: u8) -> u8
     CLASSES[b as usize]
 }
 
-// The set of the bytes of a house class: `Grammar::MARKERS`, `Grammar::DELIMITERS`, or 4, the digits.
+// The set of the bytes of a house class: `Grammar::MARKERS`, `Grammar::DELIMITERS` or `Grammar::DIGITS`.
 pub fn class_set(wanted: u8) -> [bool; 256]
     ensures { λ r. ⌜ Gives (classSet wanted) r ⌝ }
 {

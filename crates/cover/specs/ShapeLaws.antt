@@ -1,5 +1,5 @@
 -- Laws of a list's shape: the ways out of the functions that test it, and what the test tells. Assumes nothing.
-use mathlib.Core.Path.{_≡_}
+use mathlib.Core.Path.{_≡_, sym}
 use mathlib.Core.Bool.{Bool, true, false, not}
 use mathlib.Core.List.{List}
 use Prim.Native.Nat.{ℕ, _+_, _*_, _/_, _≤_, _<_}
@@ -10,7 +10,7 @@ use Rattle.search.specs.SearchLaws.{neither}
 use Rattle.search.specs.Promise.{Gives}
 use Rattle.common.specs.Entry.{rows, room, shaped, Shaped, wide, overfull}
 use Rattle.common.specs.EntryLaws.{Shaping, shaped-holds, shaping-again, shaping-early, shaping-empty, shaping-long}
-use Rattle.cover.specs.Shape.{misshapen}
+use Rattle.cover.specs.Shape.{misshapen, regionAt}
 
 -- ---- the loop that tests: a and b are the numbers that were read of row k
 module _ {n len from k low : ℕ} {l : List ℕ} (i : Shaping wide l n len from k low) (h : k < n) (a b : ℕ) (ga : Gives (getD l (k * wide) 0) a) (gb : Gives (getD l (k * wide + 1) 0) b) where
@@ -39,6 +39,16 @@ module _ (l : List ℕ) (n len : ℕ) (h : n ≤ length l / wide) (y : Bool) whe
   pub misshapen-yes : y ≡ false → Gives (shaped 0 len (rows wide n l)) y → true ≡ misshapen l n len
   unfolding misshapen
   misshapen-yes e g = rw (le-ltb (length l / wide) n h, ← (g .answer), e)
+
+-- ---- a region of a list
+module _ (l : List ℕ) (k : ℕ) where
+  pub region-there : k < length l / wide → Gives (regionAt l k) (record { start = getD l (k * wide) 0; end = getD l (k * wide + 1) 0 })
+  unfolding regionAt
+  region-there h = record { answer = sym (rw (lt-ltb k (length l / wide) h)) }
+
+  pub region-none : length l / wide ≤ k → Gives (regionAt l k) (record { start = 0; end = 0 })
+  unfolding regionAt
+  region-none h = record { answer = sym (rw (le-ltb k (length l / wide) h)) }
 
 -- ---- a list that is not misshapen
 module _ (l : List ℕ) (n len : ℕ) (e : misshapen l n len ≡ false) where

@@ -1,11 +1,12 @@
-// The shape of a list: what an amendment and a work sheet ask of the regions that they are given.
+// The shape of a list: what an amendment and a work sheet ask of the regions that they are given; and a region of it.
 use common::list::END;
 use common::list::WIDE;
+use common::span::Span;
 ghost use Prim.Native.Nat.{_*_, _≤_};
 ghost use lib.ListN.{length, getD};
 ghost use Rattle.search.specs.Promise.{Gives};
 ghost use Rattle.common.specs.Entry.{rows, shaped, wide};
-ghost use Rattle.cover.specs.Shape.{misshapen};
+ghost use Rattle.cover.specs.Shape.{misshapen, regionAt};
 
 // The number at place `i`, else 0.
 pub fn number(list: &[u32], i: usize) -> usize
@@ -53,4 +54,17 @@ pub fn is_misshapen(list: &[u32], count: usize, len: usize) -> bool
         return false;
     }
     true
+}
+
+// Region `k` of a list; a list that has no such row gives one of no bytes.
+pub fn region_at(list: &[u32], k: usize) -> Span
+    ensures { λ r. ⌜ Gives (regionAt (now (list .entry)) k) r ⌝ }
+{
+    if k < list.len() / WIDE {
+        return Span {
+            start: list[k * WIDE],
+            end: list[k * WIDE + END],
+        };
+    }
+    Span { start: 0, end: 0 }
 }

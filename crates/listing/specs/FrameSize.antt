@@ -72,7 +72,7 @@ module _ (m : Framing) (s : List ℕ) where
   frames-inside =
       let o = opened m s (length s) in
       rw (frames-rest m s)
-      (each-append (Inside (length s)) (between (closedAt m s) 0 (length s)) (deeper o 0 (length s)) (each-gather (Inside (length s)) (closedAt m s) (length s - 0) 0 (λ k h. closed-inside k (omega arith)))
+      (each-append (Inside (length s)) (between (closedAt m s) 0 (length s)) (deeper o 0 (length s)) (each-gather (Inside (length s)) (closedAt m s) (length s - 0) 0 (λ k l h. closed-inside k (omega arith)))
       (closing-inside (length s) o (length s) 0 (length o - 0) (opened-inside (length s) (omega arith)) (omega arith)))
 
   -- ---- and are few: from a line's start on, no more than are open there and than bytes are left

@@ -27,11 +27,11 @@ use Rattle.sheet.specs.declared.item.Seen.{Seen}
 use Rattle.sheet.specs.declared.item.Seen.the-variants as seen
 
 -- ---- an item and those behind it
-outside-hidden : (regions : List (List ℕ)) (i : SheetItem) (l : List SheetItem) → inside regions (testedPlace i) ≡ true → outside regions (i ∷ l) ≡ outside regions l
+pub outside-hidden : (regions : List (List ℕ)) (i : SheetItem) (l : List SheetItem) → inside regions (testedPlace i) ≡ true → outside regions (i ∷ l) ≡ outside regions l
 unfolding outside
 outside-hidden regions i l e = rw (e, outside)
 
-outside-shown : (regions : List (List ℕ)) (i : SheetItem) (l : List SheetItem) → inside regions (testedPlace i) ≡ false → outside regions (i ∷ l) ≡ i ∷ outside regions l
+pub outside-shown : (regions : List (List ℕ)) (i : SheetItem) (l : List SheetItem) → inside regions (testedPlace i) ≡ false → outside regions (i ∷ l) ≡ i ∷ outside regions l
 unfolding outside
 outside-shown regions i l e = rw (e, outside)
 
