@@ -4,8 +4,8 @@ use borrow.Author.Needs.{needs}
 use Rattle.panel.proofs.covered.rack_covering_end.Statement.{statement}
 use Rattle.panel.proofs.covered.rack_covering_end.Tie as tie
 
-query-requires : tie.Need-query-requires
-query-requires c κs = search needs
+covering-end-requires : tie.Need-covering-end-requires
+covering-end-requires c κs = search needs
 
 enum-known-found : tie.Need-enum-known-found
 enum-known-found c = search needs
@@ -50,7 +50,7 @@ pub rack-covering-end-spec : {M : Type 1} → statement M
 rack-covering-end-spec =
     tie.close
     (tie.spec
-    query-requires
+    covering-end-requires
     enum-known-found
     slice-aggregate-values
     values-requires
