@@ -22,9 +22,11 @@ static const uint8_t SYMMETRIC[] = {'`'}, TIMES[] = {1, 0, 0, 0};
 static const uint8_t OPENERS[] = {'<'}, CLOSERS[] = {'>'}, COUNTS[] = {1, 0, 0, 0};
 static const uint8_t MARKERS[] = {'-', '*', '+'}, DELIMITERS[] = {'.', ')'};
 
-/* Sizes in bytes: of a number, a region, an item of the sheet, an answer of one value. And the kind of a numbered item. */
-enum { NUMBER = 4, REGION = 8, ITEM = 20, ANSWER = 8 };
+/* Sizes in bytes: of a number, a region, an item of the sheet, an answer of one value, an explanation. And the kind of a numbered item. */
+enum { NUMBER = 4, REGION = 8, ITEM = 20, ANSWER = 8, EXPLANATION = 20 };
 enum { NUMBERED = 1 };
+/* The reasons of an explanation. */
+enum { ON_SHEET, NO_LINE, NO_LEAD, TEN_DIGITS, NO_DELIMITER, NO_BLANK, HIDDEN };
 
 struct note {
     const char *name;
@@ -40,7 +42,8 @@ struct list {
 };
 
 struct options {
-    bool regions, raw;
+    bool regions, raw, why, one; /* --why of one line */
+    uint64_t line;
     const char *name;
 };
 
@@ -65,6 +68,12 @@ _Noreturn static void refused(const char *name, uint32_t refusal)
 static uint32_t number_at(const uint8_t *at)
 {
     return (uint32_t)at[0] | (uint32_t)at[1] << 8 | (uint32_t)at[2] << 16 | (uint32_t)at[3] << 24;
+}
+
+static void put_number(uint8_t *at, uint32_t n)
+{
+    for (int i = 0; i < NUMBER; i++)
+        at[i] = (uint8_t)(n >> 8 * i);
 }
 
 /* ---- the note */
@@ -207,9 +216,153 @@ static void print_regions(const struct note *note, bool raw)
         print_all(note, &regions, REGION, print_region);
 }
 
+/* ---- why a line isn't on the sheet */
+
+/* A reason, and of a line that is hidden the region: its number, start and end. */
+struct reason {
+    uint32_t why, region, start, end;
+};
+
+static struct reason explain(const struct note *note, const struct list *regions, uint64_t line)
+{
+    uint8_t answer[EXPLANATION];
+    uint32_t refusal = rack_explain(note->at, note->len, regions->at, regions->len, regions->count, line, answer, sizeof answer);
+    if (refusal)
+        refused(note->name, refusal);
+    struct reason reason = {.why = number_at(answer + NUMBER)};
+    if (reason.why == HIDDEN) {
+        reason.region = number_at(answer + 2 * NUMBER);
+        reason.start = number_at(answer + 3 * NUMBER);
+        reason.end = number_at(answer + 4 * NUMBER);
+    }
+    return reason;
+}
+
+/* Where the line that a place stands in begins, and where it ends. */
+static size_t line_start(const struct note *note, size_t place)
+{
+    while (place && note->at[place - 1] != EOL)
+        place--;
+    return place;
+}
+
+static size_t line_end(const struct note *note, size_t place)
+{
+    const uint8_t *end = place < note->len ? memchr(note->at + place, EOL, note->len - place) : NULL;
+    return end ? (size_t)(end - note->at) : note->len;
+}
+
+/* The region that was told last, and its first and last line. */
+struct hider {
+    struct page page;
+    bool is_told;
+    uint32_t region;
+    uint64_t first, last;
+};
+
+/* A region that hides a line, by the line and the column of its first byte, both counted from 1, and that line quoted. */
+static void print_hider(struct hider *hider, struct reason reason)
+{
+    const struct note *note = hider->page.note;
+    size_t begins = line_start(note, reason.start);
+    if (!hider->is_told || hider->region != reason.region) {
+        hider->is_told = true;
+        hider->region = reason.region;
+        hider->first = line_at(&hider->page, reason.start);
+        hider->last = line_at(&hider->page, reason.end - 1);
+    }
+    printf("hidden by what begins at line %" PRIu64 ", column %zu", hider->first, reason.start - begins + 1);
+    if (hider->last > hider->first)
+        printf(" and ends on line %" PRIu64, hider->last);
+    fputs(": ", stdout);
+    print_content(note, (uint32_t)begins, (uint32_t)line_end(note, begins));
+}
+
+static void print_reason(struct hider *hider, uint64_t line, struct reason reason)
+{
+    static const char *const whys[] = {
+        "it is on the sheet",
+        "the note has no such line",
+        "no marker (- * +) and no number leads it",
+        "its number has ten digits or more",
+        "no full stop or closing bracket follows its number",
+        "no blank or tab follows its marker, full stop or bracket",
+    };
+    printf("%6" PRIu64 "  ", line);
+    if (reason.why == HIDDEN)
+        print_hider(hider, reason);
+    else
+        puts(whys[reason.why]);
+}
+
+/* Whether a line's first byte that is no blank is a marker or a digit. */
+static bool looks_like_item(const struct note *note, size_t at, size_t end)
+{
+    while (at < end && (note->at[at] == SEP || note->at[at] == TAB))
+        at++;
+    return at < end && (memchr(MARKERS, note->at[at], sizeof MARKERS) || (note->at[at] >= '0' && note->at[at] <= '9'));
+}
+
+/* Copies the regions that reach into a stretch, from number `first` on, as they lie in the stretch by itself. */
+static void copy_near(const struct list *regions, uint32_t first, size_t at, size_t end, struct list *near)
+{
+    near->count = 0;
+    for (uint32_t k = first; k < regions->count; k++) {
+        size_t from = number_at(regions->at + (size_t)k * REGION), to = number_at(regions->at + (size_t)k * REGION + NUMBER);
+        if (from >= end)
+            return;
+        uint8_t *row = near->at + (size_t)near->count++ * REGION;
+        put_number(row, (uint32_t)((from < at ? at : from) - at));
+        put_number(row + NUMBER, (uint32_t)((to < end ? to : end) - at));
+    }
+}
+
+/* The reason of each line that looks like an item and isn't on the sheet. A line's reason hangs on its own bytes, its line end among them,
+ * and on the regions that reach into them: so each line is explained by itself, and the note is walked once. */
+static void print_reasons(const struct note *note, const struct list *regions)
+{
+    struct hider hider = {.page = {note, 1, 0}};
+    struct list near = reserved(note, note->len / 2 + 1, REGION);
+    uint64_t line = 0;
+    uint32_t first = 0;
+    for (size_t at = 0, end; at < note->len; at = end + 1) {
+        line++;
+        end = line_end(note, at);
+        if (!looks_like_item(note, at, end))
+            continue;
+        while (first < regions->count && number_at(regions->at + (size_t)first * REGION + NUMBER) <= at)
+            first++;
+        size_t next = end < note->len ? end + 1 : end;
+        copy_near(regions, first, at, next, &near);
+        struct reason reason = explain(&(struct note){note->name, note->at + at, next - at}, &near, 1);
+        if (reason.why == ON_SHEET)
+            continue;
+        reason.region += first;
+        if (reason.why == HIDDEN) {
+            reason.start = number_at(regions->at + (size_t)reason.region * REGION);
+            reason.end = number_at(regions->at + (size_t)reason.region * REGION + NUMBER);
+        }
+        print_reason(&hider, line, reason);
+    }
+}
+
+static void print_why(const struct note *note, const struct options *options)
+{
+    struct list regions = build(note);
+    struct hider hider = {.page = {note, 1, 0}};
+    if (options->one)
+        print_reason(&hider, options->line, explain(note, &regions, options->line));
+    else
+        print_reasons(note, &regions);
+}
+
 static void print_note(const struct options *options)
 {
     struct note note = mapped(options->name);
+    if (options->why) {
+        print_why(&note, options);
+        return;
+    }
     struct list sheet = make_sheet(&note);
     if (options->regions)
         print_regions(&note, options->raw);
@@ -223,6 +376,7 @@ static void print_note(const struct options *options)
 
 static const char USAGE[] =
     "usage: rack [--regions] [--raw] NOTE\n"
+    "       rack --why [LINE] NOTE\n"
     "\n"
     "Prints the work sheet of a note: the items that stand in no fence and in no inline pair. Each has a line: its line\n"
     "number, its number or mark, its content.\n"
@@ -230,6 +384,8 @@ static const char USAGE[] =
     "  --regions  first the regions in which nothing is read\n"
     "  --raw      numbers alone, parted by tabs: start, end, kind (0 marker, 1 numbered), byte, number of an item; start and\n"
     "             end of a region. Places count bytes from 0\n"
+    "  --why      why a line, counted from 1, isn't on the sheet; without a number, why each line that begins like an item isn't.\n"
+    "             A note whose name is a number is written ./NUMBER\n"
     "  --help     this\n"
     "\n"
     "Exit status 2, with a line on standard error, where the note can't be read or is refused.\n";
@@ -254,6 +410,10 @@ static struct options parsed(int count, char **words)
             options.regions = true;
         } else if (!is_name && !strcmp(words[i], "--raw")) {
             options.raw = true;
+        } else if (!is_name && !strcmp(words[i], "--why")) {
+            options.why = true;
+            if (i + 1 < count && words[i + 1][0] && !words[i + 1][strspn(words[i + 1], "0123456789")])
+                options.one = true, options.line = strtoull(words[++i], NULL, 10);
         } else if (options.name || (!is_name && words[i][0] == '-')) {
             usage();
         } else {

@@ -13,7 +13,7 @@
  *   2  a place is past the text; or a state run is not of the scanner's length, a cell that is a byte's is over 255, a flag's over 1,
  *      or the state is none that the scanner takes
  *   3  too little room, in the list or in the answer run
- *   5  the list's stated count is over its room
+ *   5  the list's stated count is over its room; for an explanation also: its regions are unsorted, overlapping, empty or past the text
  *   6  a rule's columns differ in length
  */
 #ifndef RACK_H
@@ -129,6 +129,24 @@ uint32_t rack_sheet(const uint8_t *text, size_t text_len, uint8_t eol, uint8_t e
                     const uint8_t *counts, size_t counts_len,
                     const uint8_t *markers, size_t markers_len, const uint8_t *delims, size_t delims_len,
                     uint8_t *out, size_t out_len, uint8_t *answer, size_t answer_len);
+
+/* ---- explanations */
+
+/* Why a line, counted from 1, is not on the work sheet of a text by the house grammar (line end 10, separator 32, tab 9, markers - * +,
+ * delimiters . and closing bracket), given a list of `count` regions, eight bytes each, which need not be built. One value, the first of these
+ * that holds:
+ *
+ *   1  the line doesn't exist: line 1 always does, and a line end with a byte after it starts the next
+ *   2  no marker and no digit leads it
+ *   3  ten digits or more lead it
+ *   4  digits lead it, and no delimiter is next
+ *   5  no separator or tab is next to the marker or delimiter
+ *   6  it is hidden by a region; three values more: the region's number, from 0, its start and its end
+ *   0  it is on the sheet
+ *
+ * Refusals 1, 5, 3. */
+uint32_t rack_explain(const uint8_t *text, size_t text_len, const uint8_t *list, size_t list_len, uint32_t count, size_t line,
+                      uint8_t *answer, size_t answer_len);
 
 #ifdef __cplusplus
 }

@@ -163,18 +163,25 @@ static uint32_t put_query(const struct placed *list, uint32_t index, size_t plac
     return got.values[0];
 }
 
-static void ask_cover(const struct question *q, const struct text *text, size_t place, struct answer *a)
+bool regions_of(const struct question *q, const struct text *text, struct placed *regions, struct answer *a)
 {
     static struct rooms rooms;
     struct outcome got;
+    build(q, text, room_for(text), true, &got);
+    if (got.refusal)
+        refuse(a, got.refusal);
+    else
+        *regions = place_run(&rooms, copied(&got));
+    return !got.refusal;
+}
+
+static void ask_cover(const struct question *q, const struct text *text, size_t place, struct answer *a)
+{
+    struct placed regions;
     uint32_t index = 0;
     (void)place;
-    build(q, text, room_for(text), true, &got);
-    if (got.refusal) {
-        refuse(a, got.refusal);
+    if (!regions_of(q, text, &regions, a))
         return;
-    }
-    struct placed regions = place_run(&rooms, copied(&got));
     clear(a, ALL);
     begin(a, LIST, 2);
     for (size_t at = 0; at <= text->bytes.run.len; at++)

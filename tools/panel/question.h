@@ -43,7 +43,7 @@ struct question {
 };
 
 /* The forms of each group, ended by one without a name. */
-extern const struct form leaf_forms[], scanner_forms[], context_forms[], sheet_forms[];
+extern const struct form leaf_forms[], scanner_forms[], context_forms[], sheet_forms[], reason_forms[];
 
 /* The bytes of numbers, four each; every `columns`-th from `first` on. */
 struct placed column_of_numbers(struct numbers list, size_t first, size_t columns);
@@ -54,6 +54,9 @@ void read_symmetric(struct words *words, struct question *q);
 void read_asymmetric(struct words *words, struct question *q);
 /* The grammar bytes and all rules. */
 void read_grammar(struct words *words, struct question *q);
+
+/* The regions that a text has by a question's grammar, which stay until the next such call; or a refusal as the answer. */
+bool regions_of(const struct question *q, const struct text *text, struct placed *regions, struct answer *a);
 
 /* A call that reads this text first. */
 static inline struct call call_of(const struct question *q, const struct text *text)

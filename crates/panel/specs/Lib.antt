@@ -13,3 +13,4 @@ pub mod ContBackLaws
 pub mod RunLaws
 pub mod ContRunLaws
 pub mod ItemRunLaws
+pub mod ExplainedLaws

@@ -1,4 +1,4 @@
--- Laws of lists read back: what an entry built in bytes is what the cursor's entry reads. Assumes nothing.
+-- Laws of lists read back: what an entry built in bytes is what the cursor's and the explanation's entries read. Assumes nothing.
 -- The page: "each number of a list is four bytes, low byte first."
 use mathlib.Core.Path.{_≡_, refl, sym, ap, subst}
 use mathlib.Core.Bool.{Bool, true, false}
@@ -24,6 +24,7 @@ use Rattle.cells.specs.Reply.{Replied}
 use Rattle.cells.specs.Poured.{ListRuns, BuiltAs}
 use Rattle.pour.specs.Building.{regionBytes}
 use Rattle.pour.specs.BackLaws.{built-back}
+use Rattle.explain.specs.Reasons.{explainAnswer}
 use Rattle.panel.specs.Covered.{behind, covered}
 
 -- what building answers where it serves
@@ -57,3 +58,7 @@ module _ (g : Gram) (bad : Bool) (s : List ℕ) (before after : ListRuns) (w : B
       → covered (after .list) count index place ≡ behind (coverNext wide (over (flatten rowOf (regions g s)) (cells (before .list))) count index place) (coverAnswer wide (over (flatten rowOf (regions g s)) (cells (before .list))) count index place)
   unfolding covered
   built-covered count index place = ap (λ (l : List ℕ). behind (coverNext wide l count index place) (coverAnswer wide l count index place)) (built-back g bad s before after w)
+
+  -- and so the explanation's: the reason of a line is that by the regions which building leaves
+  pub built-explained : (count line : ℕ) → explainAnswer (cells (after .list)) count s line ≡ explainAnswer (over (flatten rowOf (regions g s)) (cells (before .list))) count s line
+  built-explained count line = ap (λ (l : List ℕ). explainAnswer l count s line) (built-back g bad s before after w)

@@ -2,6 +2,7 @@
 // returns 0, or the refusal's number, and writes its values to a lent answer run on success alone: how many there are, and these.
 mod cont_state; // the state of the scanner of frames
 mod covered; // the cursor
+mod explained; // why a line is not on the sheet
 mod leaves; // the leaves of common.rs, and the bytes searched for
 mod lists; // building, and the work sheet
 mod scanners; // the scanners

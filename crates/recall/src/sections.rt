@@ -1,11 +1,13 @@
 // The sections whose questions have a text: the forms of these, and which section asks what.
 use crate::covers;
+use crate::explains;
 use crate::page;
 use crate::regions;
 use crate::sheets;
 use stored::form::Form;
 use stored::form::Question;
 use stored::numbers::Numbers;
+use stored::texts::BEYOND;
 use stored::texts::FROM_START;
 use stored::texts::WHOLE;
 
@@ -25,6 +27,11 @@ pub(crate) fn form(section: u32, letter: u8) -> Form {
         8 => match letter {
             b'r' => Form::new(0, 3, 3, WHOLE).free(2),
             b'c' => Form::new(2, 5, 3, WHOLE).free(2),
+            _ => Form::unknown(),
+        },
+        10 => match letter {
+            b'w' => Form::new(1, 1, 1, BEYOND).free(0),
+            b'b' => Form::new(0, 0, 0, BEYOND),
             _ => Form::unknown(),
         },
         _ => Form::unknown(),
@@ -47,6 +54,7 @@ pub(crate) fn ask(
         6 => regions::ask(question, asked, bytes, text, reply),
         7 => covers::ask(question.letter, asked, question.list(asked, 0), reply),
         8 => sheets::ask(question, asked, bytes, text, reply),
+        10 => explains::ask(question, asked, text, place, reply),
         _ => reply,
     }
 }

@@ -125,7 +125,7 @@ pub fn question(name: &str, words: &mut Words) -> Result<Option<Question>, Strin
 }
 
 /// The grammar bytes and the rules.
-struct Grammar {
+pub struct Grammar {
     eol: u8,
     escape: u8,
     sep: u8,
@@ -136,7 +136,7 @@ struct Grammar {
 }
 
 impl Grammar {
-    fn read(words: &mut Words) -> Result<Self, String> {
+    pub fn read(words: &mut Words) -> Result<Self, String> {
         Ok(Self {
             eol: words.byte("eol")?,
             escape: words.byte("escape")?,
@@ -148,7 +148,7 @@ impl Grammar {
         })
     }
 
-    fn regions(&self, text: &[u8]) -> Vec<Span> {
+    pub fn regions(&self, text: &[u8]) -> Vec<Span> {
         let &Self {
             eol,
             escape,

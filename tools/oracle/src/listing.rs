@@ -12,11 +12,14 @@ use meon::engine::text_parser::standalone::fence::FenceIter;
 use meon::span::Span;
 
 // "line end 10, escape 92, separator 32, tab 9", "continuation `>`, nest 8"
-const EOL: u8 = 10;
+pub const EOL: u8 = 10;
 const ESCAPE: u8 = 92;
-const SEP: u8 = 32;
-const TAB: u8 = 9;
+pub const SEP: u8 = 32;
+pub const TAB: u8 = 9;
 const NEST: usize = 8;
+// "markers `- * +`; delimiters `. )`"
+pub const MARKERS: &[u8] = b"-*+";
+pub const DELIMITERS: &[u8] = b".)";
 // "more than 8,192 bytes, the program's own limit"
 const LIMIT: usize = 8192;
 
@@ -58,6 +61,10 @@ impl Item {
         ]
     }
 
+    pub fn content_start(&self) -> usize {
+        self.content.start as usize
+    }
+
     /// "their M or N fields"
     fn fields(&self) -> Vec<u64> {
         let mut fields = vec![self.content.start.into(), self.content.end.into(), self.byte.into()];
@@ -80,15 +87,24 @@ fn numbered(text: &[u8], [eol, sep, tab]: [u8; 3], accepted: &[u8]) -> Vec<Item>
         .collect()
 }
 
-/// "the marker and numbered items, both scanned from place 0, whose content start isn't inside a region, by
-/// rising content start, the marker item first where two are equal"
-pub fn sheet(text: &[u8], bounds: [u8; 3], marks: &[u8], delimiters: &[u8], regions: &[Span]) -> Vec<Item> {
+/// "the marker and numbered items, both scanned from place 0"
+pub fn items(text: &[u8], bounds: [u8; 3], marks: &[u8], delimiters: &[u8]) -> Vec<Item> {
     let mut items = markers(text, bounds, marks);
     items.extend(numbered(text, bounds, delimiters));
-    items.retain(|item| {
-        let place = item.content.start;
-        !regions.iter().any(|r| r.start <= place && place < r.end)
-    });
+    items
+}
+
+/// The region that an item's "content start" is inside of, by its index.
+pub fn hider(item: &Item, regions: &[Span]) -> Option<usize> {
+    let place = item.content.start;
+    regions.iter().position(|r| r.start <= place && place < r.end)
+}
+
+/// The items "whose content start isn't inside a region, by rising content start, the marker item first where two are
+/// equal"
+pub fn sheet(text: &[u8], bounds: [u8; 3], marks: &[u8], delimiters: &[u8], regions: &[Span]) -> Vec<Item> {
+    let mut items = items(text, bounds, marks, delimiters);
+    items.retain(|item| hider(item, regions).is_none());
     items.sort_by_key(|item| (item.content.start, item.kind));
     items
 }
@@ -102,8 +118,6 @@ fn listing(text: &[u8]) -> String {
     let (fences, sym, asym) = ([(b'`', 3), (b'~', 3)], [(b'`', 1)], [(b'<', b'>', 1)]);
     let context = ParseContext::build(text, EOL, ESCAPE, SEP, TAB, &fences, &sym, &asym, 0);
     let regions = context.spans();
-    // "markers `- * +`; delimiters `. )`"
-    let (marks, delimiters) = (b"-*+", b".)");
 
     let mut lines = String::new();
     let mut put = |letter: char, fields: Vec<u64>| {
@@ -121,8 +135,8 @@ fn listing(text: &[u8]) -> String {
     for s in ContIter::new(text, b'>', EOL, SEP, TAB, NEST) {
         put('C', ends(&s));
     }
-    markers(text, bounds, marks).iter().for_each(|i| put('M', i.fields()));
-    numbered(text, bounds, delimiters).iter().for_each(|i| put('N', i.fields()));
-    sheet(text, bounds, marks, delimiters, regions).iter().for_each(|i| put('W', i.fields()));
+    markers(text, bounds, MARKERS).iter().for_each(|i| put('M', i.fields()));
+    numbered(text, bounds, DELIMITERS).iter().for_each(|i| put('N', i.fields()));
+    sheet(text, bounds, MARKERS, DELIMITERS, regions).iter().for_each(|i| put('W', i.fields()));
     lines
 }

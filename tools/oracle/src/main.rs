@@ -9,6 +9,7 @@ mod context;
 mod leaves;
 mod listing;
 mod question;
+mod reasons;
 mod scanners;
 mod words;
 
@@ -80,6 +81,7 @@ fn find(name: &str, words: &mut Words) -> Result<Question, String> {
         scanners::question,
         context::question,
         listing::question,
+        reasons::question,
     ];
     for group in groups {
         if let Some(question) = group(name, words)? {
