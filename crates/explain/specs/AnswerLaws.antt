@@ -26,12 +26,12 @@ use Rattle.feed.specs.Items.{testedPlace}
 use Rattle.sheet.specs.Parts.{SortedRows, isAt}
 use Rattle.sheet.specs.ShowLaws.{hid}
 use Rattle.explain.specs.Reasons.{hiders, hiddenBy, why, lineLed, explainAnswer, reasonValues, toldExplained}
-use Rattle.explain.specs.Parts.{ledPlace, foundBy, reasonOf, lineAnswer}
-use Rattle.explain.specs.TrueLaws.{hiders-none, hiders-one, Shown, on-sheet, sheet-on, Hides, hidden-by, by-hidden, hidden-one}
+use Rattle.explain.specs.Parts.{ledPlace, reasonBy, reasonOf, lineAnswer}
+use Rattle.explain.specs.TrueLaws.{hiders-none, hiders-one, Shown, on-sheet, sheet-on, HidesLine, hidden-by, by-hidden, hidden-one}
 use Rattle.common.specs.declared.span.Span.{Span}
 use Rattle.feed.specs.declared.item.SheetItem.{SheetItem}
-use Rattle.explain.specs.declared.lines.Led.{Led}
-use Rattle.explain.specs.declared.lines.Led.the-variants as led
+use Rattle.explain.specs.declared.lines.Lead.{Lead}
+use Rattle.explain.specs.declared.lines.Lead.the-variants as led
 use Rattle.explain.specs.declared.lines.Lined.{Lined}
 use Rattle.explain.specs.declared.lines.Lined.the-variants as lined
 use Rattle.explain.specs.declared.Reason.{Reason}
@@ -106,17 +106,17 @@ module _ (l : List ℕ) (n place : ℕ) (o : SortedRows l n) (c : Cover) (q : St
   hidden-refused : (r : Refusal) → c .found ≡ found.Refused r → Gives (hiddenBy (hiders 0 place (rows wide n l))) (reasonValues reason.OnSheet)
   hidden-refused r f = hidden-not (ap isAt f)
 
-  hidden-told : (i : SheetItem) → testedPlace i ≡ place → (r : Span) → Gives (regionAt l (c .index)) r → why (rows wide n l) (led.Item i) ≡ reasonValues (foundBy (c .index) r (c .found))
+  hidden-told : (i : SheetItem) → testedPlace i ≡ place → (r : Span) → Gives (regionAt l (c .index)) r → why (rows wide n l) (led.Item i) ≡ reasonValues (reasonBy (c .index) r (c .found))
   unfolding why
   hidden-told i e r g = ap (λ (p : ℕ). hiddenBy (hiders 0 p (rows wide n l))) e ∙ by (c .found) refl
     where
-      by : (f : Found) → c .found ≡ f → hiddenBy (hiders 0 place (rows wide n l)) ≡ reasonValues (foundBy (c .index) r f)
+      by : (f : Found) → c .found ≡ f → hiddenBy (hiders 0 place (rows wide n l)) ≡ reasonValues (reasonBy (c .index) r f)
       by (found.At q) f = sym (hidden-at q f r g .answer)
       by found.Nothing f = sym (hidden-none f .answer)
       by (found.Refused m) f = sym (hidden-refused m f .answer)
 
 -- the reason of a line by what leads it, a query of its item's place, and the region at the query's index
-why-told : (l : List ℕ) (n : ℕ) → SortedRows l n → (d : Led) (c : Cover) → Steps (coverAnswer wide l n 0 (ledPlace d)) (coverNext wide l n 0 (ledPlace d)) (toldFound (c .found)) (c .index) → (r : Span) → Gives (regionAt l (c .index)) r
+why-told : (l : List ℕ) (n : ℕ) → SortedRows l n → (d : Lead) (c : Cover) → Steps (coverAnswer wide l n 0 (ledPlace d)) (coverNext wide l n 0 (ledPlace d)) (toldFound (c .found)) (c .index) → (r : Span) → Gives (regionAt l (c .index)) r
     → why (rows wide n l) d ≡ reasonValues (reasonOf d c r)
 unfolding why
 why-told l n o led.NoLine c q r g = refl
@@ -127,7 +127,7 @@ why-told l n o led.NoBlank c q r g = refl
 why-told l n o (led.Item i) c q r g = hidden-told l n (testedPlace i) o c q i refl r g
 
 -- the way out where a query found a region
-pub reason-hidden : (d : Led) (c : Cover) (r : Span) (i : SheetItem) (q : ℕ) → d ≡ led.Item i → c .found ≡ found.At q → Gives (reasonOf d c r) (reason.Hidden (c .index) r)
+pub reason-hidden : (d : Lead) (c : Cover) (r : Span) (i : SheetItem) (q : ℕ) → d ≡ led.Item i → c .found ≡ found.At q → Gives (reasonOf d c r) (reason.Hidden (c .index) r)
 reason-hidden d c r i q e f = record { answer = sym (rw (e, f)) }
 
 -- ---- the ways out of the entries
@@ -135,28 +135,28 @@ pub line-long : (s : List ℕ) (line : ℕ) → 4294967295 < length s → Gives 
 unfolding lineAnswer
 line-long s line h = record { answer = rw (lt-ltb 4294967295 (length s) h) }
 
-pub line-served : (s : List ℕ) (line : ℕ) (d : Led) → length s ≤ 4294967295 → Gives (lineLed s line) d → Gives (lineAnswer s line) (lined.By d)
+pub line-served : (s : List ℕ) (line : ℕ) (d : Lead) → length s ≤ 4294967295 → Gives (lineLed s line) d → Gives (lineAnswer s line) (lined.By d)
 unfolding lineAnswer
 line-served s line d h g = record { answer = rw (le-ltb 4294967295 (length s) h) (ap lined.By (g .answer)) }
 
 -- what a line's answer tells of the text
-abbrev Told : List ℕ → ℕ → Lined → Type 0
-Told s line (lined.By d) = (tooLong s ≡ false) × (d ≡ lineLed s line)
-Told s line (lined.Refused r) = (tooLong s ≡ true) × (r ≡ TextTooLong)
+abbrev Lines : List ℕ → ℕ → Lined → Type 0
+Lines s line (lined.By d) = (tooLong s ≡ false) × (d ≡ lineLed s line)
+Lines s line (lined.Refused r) = (tooLong s ≡ true) × (r ≡ TextTooLong)
 
-line-told : (s : List ℕ) (line : ℕ) → Told s line (lineAnswer s line)
+line-told : (s : List ℕ) (line : ℕ) → Lines s line (lineAnswer s line)
 unfolding lineAnswer
-line-told s line = both (Told s line) (tooLong s) _ _ (λ u. (u, refl)) (λ u. (u, refl))
+line-told s line = both (Lines s line) (tooLong s) _ _ (λ u. (u, refl)) (λ u. (u, refl))
 
 module _ (l : List ℕ) (n : ℕ) (s : List ℕ) (line : ℕ) (a : Lined) where
-  told-as : (e : Lined) → a ≡ e → Gives (lineAnswer s line) a → Told s line e
-  told-as e f g = subst (Told s line) (sym (g .answer) ∙ f) (line-told s line)
+  told-as : (e : Lined) → a ≡ e → Gives (lineAnswer s line) a → Lines s line e
+  told-as e f g = subst (Lines s line) (sym (g .answer) ∙ f) (line-told s line)
 
   pub explain-long : (r : Refusal) → a ≡ lined.Refused r → Gives (lineAnswer s line) a → Gives (explainAnswer l n s line) (refused (numberOf r))
   unfolding explainAnswer
   explain-long r f g = let w = told-as (lined.Refused r) f g in record { answer = rw (w .0, w .1) }
 
-  module _ (d : Led) (f : a ≡ lined.By d) (y : Bool) where
+  module _ (d : Lead) (f : a ≡ lined.By d) (y : Bool) where
     pub explain-misshapen : y ≡ true → Gives (lineAnswer s line) a → Gives (misshapen l n (length s)) y → Gives (explainAnswer l n s line) (refused 5)
     unfolding explainAnswer
     explain-misshapen e g h = record { answer = rw (told-as (lined.By d) f g .0, ← (h .answer), e) }
@@ -204,21 +204,21 @@ explained-unique l n s line = told-unique toldExplained explainedBack explained-
 -- ---- what an answer tells of the sheet
 module _ (l : List ℕ) (n : ℕ) (s : List ℕ) (line : ℕ) where
   -- a reason is the line's, and the list is in order
-  pub record Served (v : List ℕ) : Type 0 where
+  pub record Explains (v : List ℕ) : Type 0 where
     pub short : tooLong s ≡ false
     pub order : misshapen l n (length s) ≡ false
     pub same : why (rows wide n l) (lineLed s line) ≡ v
 
-  pub served : (v : List ℕ) → explainAnswer l n s line ≡ given v → Served v
+  pub served : (v : List ℕ) → explainAnswer l n s line ≡ given v → Explains v
   unfolding explainAnswer
   served v e = by (tooLong s) refl (misshapen l n (length s)) refl e
     where
-      by : (x : Bool) → tooLong s ≡ x → (y : Bool) → misshapen l n (length s) ≡ y → refuse 1 x (refuse 5 y (given (why (rows wide n l) (lineLed s line)))) ≡ given v → Served v
+      by : (x : Bool) → tooLong s ≡ x → (y : Bool) → misshapen l n (length s) ≡ y → refuse 1 x (refuse 5 y (given (why (rows wide n l) (lineLed s line)))) ≡ given v → Explains v
       by true a y b f = absurd (let z : _≡_ {A = ℕ} 1 0 = ap (λ (o : Outcome). o .number) f in omega arith)
       by false a true b f = absurd (let z : _≡_ {A = ℕ} 5 0 = ap (λ (o : Outcome). o .number) f in omega arith)
       by false a false b f = record { short = a; order = b; same = ap (λ (o : Outcome). o .values) f }
 
-  pub serves : (v : List ℕ) → Served v → explainAnswer l n s line ≡ given v
+  pub serves : (v : List ℕ) → Explains v → explainAnswer l n s line ≡ given v
   unfolding explainAnswer
   serves v w = rw (w .short, w .order, w .same)
 
@@ -230,11 +230,11 @@ module _ (l : List ℕ) (n : ℕ) (s : List ℕ) (line : ℕ) where
   shown-answer a b w = serves (0 ∷ []) (record { short = a; order = b; same = sheet-on l n s line w })
 
   -- 6 with a region exactly where the line has an item whose tested place that region holds; there is one such region at the most
-  pub answer-hides : (k : ℕ) (r : List ℕ) → explainAnswer l n s line ≡ given (6 ∷ k ∷ r) → Hides (rows wide n l) s line k r
+  pub answer-hides : (k : ℕ) (r : List ℕ) → explainAnswer l n s line ≡ given (6 ∷ k ∷ r) → HidesLine (rows wide n l) s line k r
   answer-hides k r e = hidden-by (rows wide n l) s line k r (served (6 ∷ k ∷ r) e .same)
 
-  pub hides-answer : tooLong s ≡ false → misshapen l n (length s) ≡ false → (k : ℕ) (r : List ℕ) → Hides (rows wide n l) s line k r → explainAnswer l n s line ≡ given (6 ∷ k ∷ r)
+  pub hides-answer : tooLong s ≡ false → misshapen l n (length s) ≡ false → (k : ℕ) (r : List ℕ) → HidesLine (rows wide n l) s line k r → explainAnswer l n s line ≡ given (6 ∷ k ∷ r)
   hides-answer a b k r w = serves (6 ∷ k ∷ r) (record { short = a; order = b; same = by-hidden (rows wide n l) s line 0 (length s) (shape-order l n (length s) b) k r w })
 
-  pub hides-one : misshapen l n (length s) ≡ false → (k k′ : ℕ) (r r′ : List ℕ) → Hides (rows wide n l) s line k r → Hides (rows wide n l) s line k′ r′ → (k ≡ k′) × (r ≡ r′)
+  pub hides-one : misshapen l n (length s) ≡ false → (k k′ : ℕ) (r r′ : List ℕ) → HidesLine (rows wide n l) s line k r → HidesLine (rows wide n l) s line k′ r′ → (k ≡ k′) × (r ≡ r′)
   hides-one b = hidden-one (rows wide n l) s line 0 (length s) (shape-order l n (length s) b)

@@ -16,39 +16,39 @@ abbrev text : List ℕ
 text =
     45 ∷ 32 ∷ 97 ∷ 10 ∷ 10 ∷ 49 ∷ 97 ∷ 10 ∷ 49 ∷ 50 ∷ 51 ∷ 52 ∷ 53 ∷ 54 ∷ 55 ∷ 56 ∷ 57 ∷ 48 ∷ 46 ∷ 32 ∷ 98 ∷ 10 ∷ 49 ∷ 46 ∷ 99 ∷ 10 ∷ 9 ∷ 50 ∷ 41 ∷ 32 ∷ 100 ∷ 10 ∷ 45 ∷ 120 ∷ 10 ∷ []
 
-abbrev regions : List ℕ
-regions = 4 ∷ 5 ∷ 26 ∷ 31 ∷ []
+abbrev list : List ℕ
+list = 4 ∷ 5 ∷ 26 ∷ 31 ∷ []
 
-on-sheet : explainAnswer regions 2 text 1 ≡ given (0 ∷ [])
+on-sheet : explainAnswer list 2 text 1 ≡ given (0 ∷ [])
 unfolding is either oneOf holds firstOf firstPlace find lineStart gather leading beyond digit valuedFrom misshapen startsFrom lineAt ledFrom ledBy lineLed hiders why explainAnswer
 on-sheet = refl
 
-no-lead : explainAnswer regions 2 text 2 ≡ given (2 ∷ [])
+no-lead : explainAnswer list 2 text 2 ≡ given (2 ∷ [])
 unfolding is either oneOf holds firstOf firstPlace find lineStart gather leading beyond digit valuedFrom misshapen startsFrom lineAt ledFrom ledBy lineLed hiders why explainAnswer
 no-lead = refl
 
-no-delimiter : explainAnswer regions 2 text 3 ≡ given (4 ∷ [])
+no-delimiter : explainAnswer list 2 text 3 ≡ given (4 ∷ [])
 unfolding is either oneOf holds firstOf firstPlace find lineStart gather leading beyond digit valuedFrom misshapen startsFrom lineAt ledFrom ledBy lineLed hiders why explainAnswer
 no-delimiter = refl
 
-ten-digits : explainAnswer regions 2 text 4 ≡ given (3 ∷ [])
+ten-digits : explainAnswer list 2 text 4 ≡ given (3 ∷ [])
 unfolding is either oneOf holds firstOf firstPlace find lineStart gather leading beyond digit valuedFrom misshapen startsFrom lineAt ledFrom ledBy lineLed hiders why explainAnswer
 ten-digits = refl
 
-no-blank : explainAnswer regions 2 text 5 ≡ given (5 ∷ [])
+no-blank : explainAnswer list 2 text 5 ≡ given (5 ∷ [])
 unfolding is either oneOf holds firstOf firstPlace find lineStart gather leading beyond digit valuedFrom misshapen startsFrom lineAt ledFrom ledBy lineLed hiders why explainAnswer
 no-blank = refl
 
-hidden : explainAnswer regions 2 text 6 ≡ given (6 ∷ 1 ∷ 26 ∷ 31 ∷ [])
+hidden : explainAnswer list 2 text 6 ≡ given (6 ∷ 1 ∷ 26 ∷ 31 ∷ [])
 unfolding is either oneOf holds firstOf firstPlace find lineStart gather leading beyond digit valuedFrom misshapen startsFrom lineAt ledFrom ledBy lineLed hiders why explainAnswer
 hidden = refl
 
-marker-no-blank : explainAnswer regions 2 text 7 ≡ given (5 ∷ [])
+marker-no-blank : explainAnswer list 2 text 7 ≡ given (5 ∷ [])
 unfolding is either oneOf holds firstOf firstPlace find lineStart gather leading beyond digit valuedFrom misshapen startsFrom lineAt ledFrom ledBy lineLed hiders why explainAnswer
 marker-no-blank = refl
 
 -- the last line end starts no line; there is no line 0; the empty text has one line; 5 before any reason
-no-eighth : explainAnswer regions 2 text 8 ≡ given (1 ∷ [])
+no-eighth : explainAnswer list 2 text 8 ≡ given (1 ∷ [])
 unfolding is either oneOf holds firstOf firstPlace find lineStart gather leading beyond digit valuedFrom misshapen startsFrom lineAt ledFrom ledBy lineLed hiders why explainAnswer
 no-eighth = refl
 
@@ -60,6 +60,6 @@ empty-text : explainAnswer [] 0 [] 1 ≡ given (2 ∷ [])
 unfolding is either oneOf holds firstOf firstPlace find lineStart gather leading beyond digit valuedFrom misshapen startsFrom lineAt ledFrom ledBy lineLed hiders why explainAnswer
 empty-text = refl
 
-misshapen-first : explainAnswer regions 3 text 0 ≡ refused 5
+misshapen-first : explainAnswer list 3 text 0 ≡ refused 5
 unfolding misshapen explainAnswer
 misshapen-first = refl

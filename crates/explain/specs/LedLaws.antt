@@ -23,11 +23,11 @@ use Rattle.common.specs.Sets.{isMarker, isDelimiter}
 use Rattle.common.specs.Grammars.{houseMarks, houseNumbers}
 use Rattle.common.specs.ClassLaws.{digit-marker}
 use Rattle.feed.specs.declared.item.SheetItem.{SheetItem}
-use Rattle.explain.specs.declared.lines.Led.{Led}
-use Rattle.explain.specs.declared.lines.Led.the-variants as led
+use Rattle.explain.specs.declared.lines.Lead.{Lead}
+use Rattle.explain.specs.declared.lines.Lead.the-variants as led
 
 -- the item of a line, if it has one
-abbrev pub ledItems : Led → List SheetItem
+abbrev pub ledItems : Lead → List SheetItem
 ledItems led.NoLine = []
 ledItems led.NoLead = []
 ledItems led.TenDigits = []
@@ -136,7 +136,7 @@ lacks-not t (x ∷ l) e = omega arith
 abbrev pub Lies : ℕ → ℕ → SheetItem → Type 0
 Lies a e i = (a + 2 ≤ i .start) × (i .start ≤ e)
 
-abbrev pub OnLine : ℕ → ℕ → Led → Type 0
+abbrev pub OnLine : ℕ → ℕ → Lead → Type 0
 OnLine a e d = Each (Lies a e) (ledItems d)
 
 from-lies : (a e p : ℕ) (r : List ℕ) → a ≤ p → p + length r ≡ e → Each (Lies a e) (ledItems (ledFrom p r))

@@ -22,9 +22,9 @@ use Rattle.explain.specs.SheetLines.{lineItems, shownOn, lies-on, sheet-
 use Rattle.explain.specs.TrueLaws.{Shown, each-member, member-flat, drop-member, Begun, starts-begun, line-begun, shown-item, one-line}
 
 -- ---- lines begin one behind the other, so that no two have a start in common
-abbrev Apart : List ℕ → Type 0
-Apart [] = Unit {0}
-Apart (x ∷ l) = Each (λ y. x < y) l × Apart l
+abbrev Ascends : List ℕ → Type 0
+Ascends [] = Unit {0}
+Ascends (x ∷ l) = Each (λ y. x < y) l × Ascends l
 
 module _ (eol : ℕ) (s : List ℕ) where
   start-later : (a k : ℕ) → a < k → Each (λ y. a < y) (startHere eol s k)
@@ -37,21 +37,21 @@ module _ (eol : ℕ) (s : List ℕ) where
   gather-later : (n a b : ℕ) → a < b → Each (λ y. a < y) (gather (startHere eol s) n b)
   gather-later n a b h = each-gather (λ y. a < y) (startHere eol s) n b (λ k l m. start-later a k (omega arith))
 
-  gather-apart : (n a : ℕ) → Apart (gather (startHere eol s) n a)
+  gather-apart : (n a : ℕ) → Ascends (gather (startHere eol s) n a)
   unfolding gather
   gather-apart zero a = tt
   gather-apart (suc n) a = by (gather-apart n (suc a)) (decide (lineStart eol s a))
     where
-      by : Apart (gather (startHere eol s) n (suc a)) → (lineStart eol s a ≡ true) ⊎ (lineStart eol s a ≡ false) → Apart (startHere eol s a ++ gather (startHere eol s) n (suc a))
+      by : Ascends (gather (startHere eol s) n (suc a)) → (lineStart eol s a ≡ true) ⊎ (lineStart eol s a ≡ false) → Ascends (startHere eol s a ++ gather (startHere eol s) n (suc a))
       by w (inl u) = rw u (gather-later n a (suc a) (omega arith), w)
       by w (inr u) = rw u w
 
-  starts-apart : Apart (lineStarts eol s)
+  starts-apart : Ascends (lineStarts eol s)
   unfolding startsFrom
   starts-apart = (gather-later _ 0 1 (omega arith), gather-apart _ 1)
 
 -- a place of a list whose members are apart stands once in it
-apart-once : (l : List ℕ) (j k a : ℕ) → Apart l → take 1 (drop j l) ≡ a ∷ [] → take 1 (drop k l) ≡ a ∷ [] → j ≡ k
+apart-once : (l : List ℕ) (j k a : ℕ) → Ascends l → take 1 (drop j l) ≡ a ∷ [] → take 1 (drop k l) ≡ a ∷ [] → j ≡ k
 apart-once [] zero k a w e f = absurd (let z : _≡_ {A = ℕ} 0 1 = cc in omega arith)
 apart-once [] (suc j) k a w e f = absurd (let z : _≡_ {A = ℕ} 0 1 = cc in omega arith)
 apart-once (x ∷ l) zero zero a w e f = refl

@@ -20,8 +20,8 @@ use Rattle.cover.specs.Cursor.{covers}
 use Rattle.cover.specs.Shape.{misshapen}
 use Rattle.feed.specs.Items.{testedPlace}
 use Rattle.feed.specs.declared.item.SheetItem.{SheetItem}
-use Rattle.explain.specs.declared.lines.Led.{Led}
-use Rattle.explain.specs.declared.lines.Led.the-variants as led
+use Rattle.explain.specs.declared.lines.Lead.{Lead}
+use Rattle.explain.specs.declared.lines.Lead.the-variants as led
 use Rattle.explain.specs.declared.Reason.{Reason}
 use Rattle.explain.specs.declared.Reason.the-variants as reason
 use Rattle.explain.specs.declared.Explained.{Explained}
@@ -68,7 +68,7 @@ itemOf p r = record {
 }
 
 -- "the first of these, in this order, that holds", but for what is hidden
-unfoldable pub ledFrom : ℕ → List ℕ → Led
+unfoldable pub ledFrom : ℕ → List ℕ → Lead
 ledFrom p r =
     cond (noLead r) led.NoLead
     (cond (tenDigits r) led.TenDigits
@@ -77,16 +77,16 @@ ledFrom p r =
     (led.Item (itemOf p r)))))
 
 -- that of a line which begins at a and whose bytes are l
-unfoldable pub ledBy : ℕ → List ℕ → Led
+unfoldable pub ledBy : ℕ → List ℕ → Lead
 ledBy a l = ledFrom (a + length (leading (blank houseMarks) l)) (beyond (blank houseMarks) l)
 
 -- that of a line by where it begins; "the line doesn't exist" where it begins nowhere
-abbrev pub ledAt : List ℕ → List ℕ → Led
+abbrev pub ledAt : List ℕ → List ℕ → Lead
 ledAt s [] = led.NoLine
 ledAt s (a ∷ l) = ledBy a (lineBytes houseMarks s a)
 
 -- that of a line by its number
-unfoldable pub lineLed : List ℕ → ℕ → Led
+unfoldable pub lineLed : List ℕ → ℕ → Lead
 lineLed s line = ledAt s (lineAt 10 s line)
 
 -- ---- "or hidden, and then by which region"
@@ -101,7 +101,7 @@ hiddenBy [] = 0 ∷ []
 hiddenBy (h ∷ l) = 6 ∷ h
 
 -- ---- the reason, as numbers
-unfoldable pub why : List (List ℕ) → Led → List ℕ
+unfoldable pub why : List (List ℕ) → Lead → List ℕ
 why regions led.NoLine = 1 ∷ []
 why regions led.NoLead = 2 ∷ []
 why regions led.TenDigits = 3 ∷ []

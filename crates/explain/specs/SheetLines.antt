@@ -32,8 +32,8 @@ use Rattle.explain.specs.Reasons.{ledFrom, ledBy}
 use Rattle.common.specs.LineStartLaws.{onStart, flat-starts}
 use Rattle.explain.specs.LedLaws.{ledItems, line-items, Lies, line-lies}
 use Rattle.feed.specs.declared.item.SheetItem.{SheetItem}
-use Rattle.explain.specs.declared.lines.Led.{Led}
-use Rattle.explain.specs.declared.lines.Led.the-variants as led
+use Rattle.explain.specs.declared.lines.Lead.{Lead}
+use Rattle.explain.specs.declared.lines.Lead.the-variants as led
 
 -- ---- what a line shows: its item, unless a region hides it
 abbrev pub lineItems : List ℕ → ℕ → List SheetItem
@@ -70,7 +70,7 @@ One [] = Unit {0}
 One (x ∷ []) = Unit {0}
 One (x ∷ y ∷ l) = ⊥
 
-led-one : (d : Led) → One (ledItems d)
+led-one : (d : Lead) → One (ledItems d)
 led-one led.NoLine = tt
 led-one led.NoLead = tt
 led-one led.TenDigits = tt

@@ -27,8 +27,8 @@ use Rattle.explain.specs.LedLaws.{ledItems, Lies}
 use Rattle.explain.specs.SheetLines.{lineItems, shownOn, lies-on, sheet-by-lines}
 use Rattle.common.specs.Sets.{houseMarkers, houseDelims}
 use Rattle.feed.specs.declared.item.SheetItem.{SheetItem}
-use Rattle.explain.specs.declared.lines.Led.{Led}
-use Rattle.explain.specs.declared.lines.Led.the-variants as led
+use Rattle.explain.specs.declared.lines.Lead.{Lead}
+use Rattle.explain.specs.declared.lines.Lead.the-variants as led
 
 -- ---- members
 pub each-member : {A : Type 0} (P : A → Type 0) (l : List A) {x : A} → Each P l → List·Memᴰ x l → P x
@@ -177,7 +177,7 @@ led-item s line i e = by (lineAt 10 s line) refl e
 
 -- ---- what a reason tells of the line
 module _ (rs : List (List ℕ)) where
-  zero-item : (d : Led) → why rs d ≡ 0 ∷ [] → (i : SheetItem) × (d ≡ led.Item i) × (inside rs (testedPlace i) ≡ false)
+  zero-item : (d : Lead) → why rs d ≡ 0 ∷ [] → (i : SheetItem) × (d ≡ led.Item i) × (inside rs (testedPlace i) ≡ false)
   unfolding why
   zero-item led.NoLine e = absurd (let z : _≡_ {A = ℕ} 1 0 = cc in omega arith)
   zero-item led.NoLead e = absurd (let z : _≡_ {A = ℕ} 2 0 = cc in omega arith)
@@ -197,7 +197,7 @@ module _ (rs : List (List ℕ)) where
   unfolding why
   item-zero i e = ap hiddenBy (hiders-none (testedPlace i) 0 rs e)
 
-  six-item : (d : Led) (k : ℕ) (r : List ℕ) → why rs d ≡ 6 ∷ k ∷ r → (i : SheetItem) × (d ≡ led.Item i) × First (testedPlace i) 0 rs (k ∷ r)
+  six-item : (d : Lead) (k : ℕ) (r : List ℕ) → why rs d ≡ 6 ∷ k ∷ r → (i : SheetItem) × (d ≡ led.Item i) × First (testedPlace i) 0 rs (k ∷ r)
   unfolding why
   six-item led.NoLine k r e = absurd (let z : _≡_ {A = ℕ} 1 6 = cc in omega arith)
   six-item led.NoLead k r e = absurd (let z : _≡_ {A = ℕ} 2 6 = cc in omega arith)
@@ -212,51 +212,51 @@ module _ (rs : List (List ℕ)) where
           let z : h ≡ k ∷ r = cc in
           (i, refl, subst (First (testedPlace i) 0 rs) z (hiders-first (testedPlace i) 0 rs h t f))
 
--- a line's item that no region hides is all that the line shows
+-- ---- 0, and what the sheet has of a line
 module _ (l : List ℕ) (n : ℕ) (s : List ℕ) (line : ℕ) where
-  abbrev regions : List (List ℕ)
-  regions = rows wide n l
+  abbrev listRows : List (List ℕ)
+  listRows = rows wide n l
 
   -- 0: the sheet has an item of the line
-  pub on-sheet : why regions (lineLed s line) ≡ 0 ∷ [] → Shown l n s line
+  pub on-sheet : why listRows (lineLed s line) ≡ 0 ∷ [] → Shown l n s line
   unfolding outside
   on-sheet e =
-      let w = zero-item regions (lineLed s line) e in
+      let w = zero-item listRows (lineLed s line) e in
       let i = w .0 in
       let v = led-item s line i (w .1) in
       let a = v .0 in
       let b = line-begun 10 s line a [] (v .1) in
       let f : lineItems s a ≡ i ∷ [] = ap ledItems (v .2) in
-      let g : shownOn regions s a ≡ i ∷ [] = ap (outside regions) f ∙ outside-shown regions i [] (w .2) in
-      let m : List·Memᴰ i (shownOn regions s a) = subst (λ (k : List SheetItem). List·Memᴰ i k) (sym g) (List·Memᴰ·head refl) in
+      let g : shownOn listRows s a ≡ i ∷ [] = ap (outside listRows) f ∙ outside-shown listRows i [] (w .2) in
+      let m : List·Memᴰ i (shownOn listRows s a) = subst (λ (k : List SheetItem). List·Memᴰ i k) (sym g) (List·Memᴰ·head refl) in
       let x : Each (Lies a (lineEnd 10 s a)) (i ∷ []) = subst (Each (Lies a (lineEnd 10 s a))) f (lies-on s a (b .1)) in
       record {
         from = a;
         item = i;
         begun = v .1;
-        on = subst (λ (k : List SheetItem). List·Memᴰ i k) (sym (sheet-by-lines l n s)) (flat-member (shownOn regions s) (lineStarts 10 s) a i (line-member 10 s line a [] (v .1) .0) m);
+        on = subst (λ (k : List SheetItem). List·Memᴰ i k) (sym (sheet-by-lines l n s)) (flat-member (shownOn listRows s) (lineStarts 10 s) a i (line-member 10 s line a [] (v .1) .0) m);
         low = omega (arith, x .0 .0);
         high = x .0 .1;
       }
 
   -- what a line shows is its item, which no region hides
-  pub shown-item : (b : ℕ) (i : SheetItem) → List·Memᴰ i (shownOn regions s b) → (ledBy b (lineBytes houseMarks s b) ≡ led.Item i) × (inside regions (testedPlace i) ≡ false)
+  pub shown-item : (b : ℕ) (i : SheetItem) → List·Memᴰ i (shownOn listRows s b) → (ledBy b (lineBytes houseMarks s b) ≡ led.Item i) × (inside listRows (testedPlace i) ≡ false)
   unfolding outside
   shown-item b i m = by (ledBy b (lineBytes houseMarks s b)) refl m
     where
-      hid : (j : SheetItem) → (inside regions (testedPlace j) ≡ true) ⊎ (inside regions (testedPlace j) ≡ false) → List·Memᴰ i (outside regions (j ∷ [])) → (j ≡ i) × (inside regions (testedPlace j) ≡ false)
-      hid j (inl u) k = absurd (List·Memᴰ·not-nil (subst (λ (l : List SheetItem). List·Memᴰ i l) (outside-hidden regions j [] u) k))
-      hid j (inr u) k = (sym (List·Memᴰ·eq-of-singleton (subst (λ (l : List SheetItem). List·Memᴰ i l) (outside-shown regions j [] u) k)), u)
+      hid : (j : SheetItem) → (inside listRows (testedPlace j) ≡ true) ⊎ (inside listRows (testedPlace j) ≡ false) → List·Memᴰ i (outside listRows (j ∷ [])) → (j ≡ i) × (inside listRows (testedPlace j) ≡ false)
+      hid j (inl u) k = absurd (List·Memᴰ·not-nil (subst (λ (l : List SheetItem). List·Memᴰ i l) (outside-hidden listRows j [] u) k))
+      hid j (inr u) k = (sym (List·Memᴰ·eq-of-singleton (subst (λ (l : List SheetItem). List·Memᴰ i l) (outside-shown listRows j [] u) k)), u)
 
-      by : (d : Led) → ledBy b (lineBytes houseMarks s b) ≡ d → List·Memᴰ i (outside regions (ledItems d)) → (ledBy b (lineBytes houseMarks s b) ≡ led.Item i) × (inside regions (testedPlace i) ≡ false)
+      by : (d : Lead) → ledBy b (lineBytes houseMarks s b) ≡ d → List·Memᴰ i (outside listRows (ledItems d)) → (ledBy b (lineBytes houseMarks s b) ≡ led.Item i) × (inside listRows (testedPlace i) ≡ false)
       by led.NoLine f k = absurd (List·Memᴰ·not-nil k)
       by led.NoLead f k = absurd (List·Memᴰ·not-nil k)
       by led.TenDigits f k = absurd (List·Memᴰ·not-nil k)
       by led.NoDelimiter f k = absurd (List·Memᴰ·not-nil k)
       by led.NoBlank f k = absurd (List·Memᴰ·not-nil k)
       by (led.Item j) f k =
-          let w = hid j (decide (inside regions (testedPlace j))) k in
-          (f ∙ ap led.Item (w .0), subst (λ (j : SheetItem). inside regions (testedPlace j) ≡ false) (w .0) (w .1))
+          let w = hid j (decide (inside listRows (testedPlace j))) k in
+          (f ∙ ap led.Item (w .0), subst (λ (j : SheetItem). inside listRows (testedPlace j) ≡ false) (w .0) (w .1))
 
   -- two lines that have a place in common are one
   pub one-line : (a b p : ℕ) → lineStart 10 s a ≡ true → lineStart 10 s b ≡ true → a < p → p ≤ lineEnd 10 s a → b < p → p ≤ lineEnd 10 s b → a ≡ b
@@ -268,10 +268,10 @@ module _ (l : List ℕ) (n : ℕ) (s : List ℕ) (line : ℕ) where
       by (inr x) (inr y) = omega (arith, ltb-false a b x, ltb-false b a y)
 
   -- the item that the sheet has of a line is the one that the line's bytes are
-  pub shown-led : (w : Shown l n s line) → (lineLed s line ≡ led.Item (w .item)) × (inside regions (testedPlace (w .item)) ≡ false)
+  pub shown-led : (w : Shown l n s line) → (lineLed s line ≡ led.Item (w .item)) × (inside listRows (testedPlace (w .item)) ≡ false)
   unfolding lineLed
   shown-led w =
-      let m = member-flat (shownOn regions s) (lineStarts 10 s) (w .item) (subst (λ (k : List SheetItem). List·Memᴰ (w .item) k) (sheet-by-lines l n s) (w .on)) in
+      let m = member-flat (shownOn listRows s) (lineStarts 10 s) (w .item) (subst (λ (k : List SheetItem). List·Memᴰ (w .item) k) (sheet-by-lines l n s) (w .on)) in
       let b = m .0 in
       let v = shown-item b (w .item) (m .2) in
       let g = each-member (Begun 10 s) (lineStarts 10 s) (starts-begun 10 s) (m .1) in
@@ -280,20 +280,20 @@ module _ (l : List ℕ) (n : ℕ) (s : List ℕ) (line : ℕ) where
       let z : w .from ≡ b = one-line (w .from) b (w .item .start) (line-begun 10 s line (w .from) [] (w .begun) .0) (g .0) (w .low) (w .high) (omega (arith, x .0 .0)) (x .0 .1) in
       (ap (ledAt s) (w .begun ∙ ap (λ (a : ℕ). a ∷ []) z) ∙ v .0, v .1)
 
-  pub sheet-on : Shown l n s line → why regions (lineLed s line) ≡ 0 ∷ []
-  sheet-on w = let v = shown-led w in ap (why regions) (v .0) ∙ item-zero regions (w .item) (v .1)
+  pub sheet-on : Shown l n s line → why listRows (lineLed s line) ≡ 0 ∷ []
+  sheet-on w = let v = shown-led w in ap (why listRows) (v .0) ∙ item-zero listRows (w .item) (v .1)
 
 -- ---- hidden
 module _ (rs : List (List ℕ)) (s : List ℕ) (line : ℕ) where
   -- region k, which is r, holds the place that the line's item is tested by
-  pub record Hides (k : ℕ) (r : List ℕ) : Type 0 where
+  pub record HidesLine (k : ℕ) (r : List ℕ) : Type 0 where
     pub item : SheetItem
     pub leads : lineLed s line ≡ led.Item item
     pub within : k < length rs
     pub region : r ≡ getD rs k []
     pub covered : covers (testedPlace item) r ≡ true
 
-  pub hidden-by : (k : ℕ) (r : List ℕ) → why rs (lineLed s line) ≡ 6 ∷ k ∷ r → Hides k r
+  pub hidden-by : (k : ℕ) (r : List ℕ) → why rs (lineLed s line) ≡ 6 ∷ k ∷ r → HidesLine k r
   hidden-by k r e =
       let w = six-item rs (lineLed s line) k r e in
       let f = w .2 in
@@ -310,14 +310,14 @@ module _ (rs : List (List ℕ)) (s : List ℕ) (line : ℕ) where
 
   -- in a list in order every region that does is the one that is told: there is one at the most
   module _ (from len : ℕ) (shape : Shaped from len rs) where
-    pub by-hidden : (k : ℕ) (r : List ℕ) → Hides k r → why rs (lineLed s line) ≡ 6 ∷ k ∷ r
+    pub by-hidden : (k : ℕ) (r : List ℕ) → HidesLine k r → why rs (lineLed s line) ≡ 6 ∷ k ∷ r
     unfolding why
     by-hidden k r w =
         let z : 0 + k ≡ k = omega arith in
         rw (w .leads)
         (ap hiddenBy (hiders-one (testedPlace (w .item)) from len 0 k rs shape (w .within) (ap (covers (testedPlace (w .item))) (sym (w .region)) ∙ w .covered)) ∙ rw (z, ← (w .region)))
 
-    pub hidden-one : (k k′ : ℕ) (r r′ : List ℕ) → Hides k r → Hides k′ r′ → (k ≡ k′) × (r ≡ r′)
+    pub hidden-one : (k k′ : ℕ) (r r′ : List ℕ) → HidesLine k r → HidesLine k′ r′ → (k ≡ k′) × (r ≡ r′)
     hidden-one k k′ r r′ v w =
         let e : 6 ∷ k ∷ r ≡ 6 ∷ k′ ∷ r′ = sym (by-hidden k r v) ∙ by-hidden k′ r′ w in
         (cc, cc)

@@ -27,44 +27,44 @@ use Rattle.explain.specs.Reasons.{lacks, digits, sign, noLead, tenDigits
 use Rattle.common.specs.Sets.{isMarker, isDelimiter, classOf}
 use Rattle.common.specs.ClassLaws.{class-marker, class-delimiter, class-digit}
 use Rattle.common.specs.Grammars.{houseMarks}
-use Rattle.explain.specs.Parts.{placesOf, signLed}
+use Rattle.explain.specs.Parts.{beginsAt, signLed}
 use Rattle.explain.specs.TrueLaws.{line-begun}
-use Rattle.explain.specs.declared.lines.Led.{Led}
-use Rattle.explain.specs.declared.lines.Led.the-variants as led
+use Rattle.explain.specs.declared.lines.Lead.{Lead}
+use Rattle.explain.specs.declared.lines.Lead.the-variants as led
 use Rattle.explain.specs.declared.lines.Begin.{Begin}
 use Rattle.explain.specs.declared.lines.Begin.the-variants as begin
 
 -- ---- the loop that looks for a line: at a line's start a, with `left` lines to go
-pub record Passing (eol : ℕ) (s : List ℕ) (line a left : ℕ) : Type 0 where
+pub record Seeking (eol : ℕ) (s : List ℕ) (line a left : ℕ) : Type 0 where
   pub inside : a ≤ length s
   pub same : lineAt eol s line ≡ take 1 (drop left (startsFrom eol s a))
 
 module _ (eol : ℕ) (s : List ℕ) (line : ℕ) where
-  pub passing-zero : line ≡ 0 → Gives (lineAt eol s line) []
+  pub seeking-zero : line ≡ 0 → Gives (lineAt eol s line) []
   unfolding lineAt
-  passing-zero e = record { answer = rw e }
+  seeking-zero e = record { answer = rw e }
 
-  pub passing-first : (line ≡ 0 → ⊥) → Passing eol s line 0 (line - 1)
+  pub seeking-first : (line ≡ 0 → ⊥) → Seeking eol s line 0 (line - 1)
   unfolding lineAt
-  passing-first h = by line h
+  seeking-first h = by line h
     where
-      by : (line : ℕ) → (line ≡ 0 → ⊥) → Passing eol s line 0 (line - 1)
+      by : (line : ℕ) → (line ≡ 0 → ⊥) → Seeking eol s line 0 (line - 1)
       by zero h = absurd (h refl)
       by (suc k) h =
           let z : suc k - 1 ≡ k = omega arith in
           record { inside = omega arith; same = rw z }
 
-  module _ (a left : ℕ) (w : Passing eol s line a left) where
-    pub passing-end : left ≤ 0 → Gives (lineAt eol s line) (a ∷ [])
+  module _ (a left : ℕ) (w : Seeking eol s line a left) where
+    pub seeking-end : left ≤ 0 → Gives (lineAt eol s line) (a ∷ [])
     unfolding startsFrom
-    passing-end h = let z : left ≡ 0 = omega arith in record { answer = sym (w .same ∙ rw z) }
+    seeking-end h = let z : left ≡ 0 = omega arith in record { answer = sym (w .same ∙ rw z) }
 
     next-is : (m : ℕ) (r : List ℕ) → 0 < left → startsFrom eol s a ≡ a ∷ r → left ≡ suc m → lineAt eol s line ≡ take 1 (drop m r)
     next-is m r h e f = w .same ∙ rw (f, e)
 
     module _ (h : 0 < left) (e n : ℕ) (f : Sought (is eol) s a e) (g : Gives (nextLine (length s) e) n) where
-      pub passing-none : length s ≤ n → Gives (lineAt eol s line) []
-      passing-none l = record {
+      pub seeking-none : length s ≤ n → Gives (lineAt eol s line) []
+      seeking-none l = record {
         answer = sym (next-is (left - 1) [] h (starts-last eol s a (w .inside) (omega (arith, f .here, g .answer))) (omega arith) ∙ none (left - 1));
       }
         where
@@ -72,15 +72,15 @@ module _ (eol : ℕ) (s : List ℕ) (line : ℕ) where
           none zero = refl
           none (suc m) = refl
 
-      pub passing-again : n < length s → Passing eol s line n (left - 1)
-      passing-again l =
+      pub seeking-again : n < length s → Seeking eol s line n (left - 1)
+      seeking-again l =
           let z : lineEnd eol s a + 1 ≡ n = omega (arith, f .here, g .answer) in
           record {
             inside = omega arith;
             same = next-is (left - 1) (startsFrom eol s n) h (starts-next eol s a (w .inside) (omega arith) ∙ rw z) (omega arith);
           }
 
-pub ruleset passing-rules = (passing-zero, passing-first, passing-again, passing-none, passing-end)
+pub ruleset seeking-rules = (seeking-zero, seeking-first, seeking-again, seeking-none, seeking-end)
 
 -- ---- a byte by its class
 module _ (x c : ℕ) (g : Gives (classOf x) c) where
@@ -189,12 +189,12 @@ module _ (u : List ℕ) (p : ℕ) where
         let w : getD (sign rest) 0 0 ≡ getD u j 0 = ap (λ (l : List ℕ). getD l 0 0) s ∙ head-drop u j in
         rw (sign-is, e, f, g, v, w) (by (holds (blank houseMarks) u (j + 1)) (led.Item (record { start = j + 2; end = length u; kind = kind; byte = getD u j 0; number = number })))
       where
-        by : (y : Bool) (d : Led) → cond (not y) led.NoBlank d ≡ cond y d led.NoBlank
+        by : (y : Bool) (d : Lead) → cond (not y) led.NoBlank d ≡ cond y d led.NoBlank
         by true d = refl
         by false d = refl
 
   -- ---- the ways out where no digit leads
-  pub body-mark : (x c : ℕ) (d : Led) → (c ≡ 4 → ⊥) → c ≡ 1 → Gives (getD u p 0) x → Gives (classOf x) c → Gives (signLed u p 0 0) d → Gives (ledFrom p rest) d
+  pub body-mark : (x c : ℕ) (d : Lead) → (c ≡ 4 → ⊥) → c ≡ 1 → Gives (getD u p 0) x → Gives (classOf x) c → Gives (signLed u p 0 0) d → Gives (ledFrom p rest) d
   unfolding ledFrom leading beyond valuedFrom
   body-mark x c d e f b g w =
       let m : isMarker (getD u p 0) ≡ true = ap isMarker (sym (b .answer)) ∙ of-marker x c g f in
@@ -282,7 +282,7 @@ module _ (u : List ℕ) (p : ℕ) where
         unfolding ledFrom
         bare f = record { answer = rw (some-lead leads, not-ten, delimits, no-delimiter x c g f) }
 
-        signed : (d : Led) → c ≡ 2 → Gives (signLed u (r .end) 1 (r .number)) d → Gives (ledFrom p rest) d
+        signed : (d : Lead) → c ≡ 2 → Gives (signLed u (r .end) 1 (r .number)) d → Gives (ledFrom p rest) d
         unfolding ledFrom
         signed d f w = record {
           answer =
@@ -294,7 +294,7 @@ module _ (u : List ℕ) (p : ℕ) where
       pub number-bare : (c ≡ 4 → ⊥) → (c ≡ 2 → ⊥) → Gives (getD u (r .end) 0) x → Gives (classOf x) c → Gives (ledFrom p rest) led.NoDelimiter
       number-bare e f b g = bare e b g f
 
-      pub number-sign : (d : Led) → (c ≡ 4 → ⊥) → c ≡ 2 → Gives (getD u (r .end) 0) x → Gives (classOf x) c → Gives (signLed u (r .end) 1 (r .number)) d → Gives (ledFrom p rest) d
+      pub number-sign : (d : Lead) → (c ≡ 4 → ⊥) → c ≡ 2 → Gives (getD u (r .end) 0) x → Gives (classOf x) c → Gives (signLed u (r .end) 1 (r .number)) d → Gives (ledFrom p rest) d
       number-sign d e f b g w = signed e b g d f w
 
 pub ruleset body-rules = (body-mark, body-none)
@@ -302,7 +302,7 @@ pub ruleset body-rules = (body-mark, body-none)
 pub ruleset number-rules = (number-ten, number-bare, number-sign)
 
 -- ---- a line that begins at a, and one by its number
-pub led-read : (s : List ℕ) (a e p : ℕ) (d : Led) → a ≤ length s → Sought (is 10) s a e → Sought (other (either 32 9)) (take e s) a p → Gives (ledFrom p (drop p (take e s))) d → Gives (ledBy a (lineBytes houseMarks s a)) d
+pub led-read : (s : List ℕ) (a e p : ℕ) (d : Lead) → a ≤ length s → Sought (is 10) s a e → Sought (other (either 32 9)) (take e s) a p → Gives (ledFrom p (drop p (take e s))) d → Gives (ledBy a (lineBytes houseMarks s a)) d
 unfolding ledBy
 led-read s a e p d h f g w =
     let i : a ≤ length (take e s) = omega (arith, length-take e s, f .low, f .high) in
@@ -324,14 +324,14 @@ line-front s a e h f = let z : min e (length s) ≡ e = omega (arith, f .high) i
 pub front-short : (s : List ℕ) (e : ℕ) → length s ≤ 4294967295 → length (take e s) ≤ 4294967295
 front-short s e h = omega (arith, length-take e s)
 
-module _ (s : List ℕ) (line : ℕ) (b : Begin) (g : Gives (lineAt 10 s line) (placesOf b)) where
+module _ (s : List ℕ) (line : ℕ) (b : Begin) (g : Gives (lineAt 10 s line) (beginsAt b)) where
   pub line-within : (a : ℕ) → b ≡ begin.At a → a ≤ length s
-  line-within a e = line-begun 10 s line a [] (sym (g .answer) ∙ ap placesOf e) .1
+  line-within a e = line-begun 10 s line a [] (sym (g .answer) ∙ ap beginsAt e) .1
 
-  pub line-there : (a : ℕ) (d : Led) → b ≡ begin.At a → Gives (ledBy a (lineBytes houseMarks s a)) d → Gives (lineLed s line) d
+  pub line-there : (a : ℕ) (d : Lead) → b ≡ begin.At a → Gives (ledBy a (lineBytes houseMarks s a)) d → Gives (lineLed s line) d
   unfolding lineLed
-  line-there a d e w = record { answer = w .answer ∙ sym (ap (ledAt s) (sym (g .answer) ∙ ap placesOf e)) }
+  line-there a d e w = record { answer = w .answer ∙ sym (ap (ledAt s) (sym (g .answer) ∙ ap beginsAt e)) }
 
   pub line-not : b ≡ begin.Nothing → Gives (lineLed s line) led.NoLine
   unfolding lineLed
-  line-not e = record { answer = sym (ap (ledAt s) (sym (g .answer) ∙ ap placesOf e)) }
+  line-not e = record { answer = sym (ap (ledAt s) (sym (g .answer) ∙ ap beginsAt e)) }

@@ -11,7 +11,7 @@ use cover::cursor::covering_end;
 use cover::shape::is_misshapen;
 use cover::shape::region_at;
 use feed::item::tested_place;
-use lines::Led;
+use lines::Lead;
 use lines::Lined;
 use lines::line_item;
 ghost use Rattle.search.specs.Promise.{Gives};
@@ -37,32 +37,32 @@ pub enum Explained {
 }
 
 // The place by which a region hides the line's item; 0 where the line has none.
-fn led_place(led: Led) -> usize
+fn led_place(led: Lead) -> usize
     ensures { λ r. ⌜ Gives (ledPlace led) r ⌝ }
 {
     match led {
-        Led::Item(i) => tested_place(i),
-        Led::NoLine => 0,
-        Led::NoLead => 0,
-        Led::TenDigits => 0,
-        Led::NoDelimiter => 0,
-        Led::NoBlank => 0,
+        Lead::Item(i) => tested_place(i),
+        Lead::NoLine => 0,
+        Lead::NoLead => 0,
+        Lead::TenDigits => 0,
+        Lead::NoDelimiter => 0,
+        Lead::NoBlank => 0,
     }
 }
 
 // The reason of a line by what leads it; where that is an item, by what a query of its place found, and the region at the query's index.
-fn reason_of(led: Led, cover: Cover, region: Span) -> Reason
+fn reason_of(led: Lead, cover: Cover, region: Span) -> Reason
     ensures { λ r. ⌜ Gives (reasonOf led cover region) r ⌝ }
 {
     let k = cover.index;
     let found = cover.found;
     match led {
-        Led::NoLine => Reason::NoLine,
-        Led::NoLead => Reason::NoLead,
-        Led::TenDigits => Reason::TenDigits,
-        Led::NoDelimiter => Reason::NoDelimiter,
-        Led::NoBlank => Reason::NoBlank,
-        Led::Item(_) => match found {
+        Lead::NoLine => Reason::NoLine,
+        Lead::NoLead => Reason::NoLead,
+        Lead::TenDigits => Reason::TenDigits,
+        Lead::NoDelimiter => Reason::NoDelimiter,
+        Lead::NoBlank => Reason::NoBlank,
+        Lead::Item(_) => match found {
             Found::At(_) => Reason::Hidden(k, region),
             Found::Nothing => Reason::OnSheet,
             Found::Refused(_) => Reason::OnSheet,

@@ -20,10 +20,10 @@ ghost use Rattle.common.specs.Items.{lineBytes};
 ghost use Rattle.common.specs.Grammars.{houseMarks};
 ghost use Rattle.common.specs.LineStarts.{lineAt};
 ghost use Rattle.explain.specs.Reasons.{ledFrom, ledBy, lineLed};
-ghost use Rattle.explain.specs.Parts.{placesOf, signLed, lineAnswer};
+ghost use Rattle.explain.specs.Parts.{beginsAt, signLed, lineAnswer};
 
 // What a line is by its bytes alone: not there; without an item, for a reason; or an item.
-pub enum Led {
+pub enum Lead {
     NoLine,
     NoLead,
     TenDigits,
@@ -34,7 +34,7 @@ pub enum Led {
 
 // That, or a refusal.
 pub enum Lined {
-    By(Led),
+    By(Lead),
     Refused(Refusal),
 }
 
@@ -46,7 +46,7 @@ enum Begin {
 
 // Where line `line` begins, counted from 1.
 fn line_begin(text: &[u8], line: usize) -> Begin
-    ensures { λ r. ⌜ Gives (lineAt 10 (now (text .entry)) line) (placesOf r) ⌝ }
+    ensures { λ r. ⌜ Gives (lineAt 10 (now (text .entry)) line) (beginsAt r) ⌝ }
 {
     if line == 0 {
         return Begin::Nothing;
@@ -66,15 +66,15 @@ fn line_begin(text: &[u8], line: usize) -> Begin
 }
 
 // What a marker or a delimiter at `j` leads, `line` being the text up to the line's end.
-fn sign_led(line: &[u8], j: usize, kind: u32, number: u32) -> Led
+fn sign_led(line: &[u8], j: usize, kind: u32, number: u32) -> Lead
     requires { ⌜ length (now line) ≤ 4294967295 ⌝ }
     ensures { λ r. ⌜ Gives (signLed (now (line .entry)) j kind number) r ⌝ }
 {
     if j >= line.len() {
-        return Led::NoBlank;
+        return Lead::NoBlank;
     }
     if blank_at(line, j + 1, Grammar::SEP, Grammar::TAB) {
-        return Led::Item(SheetItem {
+        return Lead::Item(SheetItem {
             start: (j + 2) as u32,
             end: line.len() as u32,
             kind,
@@ -82,11 +82,11 @@ fn sign_led(line: &[u8], j: usize, kind: u32, number: u32) -> Led
             number,
         });
     }
-    Led::NoBlank
+    Lead::NoBlank
 }
 
 // What digits from `p` on lead: nine are read at the most, so that a digit behind them is the tenth.
-fn number_led(line: &[u8], p: usize) -> Led
+fn number_led(line: &[u8], p: usize) -> Lead
     requires { ⌜ length (now line) ≤ 4294967295 ⌝ }
     requires { ⌜ digit (getD (now line) p 0) ≡ true ⌝ }
     ensures { λ r. ⌜ Gives (ledFrom p (drop p (now (line .entry)))) r ⌝ }
@@ -95,16 +95,16 @@ fn number_led(line: &[u8], p: usize) -> Led
     let j = read.end;
     let next = class(byte_at(line, j));
     if next == Grammar::DIGITS {
-        return Led::TenDigits;
+        return Lead::TenDigits;
     }
     if next == Grammar::DELIMITERS {
         return sign_led(line, j, 1, read.number);
     }
-    Led::NoDelimiter
+    Lead::NoDelimiter
 }
 
 // What leads a line from `p` on, where its separators and tabs end.
-fn body_led(line: &[u8], p: usize) -> Led
+fn body_led(line: &[u8], p: usize) -> Lead
     requires { ⌜ length (now line) ≤ 4294967295 ⌝ }
     ensures { λ r. ⌜ Gives (ledFrom p (drop p (now (line .entry)))) r ⌝ }
 {
@@ -115,11 +115,11 @@ fn body_led(line: &[u8], p: usize) -> Led
     if lead == Grammar::MARKERS {
         return sign_led(line, p, 0, 0);
     }
-    Led::NoLead
+    Lead::NoLead
 }
 
 // What leads the line that begins at `a`.
-fn led_at(text: &[u8], a: usize) -> Led
+fn led_at(text: &[u8], a: usize) -> Lead
     requires { ⌜ length (now text) ≤ 4294967295 ⌝ }
     requires { ⌜ a ≤ length (now text) ⌝ }
     ensures { λ r. ⌜ Gives (ledBy a (lineBytes houseMarks (now (text .entry)) a)) r ⌝ }
@@ -131,13 +131,13 @@ fn led_at(text: &[u8], a: usize) -> Led
 }
 
 // What leads line `line`, counted from 1, of a text that is not too long.
-fn line_led(text: &[u8], line: usize) -> Led
+fn line_led(text: &[u8], line: usize) -> Lead
     requires { ⌜ length (now text) ≤ 4294967295 ⌝ }
     ensures { λ r. ⌜ Gives (lineLed (now (text .entry)) line) r ⌝ }
 {
     match line_begin(text, line) {
         Begin::At(a) => led_at(text, a),
-        Begin::Nothing => Led::NoLine,
+        Begin::Nothing => Lead::NoLine,
     }
 }
 

@@ -1,11 +1,12 @@
 """Section 10: why a line isn't on the work sheet."""
 from itertools import product
 
-from .ask import commas, counted, flat, hexed
+from . import sheet, spans
+from .ask import commas, counted, hexed
 from .context import HOUSE
 
 NUMBER, NAME = 10, 'explain'
-# The Rust has no explanation: nothing of it is asked of the oracle but the regions of a text.
+# The Rust has no explanation: the oracle is asked for a text's regions, and for its sheet, to which the lines that are on it are held.
 ALTERED = ()
 ABOUT = """
 Explanations. Lines, blocks and sums are read as in section 1; a text's lines stand for its places, counted from
@@ -24,6 +25,8 @@ EOL, BLANKS, MARKERS, DELIMITERS, DIGITS = 10, b' \t', b'-*+', b'.)', b'01234567
 
 # dash, one, full stop, blank, line end, backtick
 TELLING = b'-1. \n`'
+# Lists that are made by hand, and the longest text of a block
+HANDMADE, LONGEST = ([], [0, 2], [1, 3], [2, 3, 3, 5]), 5
 
 
 def starts(text):
@@ -109,11 +112,19 @@ class Explainer:
             question = f'count {count}, regions {counted(numbers)}, text {counted(text)}, line {line}'
             self.listing.put('w', question, explained(text, numbers, count, line))
 
-    def house(self, text, lines=None):
-        numbers = self.built(text)
-        for line in range(len(starts(text)) + 2) if lines is None else lines:
+    def house(self, text):
+        numbers, shown = self.built(text), []
+        for line in range(len(starts(text)) + 2):
             answer = explained(text, numbers, len(numbers) // 2, line)
             self.listing.put('b', f'text {counted(text)}, line {line}', answer)
+            shown += [line] * (answer == [1, 0])
+        assert shown == self.sheet_lines(text, numbers), text
+
+    def sheet_lines(self, text, numbers):
+        """The lines that the sheet of the Rust's items has an item of."""
+        words = sheet.R.words((*sheet.HOUSE, tuple(zip(numbers[::2], numbers[1::2]))))
+        _, _, *items = self.listing.oracle.numbers(sheet.R.request, *words, hexed(text))
+        return [sum(start < content for start in starts(text)) for content in items[::5]]
 
     def block(self, letter, shown, length, answer):
         sums = Sums()
@@ -160,16 +171,16 @@ def refusals(listing, explainer):
 
 
 def notes(listing, explainer):
-    listing.comment('notes: every line by the list that is built')
-    for text in (b'~~~\n5. a\n~~~\n> 6. b\n7. c\n- d', b'1. `K7` set\n- <a\n2. b>\n', b'```\n- a\n', b'~~~\n- ', b'- a\n  * b\n\t+ c\n12) d\n',
+    listing.comment('notes, and the samples of the listing: every line by the list that is built')
+    for text in (*spans.PAGES, *spans.NOTES, b'~~~\n5. a\n~~~\n> 6. b\n7. c\n- d', b'1. `K7` set\n- <a\n2. b>\n', b'```\n- a\n', b'~~~\n- ', b'- a\n  * b\n\t+ c\n12) d\n',
                  b'<1. a\n- b\n\n- c>\n'):
         explainer.house(text)
 
 
 def blocks(listing, explainer):
     listing.comment('blocks: every text to five bytes, by lists that are given and by the list that is built')
-    for length in range(6):
-        for numbers in ([], [0, 2], [1, 3], [2, 3, 3, 5]):
+    for length in range(LONGEST + 1):
+        for numbers in HANDMADE:
             shown = f'count {len(numbers) // 2}, regions {counted(numbers)}, '
             explainer.block('W', shown, length, lambda text, numbers=numbers: (numbers, len(numbers) // 2))
         explainer.block('B', '', length, lambda text: ((found := explainer.built(text)), len(found) // 2))

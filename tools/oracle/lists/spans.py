@@ -18,6 +18,13 @@ a line is laid out, and the W lines, are the page's (document 01).
 TELLING = b'\n ~`>-1.'
 
 
+# The page's example, and its marked ones
+PAGES = b'', b'~~~', b'~~', b'a `b` c', b'\\`a`', b'<a\nb>', b'123456789. x', b'1234567890. x', b'> > a'
+# Nested quotes, tabs, empty content, hidden items, no last line end, bytes 0 and 255
+NOTES = (b'>>>\n> a\n', b'>\t> a', b'>>>>>>>>>> a', b'- ', b'1.\t', b'\t- a\n', b'`- a`', b'- `a`', b'<\n1. a>', b'- a\n- b',
+         b'~~~\n- a\n~~~\n- b', b'```\n1. a\n~~~', b'\0\xff', b'- \0\n1. \xff', b'0) a\n', b'007. a', b'> 1. a\n1. b')
+
+
 def make(listing):
     pages(listing)
     items(listing)
@@ -31,14 +38,13 @@ def ask(listing, text):
 
 def pages(listing):
     listing.comment('the page\'s example, and its marked ones')
-    for text in (b'', b'~~~', b'~~', b'a `b` c', b'\\`a`', b'<a\nb>', b'123456789. x', b'1234567890. x', b'> > a'):
+    for text in PAGES:
         ask(listing, text)
 
 
 def items(listing):
     listing.comment('nested quotes, tabs, empty content, hidden items, no last line end, bytes 0 and 255')
-    for text in (b'>>>\n> a\n', b'>\t> a', b'>>>>>>>>>> a', b'- ', b'1.\t', b'\t- a\n', b'`- a`', b'- `a`', b'<\n1. a>', b'- a\n- b',
-                 b'~~~\n- a\n~~~\n- b', b'```\n1. a\n~~~', b'\0\xff', b'- \0\n1. \xff', b'0) a\n', b'007. a', b'> 1. a\n1. b'):
+    for text in NOTES:
         ask(listing, text)
 
 

@@ -47,11 +47,11 @@ fn lines(text: &[u8]) -> impl Iterator<Item = (usize, usize)> + '_ {
 }
 
 fn reason(text: &[u8], (start, end): (usize, usize), all: &[Item], shown: &[Item], regions: &[Span]) -> Vec<u64> {
-    let is_here = |item: &&Item| (start..=end).contains(&item.content_start());
-    if shown.iter().find(is_here).is_some() {
+    let is_here = |item: &Item| (start..=end).contains(&item.content_start());
+    if shown.iter().any(is_here) {
         return vec![0, 0, 0, 0];
     }
-    match all.iter().find(is_here).and_then(|item| hider(item, regions)) {
+    match all.iter().find(|item| is_here(item)).and_then(|item| hider(item, regions)) {
         Some(k) => vec![6, k as u64, regions[k].start.into(), regions[k].end.into()],
         None => vec![lacking(&text[start..end]), 0, 0, 0],
     }
