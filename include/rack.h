@@ -118,10 +118,10 @@ uint32_t rack_build_rules(const uint8_t *text, size_t text_len, uint8_t eol, uin
 /* ---- the work sheet */
 
 /* The items of a text that no region hides, the regions being those that `rack_build` gives by these rules: marker items by a run of
- * accepted bytes, numbered items by a run of delimiters, by rising content start, the marker item first where two are equal. Item k
- * has five numbers from byte 20k of `out` on: its content's start and end, 0 for a marker item and 1 for a numbered one, the accepted
- * byte, the number (0 for a marker item); bytes behind the last item are as they were. One value: how many there are.
- * Refusals 1, 6, 3. */
+ * accepted bytes, numbered items by a run of delimiters, by rising content start, the marker item first where two are equal. A region
+ * hides an item where it holds the item's marker or delimiter; one that holds only its content doesn't. Item k has five numbers from
+ * byte 20k of `out` on: its content's start and end, 0 for a marker item and 1 for a numbered one, the accepted byte, the number (0
+ * for a marker item); bytes behind the last item are as they were. One value: how many there are. Refusals 1, 6, 3. */
 uint32_t rack_sheet(const uint8_t *text, size_t text_len, uint8_t eol, uint8_t escape, uint8_t sep, uint8_t tab,
                     const uint8_t *fences, size_t fences_len, const uint8_t *mins, size_t mins_len,
                     const uint8_t *symmetric, size_t symmetric_len, const uint8_t *times, size_t times_len,

@@ -13,10 +13,10 @@ use Rattle.search.specs.Promise.{Gives}
 use Rattle.search.specs.Search.{is, either, other, holds, find, Sought, back, lineStart, lineEnd, nextLine, afterLine}
 use Rattle.search.specs.SearchLaws.{decide, clash, and-true, is-no, holds-in, holds-true, find-ge, find-le, find-before, find-over, line-next}
 use Rattle.common.specs.Turn.{Turn, go, stop, found, allFound, None}
-use Rattle.common.specs.Turning.{Ahead, Adv, Covers}
+use Rattle.common.specs.Turning.{Ahead, Adv, Each, OnFound, Covers}
 use Rattle.common.specs.TurnLaws.{collect-covers}
 use Rattle.common.specs.Items.{ItemGrammar, grammar, blank, Apart, leading, beyond, leads, itemFrom, itemAt, itemsOf}
-use Rattle.common.specs.ItemLaws.{both, leading-is, beyond-is, leading-beyond, acceptedAt, from-drop, marked-tests, Parted, marked-parted, parted-marked, AtMost, most-from, Walked, walked, walked-is, start-after, AtLine, at-start, line-size, line-length, line-low, Led, led, led-find, led-walked, no-line, on-line, line-rest, line-reach, read-none, read-line, read-adv, read-items, hit-adv, hit-covers, blank-refused, accepted-blank, blank-inside, accepted-inside}
+use Rattle.common.specs.ItemLaws.{both, leading-is, beyond-is, leading-beyond, acceptedAt, from-drop, marked-tests, Parted, marked-parted, parted-marked, Heads, heads-at, heads-front, AtMost, most-from, Walked, walked, walked-is, start-after, AtLine, at-start, line-size, line-length, line-low, Led, led, led-find, led-walked, no-line, on-line, line-rest, line-reach, read-none, read-line, read-finds, read-adv, read-items, hit-adv, hit-finds, hit-covers, blank-refused, accepted-blank, blank-inside, accepted-inside}
 use Rattle.block_marker.specs.Marker.{mark, markLine, markers, streamHit, HitSays, streamTurn, lineTurn}
 use Rattle.block_marker.specs.declared.MarkerItem.{MarkerItem}
 
@@ -96,6 +96,27 @@ module _ (eol sep tab : ℕ) (t : ℕ → Bool) (s : List ℕ) (q : ℕ)
       }
 
 pub ruleset line-rules = (read-none, line-blank, line-passed, line-bare, line-found)
+
+-- ---- what either scan finds is headed by its marker, whatever the bytes are
+abbrev pub Marks : List ℕ → MarkerItem → Type 0
+Marks s i = Heads s (i .marker) (i .span .start)
+
+module _ (g : ItemGrammar) (s : List ℕ) (q : ℕ) where
+  pub stream-heads : OnFound (Marks s) (streamTurn g s q)
+  unfolding streamTurn
+  stream-heads =
+      hit-finds g (streamHit g s) s (Marks s) q
+      (λ p y. both (OnFound (Marks s)) (leads (g .eol) (g .sep) (g .tab) s p && holds (blank g) s (p + 1)) _ _
+      (λ v. heads-at s p (holds-true (blank g) s (p + 1) (and-true (leads (g .eol) (g .sep) (g .tab) s p) (holds (blank g) s (p + 1)) v .1) .0)) (λ v. tt))
+
+  pub line-heads : OnFound (Marks s) (lineTurn g s q)
+  line-heads =
+      let e = lineEnd (g .eol) s q in
+      let u = take e s in
+      let p = find (other (blank g)) u q in
+      read-finds g (markLine g) s (Marks s) q
+      (λ h. subst (Each (Marks s)) (sym (mark-search g u q p (line-low (g .eol) s q (omega arith)) refl))
+      (both (Each (Marks s)) (acceptedAt g u p) _ _ (λ v. (heads-front g s e p (line-length (g .eol) s q (omega arith)) v, tt)) (λ v. tt)))
 
 -- ---- every turn moves on within the text
 -- where an item's content lies that is found between q and n: behind its marker and the byte after that

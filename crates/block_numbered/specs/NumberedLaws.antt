@@ -14,10 +14,10 @@ use Rattle.search.specs.Search.{is, either, other, holds, find, Sought, back, l
 use Rattle.search.specs.SearchLaws.{decide, clash, and-true, is-no, either-true, other-yes, other-no, other-false, holds-in, holds-true, find-ge, find-le, find-before, find-at, find-is, find-end, find-over, back-le, line-next}
 use Rattle.decimal.specs.Decimal.{valued}
 use Rattle.common.specs.Turn.{go, stop, found, allFound}
-use Rattle.common.specs.Turning.{Ahead, Adv, Covers}
+use Rattle.common.specs.Turning.{Ahead, Adv, Each, OnFound, Covers}
 use Rattle.common.specs.TurnLaws.{collect-covers}
 use Rattle.common.specs.Items.{ItemGrammar, grammar, blank, leading, beyond, leads, itemFrom, itemAt, itemsOf}
-use Rattle.common.specs.ItemLaws.{both, other-true, leading-is, beyond-is, leading-beyond, acceptedAt, from-drop, marked-tests, Parted, marked-parted, parted-marked, AtMost, most-from, Walked, walked, walked-is, start-after, line-size, line-length, line-low, Led, led, led-find, led-walked, no-line, on-line, line-rest, line-reach, read-none, read-line, read-adv, read-items, hit-adv, hit-covers, blank-refused, accepted-blank, blank-inside, accepted-inside}
+use Rattle.common.specs.ItemLaws.{both, other-true, leading-is, beyond-is, leading-beyond, acceptedAt, from-drop, marked-tests, Parted, marked-parted, parted-marked, Heads, heads-at, heads-front, AtMost, most-from, Walked, walked, walked-is, start-after, line-size, line-length, line-low, Led, led, led-find, led-walked, no-line, on-line, line-rest, line-reach, read-none, read-line, read-finds, read-adv, read-items, hit-adv, hit-finds, hit-covers, blank-refused, accepted-blank, blank-inside, accepted-inside}
 use Rattle.block_numbered.specs.Numbered.{oneToNine, few, numbered, item, numberThen, numberFrom, numberLine, numbers, NoDigit, DigitsApart, streamHit, streamTurn, readDigits, readFrom, readLine, lineTurn, digitsAt}
 use Rattle.block_numbered.specs.DigitLaws.{few-none, few-some, one-to-nine, nine-yes, digits-small, leading-few, leading-many, drop-leading}
 use Rattle.block_numbered.specs.declared.NumberedItem.{NumberedItem}
@@ -177,6 +177,34 @@ module _ (eol sep tab : ℕ) (t : ℕ → Bool) (s : List ℕ) (q : ℕ)
       }
 
 pub ruleset line-rules = (read-none, line-digitless, line-short, line-passed, line-bare, line-found)
+
+-- ---- what either scan finds is headed by its delimiter, whatever the bytes are
+abbrev pub Delimits : List ℕ → NumberedItem → Type 0
+Delimits s i = Heads s (i .delimiter) (i .span .start)
+
+module _ (g : ItemGrammar) (s : List ℕ) (q : ℕ) where
+  hit-heads : (p n : ℕ) → OnFound (Delimits s) (streamHit g s p n)
+  hit-heads p n =
+      let led = leads (g .eol) (g .sep) (g .tab) s (p - n) in
+      let behind = holds (blank g) s (p + 1) in
+      both (OnFound (Delimits s)) (oneToNine n && (led && behind)) _ _
+      (λ v. heads-at s p (holds-true (blank g) s (p + 1) (and-true led behind (and-true (oneToNine n) (led && behind) v .1) .1) .0)) (λ v. tt)
+
+  pub stream-heads : OnFound (Delimits s) (streamTurn g s q)
+  unfolding streamTurn
+  stream-heads = hit-finds g (λ p. streamHit g s p (back digit s p)) s (Delimits s) q (λ p y. hit-heads p (back digit s p))
+
+  pub line-heads : OnFound (Delimits s) (lineTurn g s q)
+  line-heads =
+      let e = lineEnd (g .eol) s q in
+      let u = take e s in
+      let p = find (other (blank g)) u q in
+      let ds = readDigits (drop p u) in
+      let j = p + length ds in
+      read-finds g (readLine g) s (Delimits s) q
+      (λ h. subst (Each (Delimits s)) (sym (read-search g u q p (line-low (g .eol) s q (omega arith)) refl j refl))
+      (both (Each (Delimits s)) (oneToNine (length ds) && acceptedAt g u j) _ _
+      (λ v. (heads-front g s e j (line-length (g .eol) s q (omega arith)) (and-true (oneToNine (length ds)) (acceptedAt g u j) v .1), tt)) (λ v. tt)))
 
 -- ---- every turn moves on within the text
 -- where an item's content lies that is found between q and n, behind its delimiter and the byte after that; and how large its number is

@@ -1,5 +1,5 @@
 -- Laws of what all of a list have. Assumes nothing.
-use mathlib.Core.List.{List, [], _∷_, _++_}
+use mathlib.Core.List.{List, [], _∷_, _++_, map}
 use Prim.Native.Nat.{ℕ, zero, suc, _+_, _≤_, _<_}
 use native.Mathlib.Omega.{arith}
 use lib.ListN.{getD, set, take, drop, replicate}
@@ -66,3 +66,7 @@ module _ {A : Type 0} (P : A → Type 0) where
 pub each-as : {A : Type 0} (P Q : A → Type 0) → ((a : A) → P a → Q a) → (l : List A) → Each P l → Each Q l
 each-as P Q f [] w = tt
 each-as P Q f (a ∷ l) w = (f a (w .0), each-as P Q f l (w .1))
+
+pub each-map : {A B : Type 0} (P : B → Type 0) (f : A → B) (l : List A) → Each (λ a. P (f a)) l → Each P (map f l)
+each-map P f [] w = tt
+each-map P f (a ∷ l) w = (w .0, each-map P f l (w .1))

@@ -16,7 +16,7 @@ use Rattle.search.specs.SearchLaws.{decide, clash, and-true, is-true, either-tr
 use Rattle.common.specs.Sets.{acceptedFrom, accepted, probeOf, probe}
 use Rattle.common.specs.Refusals.{Outcome, refused}
 use Rattle.common.specs.Turn.{Turn, go, stop, found, allFound, None, yields, stepOf}
-use Rattle.common.specs.Turning.{Ahead, Adv, Covers}
+use Rattle.common.specs.Turning.{Ahead, Adv, Each, OnFound, Covers}
 use Rattle.common.specs.TurnLaws.{collect-covers}
 use Rattle.common.specs.Items.{ItemGrammar, blank, has, Apart, lineBytes, leading, beyond, itemFrom, lineFound, itemAt, itemsOf, readTurn, hitTurn, said, placeOf, answerBy, stateBy, stepFor}
 
@@ -173,6 +173,22 @@ module _ (g : ItemGrammar) where
       let y : getD (take e s) (p + 1) 0 ≡ getD s (p + 1) 0 = getD-take e s (p + 1) 0 m in
       rw (lt-ltb (p + 1) (length (take e s)) (omega arith), x, y, w .accepted, w .parted)
 
+-- ---- the byte that heads an item: x stands in the text two before the content's start
+pub record Heads (s : List ℕ) (x start : ℕ) : Type 0 where
+  pub low : 2 ≤ start
+  pub high : start ≤ length s
+  pub same : getD s (start - 2) 0 ≡ x
+
+pub heads-at : (s : List ℕ) (p : ℕ) → p + 1 < length s → Heads s (getD s p 0) (p + 2)
+heads-at s p h = record { low = omega arith; high = omega arith; same = let e : p + 2 - 2 ≡ p = omega arith in rw e }
+
+-- the one that a front of e bytes of the text accepts
+pub heads-front : (g : ItemGrammar) (s : List ℕ) (e p : ℕ) → length (take e s) ≡ e → acceptedAt g (take e s) p ≡ true → Heads s (getD (take e s) p 0) (p + 2)
+heads-front g s e p size y =
+    let m = marked-parted g s e p size y .inside in
+    let z : p + 1 < length s = omega (arith, length-take e s) in
+    rw (getD-take e s p 0 (omega arith)) (heads-at s p z)
+
 -- ---- a walk back from k to b: all bytes between pass a test, and the byte before them fails it
 pub record Walked (t : ℕ → Bool) (s : List ℕ) (k b : ℕ) : Type 0 where
   pub low : b ≤ k
@@ -295,6 +311,15 @@ module _ {A : Type 0} (g : ItemGrammar) (line : ℕ → List ℕ → List A) (s 
   unfolding readTurn
   read-line q e n l h w f m = simp (lt-ltb q (length s) h, ← (w .here), f, ← (m .answer))
 
+  -- what it finds has what the line's item has
+  pub read-finds : (P : A → Type 0) (q : ℕ) → (q < length s → Each P (line q (lineBytes g s q))) → OnFound P (readTurn g line s q)
+  unfolding readTurn
+  read-finds P q f = both (OnFound P) (ltb q (length s)) _ _ (λ u. by (line q (lineBytes g s q)) (f (ltb-true q (length s) u))) (λ u. tt)
+    where
+      by : (l : List A) → Each P l → OnFound P (lineFound l (afterLine (g .eol) s q))
+      by [] w = tt
+      by (x ∷ l) w = w .0
+
   -- the rest of a line has nothing
   pub line-rest : (a k : ℕ) → a ≤ length s → a ≤ k → None (itemAt g line s) (suc k) (afterLine (g .eol) s a)
   line-rest a k h m b l u = no-line b (line-one (g .eol) s a b (omega arith) (omega arith))
@@ -359,6 +384,12 @@ module _ {A : Type 0} (g : ItemGrammar) (hit : ℕ → Turn A) (s : List ℕ) wh
         both (Ahead Lies q (length s)) (ltb (find (g .accepts) s q) (length s)) _ _
         (λ u. ahead q (find (g .accepts) s q) (find-ge (g .accepts) s q) (ltb-true (find (g .accepts) s q) (length s) u)) (λ u. (omega arith, h));
   }
+
+  -- it finds what its hits find
+  pub hit-finds : (P : A → Type 0) (q : ℕ) → ((p : ℕ) → g .accepts (getD s p 0) ≡ true → OnFound P (hit p)) → OnFound P (hitTurn g hit s q)
+  hit-finds P q f =
+      let p = find (g .accepts) s q in
+      both (OnFound P) (ltb p (length s)) _ _ (λ u. f p (find-at (g .accepts) s q (ltb-true p (length s) u))) (λ u. tt)
 
   -- it answers for the places that it passes, if each hit does, and none is left where there is no hit
   pub hit-covers : (at : ℕ → List A) (Inv : ℕ → Type 0)

@@ -18,7 +18,7 @@ use Rattle.common.specs.Sets.{probe, accepted}
 use Rattle.common.specs.Refusals.{Outcome, given, refused, tooLong, past}
 use Rattle.common.specs.RefusalLaws.{told-unique}
 use Rattle.common.specs.Turn.{Turn, thenScan, thenCollect, firstTurn, allFound, stepOf, thenDrain, drain, yields}
-use Rattle.common.specs.Turning.{Adv, Leads, Finds}
+use Rattle.common.specs.Turning.{Adv, Leads, OnFound, Finds}
 use Rattle.common.specs.TurnLaws.{by-turn, by-last, last-fits, scan-turn, collect-scan, scan-ends, drain-answers, answers-take}
 use Rattle.common.specs.Items.{ItemGrammar, grammar, has, lineBytes, lineFound, readTurn, hitTurn, said, placeOf, stepFor}
 use Rattle.common.specs.ItemLaws.{both, of-cond, needle-set, step-long, step-past, step-served, step-seen, step-taken}
@@ -75,6 +75,12 @@ module _ {S A : Type 0} (c : Scanner S A) (g : S) (set : List Bool) (s : List �
       by : (l : List A) (n : ℕ) → ofTurn c g set s (lineFound l n) ≡ ofLine c g set s l n
       by [] n = refl
       by (a ∷ l) n = refl
+
+-- what the turns of both scans find by every grammar, the turn finds that the state chooses
+pub turn-finds : {S A : Type 0} (c : Scanner S A) (P : A → Type 0) (s : List ℕ) (q : ℕ) → ((r : ItemGrammar) → OnFound P (c .streams r s q)) → ((r : ItemGrammar) → OnFound P (c .lines r s q))
+    → (g : S) (set : List Bool) → OnFound P (turn c g set s q)
+unfolding turn
+turn-finds {A = A} c P s q v w g set = both (λ (t : ℕ → Turn A). OnFound P (t q)) (c .fields g .streaming) _ _ (λ u. v (byNeedles (c .fields g))) (λ u. w (bySet (c .fields g) set))
 
 -- two results that keep one promise of a step are equal, where `back` reads an answer back from what it says, and `make` makes a result
 pub step-unique : {F S R : Type 0} (told : F → Outcome) (back : Outcome → F) → ((f : F) → back (told f) ≡ f) → (make : F → S → R) → {o : Outcome} {g : S} {f f′ : F} {n n′ : S}

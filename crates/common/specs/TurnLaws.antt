@@ -95,6 +95,17 @@ module _ {A : Type 0} {Lies : ℕ → ℕ → A → Type 0} {step : ℕ → Turn
   collect-each P g (suc f) q h =
       by-turn (λ t. Each P (thenCollect (collect step f) t)) q h (λ n m i. collect-each P g f n i) (λ v m i. tt) (λ a n m i w. (g q n a i w, collect-each P g f n i))
 
+-- what each turn says of the thing that it finds holds of all
+pub turns-each : {A : Type 0} (P : A → Type 0) (step : ℕ → Turn A) → ((q : ℕ) → OnFound P (step q)) → (f q : ℕ) → Each P (collect step f q)
+unfolding collect
+turns-each P step w zero q = tt
+turns-each {A} P step w (suc f) q = by (turns-each P step w f) (step q) (w q)
+  where
+    by : ((n : ℕ) → Each P (collect step f n)) → (t : Turn A) → OnFound P t → Each P (thenCollect (collect step f) t)
+    by ih (go n) v = ih n
+    by ih (stop n) v = tt
+    by ih (found a n) v = (v, ih n)
+
 -- ---- the turn that a scan ends with
 module _ {A : Type 0} (step : ℕ → Turn A) (P : ℕ → Type 0) (Q : Turn A → Type 0) (leads : (q : ℕ) → P q → Leads P Q (step q)) (none : (q : ℕ) → P q → Q (stop q)) where
   pub scan-ends : (f q : ℕ) → P q → Q (scan step f q)

@@ -3,7 +3,7 @@
 -- are equal.", and of an item "kind (0 marker, 1 numbered), accepted byte, number (0 for a marker)".
 use mathlib.Core.Bool.{Bool, true, false}
 use mathlib.Core.List.{List, [], _∷_, map}
-use Prim.Native.Nat.{ℕ}
+use Prim.Native.Nat.{ℕ, zero, suc}
 use lib.Dec.{ltb}
 use Rattle.common.specs.declared.grammar.Grammar.{Grammar}
 use Rattle.block_marker.specs.Marker as marker
@@ -44,6 +44,14 @@ merge [] ys = ys
 merge (x ∷ xs) [] = x ∷ xs
 merge (x ∷ xs) (y ∷ ys) = elim (ltb (y .start) (x .start)) [ true ↦ y ∷ merge (x ∷ xs) ys | false ↦ x ∷ merge xs (y ∷ ys) ]
 
--- the place by which a region hides an item: its "content start"
+-- ---- the place by which a region hides an item
+-- two places before one; 0 where there are no two
+abbrev pub twoBefore : ℕ → ℕ
+twoBefore (suc (suc p)) = p
+twoBefore (suc zero) = 0
+twoBefore zero = 0
+
+-- request 2: "Test the marker byte for marker items and the delimiter byte for numbered ones." That byte stands two before the content's
+-- start, by every grammar and in both scans (`tested-byte`, TestedLaws.antt)
 abbrev pub testedPlace : SheetItem → ℕ
-testedPlace i = i .start
+testedPlace i = twoBefore (i .start)

@@ -3,3 +3,4 @@ pub mod Ahead
 pub mod Feeds
 pub mod FeedLaws
 pub mod HouseLaws
+pub mod TestedLaws

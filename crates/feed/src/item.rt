@@ -11,9 +11,13 @@ pub struct SheetItem {
     pub number: u32,
 }
 
-// Where a region hides the item, whatever else of the item it holds: its content's start.
+// Where a region hides the item, whatever else of the item it holds: its marker or delimiter, which one blank parts from the content. The
+// scanners' items start at 2 or later; a handmade one that starts before is tested at place 0.
 pub fn tested_place(item: SheetItem) -> usize
     ensures { λ r. ⌜ Gives (testedPlace item) r ⌝ }
 {
-    item.start as usize
+    if item.start < 2 {
+        return 0;
+    }
+    (item.start - 2) as usize
 }

@@ -5,23 +5,23 @@ use mathlib.Core.List.{List, [], _∷_}
 use mathlib.Core.Logic.{_⊎_, inl, inr}
 use Prim.Native.Nat.{ℕ, _+_, _-_, _<_}
 use native.Mathlib.Omega.{arith}
-use lib.Dec.{eqb, ltb}
-use lib.ListN.{length, getD, take}
-use borrow.Author.Tests.{ltb-true, eqb-true}
+use lib.Dec.{eqb}
+use lib.ListN.{getD, take}
+use borrow.Author.Tests.{eqb-true}
 use Rattle.common.specs.Rules.{tabulate}
-use Rattle.search.specs.Search.{find, oneOf, back, holds, digit}
-use Rattle.search.specs.SearchLaws.{decide, clash, find-at}
+use Rattle.search.specs.Search.{oneOf, back, holds, digit}
+use Rattle.search.specs.SearchLaws.{decide, clash}
 use Rattle.common.specs.Sets.{acceptedFrom, houseMarkers, houseDelims}
-use Rattle.common.specs.Items.{ItemGrammar, blank, leads, hitTurn}
+use Rattle.common.specs.Items.{blank, leads}
 use Rattle.common.specs.Scanning.{Scanner, byNeedles, turn}
-use Rattle.common.specs.ItemLaws.{both}
+use Rattle.common.specs.ItemLaws.{both, hit-finds}
 use Rattle.common.specs.Turn.{Turn}
 use Rattle.common.specs.Turning.{Each, OnFound}
 use Rattle.block_marker.specs.Marker as marker
 use Rattle.block_marker.specs.declared.MarkerItem.{MarkerItem}
 use Rattle.block_numbered.specs.Numbered as numbered
 use Rattle.block_numbered.specs.declared.NumberedItem.{NumberedItem}
-use Rattle.feed.specs.Items.{merge, testedPlace}
+use Rattle.feed.specs.Items.{testedPlace}
 use Rattle.sheet.specs.Sheet.{inside, outside}
 use Rattle.feed.specs.declared.item.SheetItem.{SheetItem}
 
@@ -65,17 +65,12 @@ streams-find : {S A : Type 0} (c : Scanner S A) (P : A → Type 0) (g : S) (set 
 unfolding turn
 streams-find {A = A} c P g set s q e w = both (λ (t : ℕ → Turn A). OnFound P (t q)) (c .fields g .streaming) _ _ (λ u. w) (λ u. absurd (clash e u))
 
-hit-finds : {A : Type 0} (g : ItemGrammar) (hit : ℕ → Turn A) (P : A → Type 0) (s : List ℕ) (q : ℕ) → ((p : ℕ) → g .accepts (getD s p 0) ≡ true → OnFound P (hit p)) → OnFound P (hitTurn g hit s q)
-hit-finds g hit P s q f =
-    let p = find (g .accepts) s q in
-    both (OnFound P) (ltb p (length s)) _ _ (λ u. f p (find-at (g .accepts) s q (ltb-true p (length s) u))) (λ u. tt)
-
 pub mark-byte : (s : List ℕ) (q : ℕ) → OnFound Mark (turn marker.scanner (marker.fresh 10 32 9 houseMarkers) houseMarkers s q)
 unfolding marker.streamTurn
 mark-byte s q =
     let g = byNeedles (marker.scanner .fields (marker.fresh 10 32 9 houseMarkers)) in
     streams-find marker.scanner Mark (marker.fresh 10 32 9 houseMarkers) houseMarkers s q mark-streams
-    (hit-finds g (marker.streamHit g s) Mark s q (λ p y. both (OnFound Mark) (leads (g .eol) (g .sep) (g .tab) s p && holds (blank g) s (p + 1)) _ _ (λ v. mark-needles (getD s p 0) y) (λ v. tt)))
+    (hit-finds g (marker.streamHit g s) s Mark q (λ p y. both (OnFound Mark) (leads (g .eol) (g .sep) (g .tab) s p && holds (blank g) s (p + 1)) _ _ (λ v. mark-needles (getD s p 0) y) (λ v. tt)))
 
 pub number-byte : (s : List ℕ) (q : ℕ) → OnFound Delimiter (turn numbered.scanner (numbered.fresh 10 32 9 houseDelims) houseDelims s q)
 unfolding numbered.streamTurn
@@ -83,21 +78,11 @@ number-byte s q =
     let g = byNeedles (numbered.scanner .fields (numbered.fresh 10 32 9 houseDelims)) in
     let digits = back digit s in
     streams-find numbered.scanner Delimiter (numbered.fresh 10 32 9 houseDelims) houseDelims s q number-streams
-    (hit-finds g (λ p. numbered.streamHit g s p (back digit s p)) Delimiter s q
+    (hit-finds g (λ p. numbered.streamHit g s p (back digit s p)) s Delimiter q
     (λ p y. both (OnFound Delimiter) (numbered.oneToNine (digits p) && (leads (g .eol) (g .sep) (g .tab) s (p - digits p) && holds (blank g) s (p + 1))) _ _ (λ v. number-needles (getD s p 0) y) (λ v. tt)))
 
 -- ---- what all items have, those of a sheet have
 module _ (P : SheetItem → Type 0) where
-  pub each-merge : (a b : List SheetItem) → Each P a → Each P b → Each P (merge a b)
-  unfolding merge
-  each-merge [] b v w = w
-  each-merge (x ∷ a) [] v w = v
-  each-merge (x ∷ a) (y ∷ b) v w = by (each-merge (x ∷ a) b v (w .1)) (each-merge a (y ∷ b) (v .1) w) (decide (ltb (y .start) (x .start)))
-    where
-      by : Each P (merge (x ∷ a) b) → Each P (merge a (y ∷ b)) → (ltb (y .start) (x .start) ≡ true) ⊎ (ltb (y .start) (x .start) ≡ false) → Each P (merge (x ∷ a) (y ∷ b))
-      by f g (inl u) = rw (u, merge) (w .0, f)
-      by f g (inr u) = rw (u, merge) (v .0, g)
-
   pub each-outside : (regions : List (List ℕ)) (l : List SheetItem) → Each P l → Each P (outside regions l)
   unfolding outside
   each-outside regions [] w = tt

@@ -12,10 +12,10 @@ use Rattle.decimal.specs.Decimal.{decimal}
 use Rattle.decimal.specs.DecimalLaws.{decimal-few}
 use Rattle.common.specs.Entry.{flatten, rows, wide}
 use Rattle.common.specs.Refusals.{spanValues}
-use Rattle.common.specs.Turn.{Turn, go, stop, found, thenCollect, collect}
-use Rattle.common.specs.Turning.{Adv, Each, OnFound}
-use Rattle.common.specs.EachLaws.{each-as}
-use Rattle.common.specs.TurnLaws.{by-turn, collect-each}
+use Rattle.common.specs.Turn.{Turn, thenCollect, collect}
+use Rattle.common.specs.Turning.{Adv, Each}
+use Rattle.common.specs.EachLaws.{each-as, each-map}
+use Rattle.common.specs.TurnLaws.{by-turn, collect-each, turns-each}
 use Rattle.common.specs.ItemLaws.{both}
 use Rattle.region.specs.Region.{Caused, InOrder, rowOf}
 use Rattle.region.specs.Ahead.{regions-in-order}
@@ -41,7 +41,8 @@ use Rattle.common.specs.Sets.{houseMarkers, houseDelims}
 use Rattle.listing.specs.Listing.{houseGram, houseFence, houseFraming, houseRegions, regionLines, fenceFields, fenceLinesOf, frameLines, itemLinesOf, markerLines, numberedLines, sheetRow, houseSheet, sheetLines, entries, printed}
 use Rattle.listing.specs.FoundLaws.{few-regions, few-shown}
 use Rattle.listing.specs.FrameSize.{Inside, frames-inside, frames-few}
-use Rattle.listing.specs.ItemSize.{Mark, Delimiter, mark-byte, number-byte, each-merge, each-outside}
+use Rattle.listing.specs.ItemSize.{Mark, Delimiter, mark-byte, number-byte, each-outside}
+use Rattle.feed.specs.TestedLaws.{each-merge}
 
 -- ---- lines
 field-most : (d n : ℕ) → length (decimal n) ≤ d → length (field n) ≤ suc d
@@ -88,24 +89,9 @@ module _ {A : Type 0} {Lies : ℕ → ℕ → A → Type 0} {step : ℕ → Turn
   found-few (suc f) q h =
       by-turn adv (λ t. length (thenCollect (collect step f) t) + q ≤ len) q h (λ n m i. omega (arith, found-few f n i)) (λ v m i. omega arith) (λ a n m i w. omega (arith, found-few f n i))
 
--- what each turn says of the thing that it finds holds of all
-collect-found : {A : Type 0} (P : A → Type 0) (step : ℕ → Turn A) → ((q : ℕ) → OnFound P (step q)) → (f q : ℕ) → Each P (collect step f q)
-unfolding collect
-collect-found P step w zero q = tt
-collect-found {A} P step w (suc f) q = by (collect-found P step w f) (step q) (w q)
-  where
-    by : ((n : ℕ) → Each P (collect step f n)) → (t : Turn A) → OnFound P t → Each P (thenCollect (collect step f) t)
-    by ih (go n) v = ih n
-    by ih (stop n) v = tt
-    by ih (found a n) v = (v, ih n)
-
 each-both : {A : Type 0} (P Q : A → Type 0) (l : List A) → Each P l → Each Q l → Each (λ a. P a × Q a) l
 each-both P Q [] v w = tt
 each-both P Q (a ∷ l) v w = ((v .0, w .0), each-both P Q l (v .1) (w .1))
-
-each-map : {A B : Type 0} (P : B → Type 0) (f : A → B) (l : List A) → Each (λ a. P (f a)) l → Each P (map f l)
-each-map P f [] w = tt
-each-map P f (a ∷ l) w = (w .0, each-map P f l (w .1))
 
 -- the lines of an item scanner's items, where none is longer than m
 items-most : {S A : Type 0} {c : Scanner S A} {Lies : ℕ → ℕ → A → Type 0} (w : Lawful c Lies) (letter m : ℕ) (house : List Bool) (s : List ℕ) (P : A → Type 0)
@@ -150,7 +136,7 @@ module _ (s : List ℕ) (h : length s ≤ 8192) where
       let l = marker.items g houseMarkers s in
       let In : MarkerItem → Type 0 = λ i. (i .span .start ≤ 8192) × (i .span .end ≤ 8192) in
       each-as (λ i. In i × Mark i) (λ i. (i .span .start ≤ 8192) × (i .span .end ≤ 8192) × (i .marker < 256)) (λ i w. (w .0 .0, w .0 .1, w .1)) l
-      (each-both In Mark l (collect-each (turn-adv markerRun.lawful g houseMarkers s) In (λ q n i k w. (omega arith, omega arith)) (suc (length s)) 0 (omega arith)) (collect-found Mark (turn marker.scanner g houseMarkers s) (mark-byte s) (suc (length s)) 0))
+      (each-both In Mark l (collect-each (turn-adv markerRun.lawful g houseMarkers s) In (λ q n i k w. (omega arith, omega arith)) (suc (length s)) 0 (omega arith)) (turns-each Mark (turn marker.scanner g houseMarkers s) (mark-byte s) (suc (length s)) 0))
 
   numbers-fit : Each (λ i. (i .span .start ≤ 8192) × (i .span .end ≤ 8192) × (i .delimiter < 256) × (i .number < 1000000000)) (numbered.items (numbered.fresh 10 32 9 houseDelims) houseDelims s)
   numbers-fit =
@@ -159,7 +145,7 @@ module _ (s : List ℕ) (h : length s ≤ 8192) where
       let In : NumberedItem → Type 0 = λ i. (i .span .start ≤ 8192) × (i .span .end ≤ 8192) × (i .number < 1000000000) in
       each-as (λ i. In i × Delimiter i) (λ i. (i .span .start ≤ 8192) × (i .span .end ≤ 8192) × (i .delimiter < 256) × (i .number < 1000000000)) (λ i w. (w .0 .0, w .0 .1, w .1, w .0 .2)) l
       (each-both In Delimiter l (collect-each (turn-adv numberedRun.lawful g houseDelims s) In (λ q n i k w. (omega arith, omega arith, omega arith)) (suc (length s)) 0 (omega arith))
-      (collect-found Delimiter (turn numbered.scanner g houseDelims s) (number-byte s) (suc (length s)) 0))
+      (turns-each Delimiter (turn numbered.scanner g houseDelims s) (number-byte s) (suc (length s)) 0))
 
   marker-most : length (markerLines s) ≤ 131072
   unfolding markerLines

@@ -1,33 +1,32 @@
 -- Runs of the entries of both scanners of items: a host that makes a state by `new` and steps it until no value comes reads exactly the page's items. Assumes nothing.
 -- The page: "each step takes a state and gives the answer with the next state", and "From place 0 the streaming and line scans are proved to yield the same items".
-use mathlib.Core.Path.{_≡_, refl, ap, _∙_}
-use mathlib.Core.Bool.{Bool, true, false, _&&_}
-use mathlib.Core.List.{List, [], _∷_}
-use Prim.Native.Nat.{ℕ, _+_, _-_, _≤_}
+use mathlib.Core.Path.{_≡_, refl, ap, subst, _∙_}
+use mathlib.Core.Bool.{Bool}
+use mathlib.Core.List.{List, []}
+use Prim.Native.Nat.{ℕ, _-_, _≤_}
 use native.Mathlib.Omega.{arith}
-use lib.Dec.{ltb}
-use lib.ListN.{length, take, drop}
-use Rattle.search.specs.Search.{find, holds, oneOf, back, lineEnd, afterLine, digit}
-use Rattle.common.specs.Items.{ItemGrammar, grammar, blank, has, Apart, leads, lineBytes, leading, beyond, itemFrom, lineFound, readTurn, stepFor}
-use Rattle.common.specs.ItemLaws.{both}
+use lib.ListN.{length, take}
+use Rattle.search.specs.Search.{oneOf}
+use Rattle.common.specs.Items.{grammar, has, Apart, stepFor}
+use Rattle.common.specs.ItemLaws.{Heads}
 use Rattle.common.specs.Scanning as scanning
 use Rattle.common.specs.Scanning.{Scanner}
-use Rattle.common.specs.ScanningLaws.{Lawful, turn-adv, step-inside, run}
+use Rattle.common.specs.ScanningLaws.{Lawful, turn-adv, turn-finds, step-inside, run}
 use Rattle.common.specs.Sets.{setOf, accepted}
 use Rattle.common.specs.TableLaws.{length-tabulate}
 use Rattle.common.specs.Turn.{Turn, go, stop, found, drain}
-use Rattle.common.specs.Turning.{Ahead, Adv, OnFound, Each}
+use Rattle.common.specs.Turning.{Ahead, Adv, OnFound}
 use Rattle.block_marker.specs.declared.BlockMarkerIter.{BlockMarkerIter}
-use Rattle.block_marker.specs.declared.MarkerItem.{MarkerItem}
 use Rattle.block_marker.specs.Marker as marker
+use Rattle.block_marker.specs.MarkerLaws as marks
 use Rattle.block_marker.specs.MarkerRun.{lawful as marker-lawful, fresh-items as marker-items}
 use Rattle.block_numbered.specs.declared.BlockNumberedIter.{BlockNumberedIter}
-use Rattle.block_numbered.specs.declared.NumberedItem.{NumberedItem}
 use Rattle.block_numbered.specs.Numbered as numbered
+use Rattle.block_numbered.specs.NumberedLaws as numbers
 use Rattle.block_numbered.specs.NumberedRun.{lawful as numbered-lawful, fresh-items as numbered-items}
 use Rattle.panel.specs.State.{Made, Stepped, itemLimits, itemShow, itemRead, itemStepper, markerCells, markerFrom, markerStepper, numberedCells, numberedFrom, numberedStepper}
 use Rattle.panel.specs.Back.{Holds, Byte, ByteRun, valuesIn}
-use Rattle.common.specs.EachLaws.{each-getD, each-take, each-drop}
+use Rattle.common.specs.EachLaws.{each-getD}
 use Rattle.panel.specs.BackLaws.{ItemHeld, made-back, item-small, item-fresh, item-next}
 use Rattle.panel.specs.RunLaws.{StepReady, Fit, fit-each, said-has, hosted-run}
 
@@ -68,45 +67,13 @@ module _ {S A : Type 0} {c : Scanner S A} {Lies : ℕ → ℕ → A → Type 0} 
       hosted-run (itemStepper c set) item-small (c .back) s run₀ short In item-ready item-on after reply number keeps n g (h, i) state held
       ∙ run w set s short g (λ k. scanning.answer c k set s) (λ k. scanning.state c k set s) (λ q j. record { answer = refl; next = refl }) n i
 
--- ---- the bytes that items have are the text's
-beyond-bytes : (t : ℕ → Bool) (l : List ℕ) → Each Byte l → Each Byte (beyond t l)
-unfolding beyond
-beyond-bytes t [] v = tt
-beyond-bytes t (x ∷ l) v = by (t x) (beyond-bytes t l (v .1))
-  where
-    by : (y : Bool) → Each Byte (beyond t l) → Each Byte (elim y [ true ↦ beyond t l | false ↦ x ∷ l ])
-    by true u = u
-    by false u = v
+-- ---- the byte that heads an item is one of the text's
+module _ (s : List ℕ) (text : ByteRun s) where
+  head-byte : (x start : ℕ) → Heads s x start → Byte x
+  head-byte x start w = subst Byte (w .same) (each-getD Byte s 0 text (omega arith) (start - 2))
 
-from-byte : {A : Type 0} (P : A → Type 0) (g : ItemGrammar) (make : ℕ → ℕ → ℕ → A) (k n : ℕ) (l : List ℕ) → ((x a e : ℕ) → Byte x → P (make x a e)) → Each Byte l → OnFound P (lineFound (itemFrom g make k l) n)
-from-byte P g make k n [] h v = tt
-from-byte P g make k n (x ∷ []) h v = tt
-from-byte P g make k n (x ∷ y ∷ l) h v = both (λ r. OnFound P (lineFound r n)) (g .accepts x && blank g y) (make x (k + 2) (k + 2 + length l) ∷ []) [] (λ u. h x (k + 2) (k + 2 + length l) (v .0)) (λ u. tt)
-
-line-bytes : (g : ItemGrammar) (s : List ℕ) (q : ℕ) → ByteRun s → Each Byte (lineBytes g s q)
-line-bytes g s q v = each-drop Byte q (take (lineEnd (g .eol) s q) s) (each-take Byte (lineEnd (g .eol) s q) s v)
-
--- ---- the marker scanner
-module _ (s : List ℕ) (bytes : ByteRun s) where
-  abbrev ByteMarked : MarkerItem → Type 0
-  ByteMarked i = Byte (i .marker)
-
-  marker-streams : (g : ItemGrammar) (q : ℕ) → OnFound ByteMarked (marker.streamTurn g s q)
-  unfolding marker.streamTurn
-  marker-streams g q =
-      let p = find (g .accepts) s q in
-      both (OnFound ByteMarked) (ltb p (length s)) _ _
-      (λ u. both (OnFound ByteMarked) (leads (g .eol) (g .sep) (g .tab) s p && holds (blank g) s (p + 1)) _ _ (λ v. each-getD Byte s 0 bytes (omega arith) p) (λ v. tt))
-      (λ u. tt)
-
-  marker-reads : (g : ItemGrammar) (q : ℕ) → OnFound ByteMarked (marker.lineTurn g s q)
-  unfolding readTurn marker.markLine
-  marker-reads g q =
-      both (OnFound ByteMarked) (ltb q (length s)) _ _ (λ u. from-byte ByteMarked g marker.mark _ _ (beyond (blank g) (lineBytes g s q)) (λ x a e h. h) (beyond-bytes (blank g) (lineBytes g s q) (line-bytes g s q bytes))) (λ u. tt)
-
-  marker-turns : (set : List Bool) (g : BlockMarkerIter) (q : ℕ) → OnFound ByteMarked (scanning.turn marker.scanner g set s q)
-  unfolding scanning.turn
-  marker-turns set g q = both (λ (t : ℕ → Turn MarkerItem). OnFound ByteMarked (t q)) (g .streaming) _ _ (λ u. marker-streams _ q) (λ u. marker-reads _ q)
+  marker-turns : (set : List Bool) (g : BlockMarkerIter) (q : ℕ) → OnFound (marks.Marks s) (scanning.turn marker.scanner g set s q)
+  marker-turns set g q = turn-finds marker.scanner (marks.Marks s) s q (λ r. marks.stream-heads r s q) (λ r. marks.line-heads r s q) g set
 
   -- a state run that `new` wrote, stepped by an entry that keeps its promise, gives the marker items of the text's lines
   pub marker-run : (eol sep tab : ℕ) (bytes run₀ : List ℕ) → eol ≤ 255 → sep ≤ 255 → tab ≤ 255 → length s ≤ 4294967295 → 16 ≤ length run₀ → (length (accepted (setOf bytes)) ≤ 3 → Apart (grammar eol sep tab (has (setOf bytes))))
@@ -116,39 +83,13 @@ module _ (s : List ℕ) (bytes : ByteRun s) where
   marker-run eol sep tab bytes run₀ a b c short room apart first state made after reply number keeps n =
       let g = marker.fresh eol sep tab (setOf bytes) in
       let h = item-fresh marker-lawful eol sep tab (setOf bytes) a b c in
-      items-run marker-lawful (λ q n m i h l. (l .0, l .1, omega arith)) ByteMarked (setOf bytes) s run₀ short (omega arith) (marker-turns (setOf bytes))
-      (λ q n i h l v. fit-each run₀ (marker.values i) room (omega arith) (omega arith, (omega arith, (omega arith, tt)))) g h (omega arith) state
+      items-run marker-lawful (λ q n m i h l. (l .0, l .1, omega arith)) (marks.Marks s) (setOf bytes) s run₀ short (omega arith) (marker-turns (setOf bytes))
+      (λ q n i h l v. fit-each run₀ (marker.values i) room (omega arith) (omega arith, (omega arith, (omega (arith, head-byte (i .marker) (i .span .start) v), tt)))) g h (omega arith) state
       (made-back markerFrom markerCells itemLimits item-small g h first state made) after reply number keeps n
       ∙ ap (take n) (marker-items (setOf bytes) s eol sep tab (length-tabulate (oneOf bytes) 256 0) apart)
 
--- ---- the numbered scanner
-module _ (s : List ℕ) (bytes : ByteRun s) where
-  abbrev ByteDelimited : NumberedItem → Type 0
-  ByteDelimited i = Byte (i .delimiter)
-
-  numbered-hits : (g : ItemGrammar) (p k : ℕ) → OnFound ByteDelimited (numbered.streamHit g s p k)
-  numbered-hits g p k = both (OnFound ByteDelimited) (numbered.oneToNine k && (leads (g .eol) (g .sep) (g .tab) s (p - k) && holds (blank g) s (p + 1))) _ _ (λ v. each-getD Byte s 0 bytes (omega arith) p) (λ v. tt)
-
-  numbered-streams : (g : ItemGrammar) (q : ℕ) → OnFound ByteDelimited (numbered.streamTurn g s q)
-  unfolding numbered.streamTurn
-  numbered-streams g q = both (OnFound ByteDelimited) (ltb (find (g .accepts) s q) (length s)) _ _ (λ u. numbered-hits g (find (g .accepts) s q) (back digit s (find (g .accepts) s q))) (λ u. tt)
-
-  numbered-then : (g : ItemGrammar) (ds : List ℕ) (k n : ℕ) (l : List ℕ) → Each Byte l → OnFound ByteDelimited (lineFound (numbered.numberThen g ds k l) n)
-  numbered-then g ds k n l v =
-      both (λ (r : List NumberedItem). OnFound ByteDelimited (lineFound r n)) (numbered.oneToNine (length ds)) (itemFrom g (numbered.numbered ds) k l) [] (λ u. from-byte ByteDelimited g (numbered.numbered ds) k n l (λ x a e h. h) v) (λ u. tt)
-
-  numbered-reads : (g : ItemGrammar) (q : ℕ) → OnFound ByteDelimited (numbered.lineTurn g s q)
-  unfolding readTurn numbered.readLine
-  numbered-reads g q =
-      let l = lineBytes g s q in
-      let r = beyond (blank g) l in
-      let ds = numbered.readDigits r in
-      both (OnFound ByteDelimited) (ltb q (length s)) _ _
-      (λ u. numbered-then g ds (q + length (leading (blank g) l) + length ds) (afterLine (g .eol) s q) (drop (length ds) r) (each-drop Byte (length ds) r (beyond-bytes (blank g) l (line-bytes g s q bytes)))) (λ u. tt)
-
-  numbered-turns : (set : List Bool) (g : BlockNumberedIter) (q : ℕ) → OnFound ByteDelimited (scanning.turn numbered.scanner g set s q)
-  unfolding scanning.turn
-  numbered-turns set g q = both (λ (t : ℕ → Turn NumberedItem). OnFound ByteDelimited (t q)) (g .streaming) _ _ (λ u. numbered-streams _ q) (λ u. numbered-reads _ q)
+  numbered-turns : (set : List Bool) (g : BlockNumberedIter) (q : ℕ) → OnFound (numbers.Delimits s) (scanning.turn numbered.scanner g set s q)
+  numbered-turns set g q = turn-finds numbered.scanner (numbers.Delimits s) s q (λ r. numbers.stream-heads r s q) (λ r. numbers.line-heads r s q) g set
 
   -- a state run that `new` wrote, stepped by an entry that keeps its promise, gives the numbered items of the text's lines
   pub numbered-run : (eol sep tab : ℕ) (bytes run₀ : List ℕ) → eol ≤ 255 → sep ≤ 255 → tab ≤ 255 → length s ≤ 4294967295 → 20 ≤ length run₀ → (length (accepted (setOf bytes)) ≤ 3 → numbered.DigitsApart (grammar eol sep tab (has (setOf bytes))))
@@ -158,7 +99,7 @@ module _ (s : List ℕ) (bytes : ByteRun s) where
   numbered-run eol sep tab bytes run₀ a b c short room apart none first state made after reply number keeps n =
       let g = numbered.fresh eol sep tab (setOf bytes) in
       let h = item-fresh numbered-lawful eol sep tab (setOf bytes) a b c in
-      items-run numbered-lawful (λ q n m i h l. (l .0, l .1, l .2, omega arith)) ByteDelimited (setOf bytes) s run₀ short (omega arith) (numbered-turns (setOf bytes))
-      (λ q n i h l v. fit-each run₀ (numbered.values i) room (omega arith) (omega arith, (omega arith, (omega arith, (omega arith, tt))))) g h (omega arith) state
+      items-run numbered-lawful (λ q n m i h l. (l .0, l .1, l .2, omega arith)) (numbers.Delimits s) (setOf bytes) s run₀ short (omega arith) (numbered-turns (setOf bytes))
+      (λ q n i h l v. fit-each run₀ (numbered.values i) room (omega arith) (omega arith, (omega arith, (omega (arith, head-byte (i .delimiter) (i .span .start) v), (omega arith, tt))))) g h (omega arith) state
       (made-back numberedFrom numberedCells itemLimits item-small g h first state made) after reply number keeps n
       ∙ ap (take n) (numbered-items (setOf bytes) s eol sep tab (length-tabulate (oneOf bytes) 256 0) apart none)

@@ -111,7 +111,7 @@ pub extern "C" fn rack_build_rules(
 }
 
 // The work sheet of a text by rules given as columns, as building takes them, and by the accepted marker and delimiter bytes: the items
-// whose content starts in none of the regions that building finds. Item k goes to bytes 20k to 20k + 19 of `out`, and the answer is how
+// whose marker or delimiter is in none of the regions that building finds. Item k goes to bytes 20k to 20k + 19 of `out`, and the answer is how
 // many there are. A refusal (1 the text is too long, 6 columns differ, 3 too little room) changes nothing.
 #[no_mangle]
 pub extern "C" fn rack_sheet(

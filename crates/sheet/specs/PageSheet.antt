@@ -1,6 +1,6 @@
 -- The work sheet holds the items that the page declares: of the text's lines, by their bytes. Assumes nothing.
--- The page: "It holds the marker and numbered items, both scanned from place 0, whose content start isn't inside a region, by rising
--- content start, the marker item first where two are equal." What a scan finds is told here by the bytes of each line.
+-- The page: "It holds the marker and numbered items, both scanned from place 0 … by rising content start, the marker item first where two
+-- are equal." What a scan finds is told here by the bytes of each line.
 use mathlib.Core.Path.{_≡_, ap, _∙_}
 use mathlib.Core.Bool.{Bool}
 use mathlib.Core.List.{List, map}

@@ -3,7 +3,7 @@ use mathlib.Core.Path.{_≡_, ap, _∙_}
 use mathlib.Core.Bool.{Bool, true, false}
 use mathlib.Core.List.{List, [], _∷_, map}
 use mathlib.Core.Logic.{_⊎_, inl, inr}
-use Prim.Native.Nat.{ℕ, zero, suc, _+_, _*_, _≤_}
+use Prim.Native.Nat.{ℕ, zero, suc, _+_, _-_, _*_, _≤_}
 use native.Mathlib.Omega.{arith}
 use lib.Dec.{ltb}
 use lib.ListN.{length}
@@ -22,11 +22,12 @@ use Rattle.cover.specs.Cursor.{Rising}
 use Rattle.feed.specs.Items.{marked, counted, markItemsFrom, numberedItemsFrom, markItems, numberedItems, merge, testedPlace}
 use Rattle.sheet.specs.Sheet.{inside, outside}
 use Rattle.feed.specs.FeedLaws.{merge-number, merge-mark}
+use Rattle.feed.specs.TestedLaws.{two-before}
 use Rattle.feed.specs.declared.item.SheetItem.{SheetItem}
 
 -- items whose content starts never fall, none of them before `low`
 abbrev Rises : ℕ → List SheetItem → Type 0
-Rises low l = Rising low (map testedPlace l)
+Rises low l = Rising low (map (λ i. i .start) l)
 
 rises-later : (q n : ℕ) (l : List SheetItem) → q ≤ n → Rises n l → Rises q l
 rises-later q n [] h w = tt
@@ -86,6 +87,11 @@ merge-length (x ∷ xs) (y ∷ ys) = by (merge-length (x ∷ xs) ys) (merge-leng
     by f g (inl u) = ap length (merge-number x y xs ys u) ∙ omega arith
     by f g (inr u) = ap length (merge-mark x y xs ys u) ∙ omega arith
 
+-- so their tested places, two before, never fall either
+tested-rises : (p low : ℕ) (l : List SheetItem) → p ≤ low - 2 → Rises low l → Rising p (map testedPlace l)
+tested-rises p low [] h w = tt
+tested-rises p low (i ∷ l) h w = (omega (arith, two-before (i .start)), tested-rises (testedPlace i) (i .start) l (omega (arith, two-before (i .start))) (w .1))
+
 -- ---- all items of a text
 module _ (g : Grammar) (markers delims : List Bool) (s : List ℕ) where
   -- no more than the text has bytes
@@ -94,7 +100,9 @@ module _ (g : Grammar) (markers delims : List Bool) (s : List ℕ) where
 
   -- the places that decide never fall
   pub places-rise : Rising 0 (map testedPlace (merge (markItems g markers s) (numberedItems g delims s)))
-  places-rise = merge-rises 0 (markItems g markers s) (numberedItems g delims s) (mark-rises g markers s .0) (numbered-rises g delims s .0)
+  places-rise =
+      tested-rises 0 0 (merge (markItems g markers s) (numberedItems g delims s)) (omega arith)
+      (merge-rises 0 (markItems g markers s) (numberedItems g delims s) (mark-rises g markers s .0) (numbered-rises g delims s .0))
 
 -- ---- those that are shown
 pub outside-few : (regions : List (List ℕ)) (l : List SheetItem) → length (outside regions l) ≤ length l

@@ -1,6 +1,6 @@
 -- The work sheet of a text: what it holds, and what making one answers and writes. Assumes nothing.
--- The page: "It holds the marker and numbered items, both scanned from place 0, whose content start isn't inside a region, by rising
--- content start, the marker item first where two are equal." and "For a work sheet: 1, 5, 3."
+-- The page: "It holds the marker and numbered items, both scanned from place 0 … by rising content start, the marker item first where two
+-- are equal." and "For a work sheet: 1, 5, 3."; those are left out whose tested byte is inside a region (request 2, `testedPlace`).
 use mathlib.Core.Path.{_≡_}
 use mathlib.Core.Bool.{Bool, true, false, _||_}
 use mathlib.Core.List.{List, [], _∷_}
@@ -26,7 +26,7 @@ unfoldable pub inside : List (List ℕ) → ℕ → Bool
 inside [] p = false
 inside (r ∷ l) p = covers p r || inside l p
 
--- the items "whose content start isn't inside a region"
+-- the items whose tested byte "isn't inside a region"
 unfoldable pub outside : List (List ℕ) → List SheetItem → List SheetItem
 outside regions [] = []
 outside regions (i ∷ l) = elim (inside regions (testedPlace i)) [ true ↦ outside regions l | false ↦ i ∷ outside regions l ]

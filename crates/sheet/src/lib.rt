@@ -225,8 +225,8 @@ fn fill(
     Answer::Value(write_items(walk, src, markers, delims, list, count, out))
 }
 
-// Writes the work sheet of a text: the marker and numbered items, by the bytes of two sets, whose content starts in none of the list's
-// first `count` regions, by rising content start, the marker item first where two are equal. Item k goes to places 5k to 5k + 4 of `out`
+// Writes the work sheet of a text: the marker and numbered items, by the bytes of two sets, whose marker or delimiter is in none of the
+// list's first `count` regions, by rising content start, the marker item first where two are equal. Item k goes to places 5k to 5k + 4 of `out`
 // (start, end, kind, accepted byte, number), the answer is how many there are, and nothing beyond them is changed. A refusal (1 the text
 // is too long, 5 the list is misshapen, 3 too little room) changes nothing.
 pub fn sheet(

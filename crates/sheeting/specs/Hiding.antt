@@ -1,5 +1,5 @@
 -- The regions of a text as they come: what one of them, and those behind it, hide of the places from one on. Assumes nothing.
--- The page: "whose content start isn't inside a region".
+-- The page: an item is on the sheet where its tested place "isn't inside a region".
 use mathlib.Core.Path.{_≡_}
 use mathlib.Core.Bool.{_||_}
 use mathlib.Core.List.{List, [], _∷_, map}

@@ -1,6 +1,6 @@
 -- What the work sheet of a text by its rules answers and writes. Assumes nothing.
--- The page: "It holds the marker and numbered items, both scanned from place 0, whose content start isn't inside a region", by the
--- regions of the text's own rules.
+-- The page: "It holds the marker and numbered items, both scanned from place 0", without those whose tested byte (request 2) is inside one of
+-- the regions of the text's own rules.
 use mathlib.Core.Bool.{Bool}
 use mathlib.Core.List.{List, map}
 use Prim.Native.Nat.{ℕ}

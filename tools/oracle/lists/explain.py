@@ -57,7 +57,8 @@ def why(text, regions, line):
         return [4]
     if len(sign) < 2 or sign[1] not in BLANKS:
         return [5]
-    place = at + digits + 2
+    # request 2: "the marker byte for marker items and the delimiter byte for numbered ones"
+    place = at + digits
     for k, (start, end) in enumerate(regions):
         if start <= place < end:
             return [6, k, start, end]
@@ -172,7 +173,7 @@ def refusals(listing, explainer):
 
 def notes(listing, explainer):
     listing.comment('notes, and the samples of the listing: every line by the list that is built')
-    for text in (*spans.PAGES, *spans.NOTES, b'~~~\n5. a\n~~~\n> 6. b\n7. c\n- d', b'1. `K7` set\n- <a\n2. b>\n', b'```\n- a\n', b'~~~\n- ', b'- a\n  * b\n\t+ c\n12) d\n',
+    for text in (*spans.PAGES, *spans.NOTES, *spans.CODES, b'~~~\n5. a\n~~~\n> 6. b\n7. c\n- d', b'```\n- a\n', b'- a\n  * b\n\t+ c\n12) d\n',
                  b'<1. a\n- b\n\n- c>\n'):
         explainer.house(text)
 

@@ -15,8 +15,8 @@ r  the sheet of a text: line end, separator, tab; the marker bytes; the delimite
    numbers each; text
 
 The answer is 1, how many items there are, and five numbers of each: start, end, kind (0 marker, 1 numbered),
-accepted byte, number. The items are the Rust's; that those are left out whose content starts inside a
-region, and the order, are the page's (document 01).
+accepted byte, number. The items are the Rust's; the order is the page's (document 01), and so is that those are
+left out whose marker or delimiter is inside a region (document 02, request 2).
 """
 
 # one, dot, dash, line end, blank
@@ -34,16 +34,19 @@ def ask(listing, text, regions=(), markers=b'-*+', delimiters=b'.)', eol=10, sep
 
 
 def hidden(listing):
-    listing.comment('an item is hidden where its content starts inside a region: at its start, not at its end')
+    listing.comment('an item is hidden where its marker or delimiter is inside a region: not its digits, blank or content')
     text = b'1. a\n- b\n2. c\n'
     for regions in ((), ((0, 14),), ((3, 4),), ((4, 7),), ((4, 8),), ((7, 8),), ((8, 9),), ((0, 3),), ((0, 4), (7, 8)),
-                    ((2, 3), (3, 4), (4, 5)), ((12, 13),), ((11, 12),), ((3, 4), (7, 8), (12, 13))):
+                    ((2, 3), (3, 4), (4, 5)), ((12, 13),), ((11, 12),), ((3, 4), (7, 8), (12, 13)),
+                    ((0, 1),), ((1, 2),), ((0, 1), (2, 5)), ((5, 6),), ((4, 5), (6, 9)), ((9, 10),), ((10, 11),),
+                    ((1, 2), (5, 6), (10, 11)), ((0, 1), (2, 5), (6, 10), (11, 14))):
         ask(listing, text, regions)
     listing.comment('empty content; no last line end; the text\'s end')
     for text in (b'', b'- ', b'1. ', b'- \n', b'- a', b'1. a', b'-', b'1.'):
         ask(listing, text)
     ask(listing, b'- ', ((0, 2),))
     ask(listing, b'- ', ((1, 2),))
+    ask(listing, b'- ', ((0, 1),))
     ask(listing, b'- \n', ((2, 3),))
     listing.comment('markers and numbers by rising content start')
     ask(listing, b'- a\n1. b\n* c\n2) d\n+ e\n3. f')

@@ -11,7 +11,8 @@ What `spans` prints for a text, by the house grammar. Lines, blocks and sums are
 l  the whole output: text
 
 The answer is 1 and the output as a list of bytes. R to N lines are the Rust's regions, spans and items; how
-a line is laid out, and the W lines, are the page's (document 01).
+a line is laid out, and the W lines, are the page's (document 01, and of which items are hidden document 02,
+request 2).
 """
 
 # line end, blank, tilde, backtick, greater, dash, one, dot
@@ -23,6 +24,8 @@ PAGES = b'', b'~~~', b'~~', b'a `b` c', b'\\`a`', b'<a\nb>', b'123456789. x', b'
 # Nested quotes, tabs, empty content, hidden items, no last line end, bytes 0 and 255
 NOTES = (b'>>>\n> a\n', b'>\t> a', b'>>>>>>>>>> a', b'- ', b'1.\t', b'\t- a\n', b'`- a`', b'- `a`', b'<\n1. a>', b'- a\n- b',
          b'~~~\n- a\n~~~\n- b', b'```\n1. a\n~~~', b'\0\xff', b'- \0\n1. \xff', b'0) a\n', b'007. a', b'> 1. a\n1. b')
+# Content that begins with a region, and empty content at the text's end in a fence that nothing closes
+CODES = b'1. `K7` set', b'1. `K7` set\n- <a\n2. b>\n', b'- <a> b\n* `c\n3) d`\n', b'~~~\n- ', b'```\n1. a\n2)\t'
 
 
 def make(listing):
@@ -45,6 +48,9 @@ def pages(listing):
 def items(listing):
     listing.comment('nested quotes, tabs, empty content, hidden items, no last line end, bytes 0 and 255')
     for text in NOTES:
+        ask(listing, text)
+    listing.comment('content that begins with a region, and empty content at the text\'s end in a fence that nothing closes')
+    for text in CODES:
         ask(listing, text)
 
 

@@ -1,5 +1,5 @@
 //! What `spans` prints for a text by the house grammar: the lists are the Rust's own; the lines, and the
-//! work sheet, which the Rust has not, are the page's (document 01).
+//! work sheet, which the Rust has not, are the page's (document 01, and document 02's request 2).
 
 use crate::answer::{Answer, Head, Word};
 use crate::question::{of_text, Question};
@@ -48,9 +48,18 @@ pub struct Item {
     kind: u64,
     byte: u8,
     number: u32,
+    tested: u32,
 }
 
 impl Item {
+    /// The Rust's item of a text, with the place of "the marker byte for marker items and the delimiter byte for numbered
+    /// ones": one blank parts it from the content. Another byte there would be a panic, which no sheet answers.
+    fn new(text: &[u8], content: Span, kind: u64, byte: u8, number: u32) -> Item {
+        let tested = content.start - 2;
+        assert_eq!(text[tested as usize], byte);
+        Item { content, kind, byte, number, tested }
+    }
+
     pub fn five(&self) -> Vec<u64> {
         vec![
             self.content.start.into(),
@@ -77,13 +86,13 @@ impl Item {
 
 fn markers(text: &[u8], [eol, sep, tab]: [u8; 3], accepted: &[u8]) -> Vec<Item> {
     BlockMarkerIter::new(text, eol, sep, tab, |b| accepted.contains(&b), |b| b)
-        .map(|(byte, content)| Item { content, kind: 0, byte, number: 0 })
+        .map(|(byte, content)| Item::new(text, content, 0, byte, 0))
         .collect()
 }
 
 fn numbered(text: &[u8], [eol, sep, tab]: [u8; 3], accepted: &[u8]) -> Vec<Item> {
     BlockNumberedIter::new(text, eol, sep, tab, |b| accepted.contains(&b), |n, b| (n, b))
-        .map(|((number, byte), content)| Item { content, kind: 1, byte, number })
+        .map(|((number, byte), content)| Item::new(text, content, 1, byte, number))
         .collect()
 }
 
@@ -94,14 +103,12 @@ pub fn items(text: &[u8], bounds: [u8; 3], marks: &[u8], delimiters: &[u8]) -> V
     items
 }
 
-/// The region that an item's "content start" is inside of, by its index.
+/// The region that an item's tested byte is inside of, by its index.
 pub fn hider(item: &Item, regions: &[Span]) -> Option<usize> {
-    let place = item.content.start;
-    regions.iter().position(|r| r.start <= place && place < r.end)
+    regions.iter().position(|r| r.start <= item.tested && item.tested < r.end)
 }
 
-/// The items "whose content start isn't inside a region, by rising content start, the marker item first where two are
-/// equal"
+/// The items that no region hides, "by rising content start, the marker item first where two are equal"
 pub fn sheet(text: &[u8], bounds: [u8; 3], marks: &[u8], delimiters: &[u8], regions: &[Span]) -> Vec<Item> {
     let mut items = items(text, bounds, marks, delimiters);
     items.retain(|item| hider(item, regions).is_none());
