@@ -11,13 +11,14 @@ use Rattle.common.specs.Sets.{accepted}
 use Rattle.common.specs.Refusals.{read, unlessNone}
 use Rattle.common.specs.RefusalLaws.{read-refused}
 use Rattle.common.specs.Turn.{allFound, drain}
+use Rattle.common.specs.Turning.{OnFound}
 use Rattle.common.specs.Items.{grammar, blank, has, Apart, leads}
 use Rattle.common.specs.ItemLaws.{of-cond}
-use Rattle.common.specs.Scanning.{byNeedles, bySet, flagOff, foundBy, result, ofTurn}
+use Rattle.common.specs.Scanning.{byNeedles, bySet, flagOff, foundBy, turn, result, ofTurn}
 use Rattle.common.specs.ScanningLaws.{Lawful}
 use Rattle.common.specs.ScanningLaws as scanning
 use Rattle.block_marker.specs.Marker.{markLine, markers, streamHit, streamTurn, scanner, fresh, unfolded, told, Kept, KeptFrom, toldStep, items}
-use Rattle.block_marker.specs.MarkerLaws.{Lies, stream-adv, line-adv, lined-items, streamed-items}
+use Rattle.block_marker.specs.MarkerLaws.{Marks, stream-heads, line-heads, Lies, stream-adv, line-adv, lined-items, streamed-items}
 use Rattle.block_marker.specs.declared.BlockMarkerIter.{BlockMarkerIter}
 use Rattle.block_marker.specs.declared.MarkerFound.{MarkerFound}
 use Rattle.block_marker.specs.declared.MarkerFound.the-variants.{Item, Nothing, Refused}
@@ -25,6 +26,10 @@ use Rattle.block_marker.specs.declared.MarkerStep.{MarkerStep}
 
 pub lawful : Lawful scanner Lies
 lawful = record { of-made = λ f. refl; made-of = λ g. refl; reads = λ a n. refl; streams-on = stream-adv; lines-on = line-adv }
+
+-- what a state's turns find is headed by its marker
+pub turn-heads : (g : BlockMarkerIter) (set : List Bool) (s : List ℕ) (q : ℕ) → OnFound (Marks s) (turn scanner g set s q)
+turn-heads g set s q = scanning.turn-finds scanner (Marks s) s q (λ r. stream-heads r s q) (λ r. line-heads r s q) g set
 
 -- ---- one answer: it is read back from what it says
 found-back : (r : MarkerFound) → foundBy scanner Item Nothing Refused (told r) ≡ r

@@ -11,15 +11,15 @@ use Rattle.common.specs.Sets.{accepted}
 use Rattle.common.specs.Refusals.{read, unlessNone}
 use Rattle.common.specs.RefusalLaws.{read-refused}
 use Rattle.common.specs.Turn.{allFound, drain}
-use Rattle.common.specs.Turning.{Each}
+use Rattle.common.specs.Turning.{Each, OnFound}
 use Rattle.common.specs.TurnLaws.{collect-each}
 use Rattle.common.specs.Items.{grammar, blank, has, leads}
 use Rattle.common.specs.ItemLaws.{of-cond}
-use Rattle.common.specs.Scanning.{byNeedles, bySet, flagOff, foundBy, result, ofTurn}
+use Rattle.common.specs.Scanning.{byNeedles, bySet, flagOff, foundBy, turn, result, ofTurn}
 use Rattle.common.specs.ScanningLaws.{Lawful}
 use Rattle.common.specs.ScanningLaws as scanning
 use Rattle.block_numbered.specs.Numbered.{oneToNine, numbers, NoDigit, DigitsApart, streamHit, streamTurn, readLine, scanner, fresh, unfolded, told, Kept, KeptFrom, toldStep, items}
-use Rattle.block_numbered.specs.NumberedLaws.{Lies, stream-adv, line-adv, lined-items, streamed-items}
+use Rattle.block_numbered.specs.NumberedLaws.{Delimits, stream-heads, line-heads, Lies, stream-adv, line-adv, lined-items, streamed-items}
 use Rattle.block_numbered.specs.declared.BlockNumberedIter.{BlockNumberedIter}
 use Rattle.block_numbered.specs.declared.NumberedFound.{NumberedFound}
 use Rattle.block_numbered.specs.declared.NumberedFound.the-variants.{Item, Nothing, Refused}
@@ -27,6 +27,10 @@ use Rattle.block_numbered.specs.declared.NumberedStep.{NumberedStep}
 
 pub lawful : Lawful scanner Lies
 lawful = record { of-made = λ f. refl; made-of = λ g. refl; reads = λ a n. refl; streams-on = stream-adv; lines-on = line-adv }
+
+-- what a state's turns find is headed by its delimiter
+pub turn-heads : (g : BlockNumberedIter) (set : List Bool) (s : List ℕ) (q : ℕ) → OnFound (Delimits s) (turn scanner g set s q)
+turn-heads g set s q = scanning.turn-finds scanner (Delimits s) s q (λ r. stream-heads r s q) (λ r. line-heads r s q) g set
 
 -- ---- one answer: it is read back from what it says
 found-back : (r : NumberedFound) → foundBy scanner Item Nothing Refused (told r) ≡ r

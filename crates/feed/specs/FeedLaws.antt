@@ -12,6 +12,7 @@ use Rattle.search.specs.Promise.{Gives, Steps}
 use Rattle.search.specs.SearchLaws.{decide}
 use Rattle.common.specs.Refusals.{Outcome}
 use Rattle.common.specs.Turn.{found, thenDrain}
+use Rattle.common.specs.Turning.{Each}
 use Rattle.common.specs.Items.{stepFor}
 use Rattle.common.specs.Scanning.{Scanner, answer, state, Keeps, items}
 use Rattle.common.specs.ScanningLaws.{Lawful, step-items, step-inside}
@@ -119,6 +120,17 @@ merge-none : (xs : List SheetItem) → merge xs [] ≡ xs
 unfolding merge
 merge-none [] = refl
 merge-none (x ∷ xs) = refl
+
+-- what the items of both scanners have, they have in one list
+pub each-merge : (P : SheetItem → Type 0) (xs ys : List SheetItem) → Each P xs → Each P ys → Each P (merge xs ys)
+unfolding merge
+each-merge P [] ys v w = w
+each-merge P (x ∷ xs) [] v w = v
+each-merge P (x ∷ xs) (y ∷ ys) v w = by (each-merge P (x ∷ xs) ys v (w .1)) (each-merge P xs (y ∷ ys) (v .1) w) (decide (ltb (y .start) (x .start)))
+  where
+    by : Each P (merge (x ∷ xs) ys) → Each P (merge xs (y ∷ ys)) → (ltb (y .start) (x .start) ≡ true) ⊎ (ltb (y .start) (x .start) ≡ false) → Each P (merge (x ∷ xs) (y ∷ ys))
+    by f g (inl u) = rw (merge-number x y xs ys u) (w .0, f)
+    by f g (inr u) = rw (merge-mark x y xs ys u) (v .0, g)
 
 -- what is picked is the first of the merged items
 picks : Pick → List SheetItem → List SheetItem → List SheetItem → List SheetItem → List SheetItem

@@ -1,28 +1,27 @@
 -- Laws of the place by which a region hides an item: it is that of the item's own byte. Assumes nothing.
 use mathlib.Core.Path.{_≡_, refl, sym, _∙_}
-use mathlib.Core.Bool.{Bool, true, false}
-use mathlib.Core.List.{List, [], _∷_}
-use mathlib.Core.Logic.{_⊎_, inl, inr}
+use mathlib.Core.Bool.{Bool}
+use mathlib.Core.List.{List}
 use Prim.Native.Nat.{ℕ, zero, suc, _+_, _-_, _≤_, _<_}
 use native.Mathlib.Omega.{arith}
-use lib.Dec.{ltb}
 use lib.ListN.{length, getD}
 use Rattle.search.specs.Promise.{Gives}
-use Rattle.search.specs.SearchLaws.{decide}
 use Rattle.common.specs.Turning.{Each}
 use Rattle.common.specs.TurnLaws.{turns-each}
 use Rattle.common.specs.EachLaws.{each-as, each-map}
 use Rattle.common.specs.ItemLaws.{Heads}
 use Rattle.common.specs.Scanning.{turn}
-use Rattle.common.specs.ScanningLaws.{turn-finds}
 use Rattle.common.specs.declared.grammar.Grammar.{Grammar}
 use Rattle.block_marker.specs.Marker as marker
-use Rattle.block_marker.specs.MarkerLaws as marks
+use Rattle.block_marker.specs.MarkerLaws.{Marks}
+use Rattle.block_marker.specs.MarkerRun as marker-run
 use Rattle.block_marker.specs.declared.BlockMarkerIter.{BlockMarkerIter}
 use Rattle.block_numbered.specs.Numbered as numbered
-use Rattle.block_numbered.specs.NumberedLaws as numbers
+use Rattle.block_numbered.specs.NumberedLaws.{Delimits}
+use Rattle.block_numbered.specs.NumberedRun as numbered-run
 use Rattle.block_numbered.specs.declared.BlockNumberedIter.{BlockNumberedIter}
 use Rattle.feed.specs.Items.{marked, counted, markItemsFrom, numberedItemsFrom, markItems, numberedItems, merge, twoBefore, testedPlace}
+use Rattle.feed.specs.FeedLaws.{each-merge}
 use Rattle.feed.specs.declared.item.SheetItem.{SheetItem}
 
 -- the tested place is one of the text, the item's accepted byte stands there, and the content begins two behind
@@ -50,27 +49,16 @@ unfolding markItemsFrom
 marker-tested g set s =
     let l = marker.items g set s in
     each-map (Tested s) marked l
-    (each-as (marks.Marks s) (λ i. Tested s (marked i)) (λ i w. heads-tested s (marked i) w) l
-    (turns-each (marks.Marks s) (turn marker.scanner g set s) (λ q. turn-finds marker.scanner (marks.Marks s) s q (λ r. marks.stream-heads r s q) (λ r. marks.line-heads r s q) g set) (suc (length s)) (g .pos)))
+    (each-as (Marks s) (λ i. Tested s (marked i)) (λ i w. heads-tested s (marked i) w) l
+    (turns-each (Marks s) (turn marker.scanner g set s) (marker-run.turn-heads g set s) (suc (length s)) (g .pos)))
 
 pub delimiter-tested : (g : BlockNumberedIter) (set : List Bool) (s : List ℕ) → Each (Tested s) (numberedItemsFrom g set s)
 unfolding numberedItemsFrom
 delimiter-tested g set s =
     let l = numbered.items g set s in
     each-map (Tested s) counted l
-    (each-as (numbers.Delimits s) (λ i. Tested s (counted i)) (λ i w. heads-tested s (counted i) w) l
-    (turns-each (numbers.Delimits s) (turn numbered.scanner g set s) (λ q. turn-finds numbered.scanner (numbers.Delimits s) s q (λ r. numbers.stream-heads r s q) (λ r. numbers.line-heads r s q) g set) (suc (length s)) (g .pos)))
-
--- what the items of both scanners have, they have in one list
-pub each-merge : (P : SheetItem → Type 0) (a b : List SheetItem) → Each P a → Each P b → Each P (merge a b)
-unfolding merge
-each-merge P [] b v w = w
-each-merge P (x ∷ a) [] v w = v
-each-merge P (x ∷ a) (y ∷ b) v w = by (each-merge P (x ∷ a) b v (w .1)) (each-merge P a (y ∷ b) (v .1) w) (decide (ltb (y .start) (x .start)))
-  where
-    by : Each P (merge (x ∷ a) b) → Each P (merge a (y ∷ b)) → (ltb (y .start) (x .start) ≡ true) ⊎ (ltb (y .start) (x .start) ≡ false) → Each P (merge (x ∷ a) (y ∷ b))
-    by f g (inl u) = rw (u, merge) (w .0, f)
-    by f g (inr u) = rw (u, merge) (v .0, g)
+    (each-as (Delimits s) (λ i. Tested s (counted i)) (λ i w. heads-tested s (counted i) w) l
+    (turns-each (Delimits s) (turn numbered.scanner g set s) (numbered-run.turn-heads g set s) (suc (length s)) (g .pos)))
 
 -- the byte that decides over each item of a sheet, by every grammar and every two sets, is the item's marker or delimiter
 pub tested-byte : (g : Grammar) (markers delims : List Bool) (s : List ℕ) → Each (Tested s) (merge (markItems g markers s) (numberedItems g delims s))

@@ -23,7 +23,6 @@ use Rattle.fence.specs.Fence as fence
 use Rattle.fence.specs.Laws as fenceLaws
 use Rattle.fence.specs.Run as fenceRun
 use Rattle.cont.specs.Frames.{frames}
-use Rattle.cont.specs.Cont as cont
 use Rattle.common.specs.Scanning.{Scanner, fresh, turn, items}
 use Rattle.common.specs.ScanningLaws.{Lawful, turn-adv, fresh-place}
 use Rattle.block_marker.specs.Marker as marker
@@ -42,7 +41,7 @@ use Rattle.listing.specs.Listing.{houseGram, houseFence, houseFraming, h
 use Rattle.listing.specs.FoundLaws.{few-regions, few-shown}
 use Rattle.listing.specs.FrameSize.{Inside, frames-inside, frames-few}
 use Rattle.listing.specs.ItemSize.{Mark, Delimiter, mark-byte, number-byte, each-outside}
-use Rattle.feed.specs.TestedLaws.{each-merge}
+use Rattle.feed.specs.FeedLaws.{each-merge}
 
 -- ---- lines
 field-most : (d n : ℕ) → length (decimal n) ≤ d → length (field n) ≤ suc d

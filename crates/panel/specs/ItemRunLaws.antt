@@ -11,19 +11,17 @@ use Rattle.common.specs.Items.{grammar, has, Apart, stepFor}
 use Rattle.common.specs.ItemLaws.{Heads}
 use Rattle.common.specs.Scanning as scanning
 use Rattle.common.specs.Scanning.{Scanner}
-use Rattle.common.specs.ScanningLaws.{Lawful, turn-adv, turn-finds, step-inside, run}
+use Rattle.common.specs.ScanningLaws.{Lawful, turn-adv, step-inside, run}
 use Rattle.common.specs.Sets.{setOf, accepted}
 use Rattle.common.specs.TableLaws.{length-tabulate}
 use Rattle.common.specs.Turn.{Turn, go, stop, found, drain}
 use Rattle.common.specs.Turning.{Ahead, Adv, OnFound}
-use Rattle.block_marker.specs.declared.BlockMarkerIter.{BlockMarkerIter}
 use Rattle.block_marker.specs.Marker as marker
-use Rattle.block_marker.specs.MarkerLaws as marks
-use Rattle.block_marker.specs.MarkerRun.{lawful as marker-lawful, fresh-items as marker-items}
-use Rattle.block_numbered.specs.declared.BlockNumberedIter.{BlockNumberedIter}
+use Rattle.block_marker.specs.MarkerLaws.{Marks}
+use Rattle.block_marker.specs.MarkerRun.{lawful as marker-lawful, turn-heads as marker-heads, fresh-items as marker-items}
 use Rattle.block_numbered.specs.Numbered as numbered
-use Rattle.block_numbered.specs.NumberedLaws as numbers
-use Rattle.block_numbered.specs.NumberedRun.{lawful as numbered-lawful, fresh-items as numbered-items}
+use Rattle.block_numbered.specs.NumberedLaws.{Delimits}
+use Rattle.block_numbered.specs.NumberedRun.{lawful as numbered-lawful, turn-heads as numbered-heads, fresh-items as numbered-items}
 use Rattle.panel.specs.State.{Made, Stepped, itemLimits, itemShow, itemRead, itemStepper, markerCells, markerFrom, markerStepper, numberedCells, numberedFrom, numberedStepper}
 use Rattle.panel.specs.Back.{Holds, Byte, ByteRun, valuesIn}
 use Rattle.common.specs.EachLaws.{each-getD}
@@ -72,9 +70,6 @@ module _ (s : List ℕ) (text : ByteRun s) where
   head-byte : (x start : ℕ) → Heads s x start → Byte x
   head-byte x start w = subst Byte (w .same) (each-getD Byte s 0 text (omega arith) (start - 2))
 
-  marker-turns : (set : List Bool) (g : BlockMarkerIter) (q : ℕ) → OnFound (marks.Marks s) (scanning.turn marker.scanner g set s q)
-  marker-turns set g q = turn-finds marker.scanner (marks.Marks s) s q (λ r. marks.stream-heads r s q) (λ r. marks.line-heads r s q) g set
-
   -- a state run that `new` wrote, stepped by an entry that keeps its promise, gives the marker items of the text's lines
   pub marker-run : (eol sep tab : ℕ) (bytes run₀ : List ℕ) → eol ≤ 255 → sep ≤ 255 → tab ≤ 255 → length s ≤ 4294967295 → 16 ≤ length run₀ → (length (accepted (setOf bytes)) ≤ 3 → Apart (grammar eol sep tab (has (setOf bytes))))
       → (first state : List ℕ) → Made (markerCells (marker.fresh eol sep tab (setOf bytes))) first state 0
@@ -83,13 +78,10 @@ module _ (s : List ℕ) (text : ByteRun s) where
   marker-run eol sep tab bytes run₀ a b c short room apart first state made after reply number keeps n =
       let g = marker.fresh eol sep tab (setOf bytes) in
       let h = item-fresh marker-lawful eol sep tab (setOf bytes) a b c in
-      items-run marker-lawful (λ q n m i h l. (l .0, l .1, omega arith)) (marks.Marks s) (setOf bytes) s run₀ short (omega arith) (marker-turns (setOf bytes))
+      items-run marker-lawful (λ q n m i h l. (l .0, l .1, omega arith)) (Marks s) (setOf bytes) s run₀ short (omega arith) (λ g. marker-heads g (setOf bytes) s)
       (λ q n i h l v. fit-each run₀ (marker.values i) room (omega arith) (omega arith, (omega arith, (omega (arith, head-byte (i .marker) (i .span .start) v), tt)))) g h (omega arith) state
       (made-back markerFrom markerCells itemLimits item-small g h first state made) after reply number keeps n
       ∙ ap (take n) (marker-items (setOf bytes) s eol sep tab (length-tabulate (oneOf bytes) 256 0) apart)
-
-  numbered-turns : (set : List Bool) (g : BlockNumberedIter) (q : ℕ) → OnFound (numbers.Delimits s) (scanning.turn numbered.scanner g set s q)
-  numbered-turns set g q = turn-finds numbered.scanner (numbers.Delimits s) s q (λ r. numbers.stream-heads r s q) (λ r. numbers.line-heads r s q) g set
 
   -- a state run that `new` wrote, stepped by an entry that keeps its promise, gives the numbered items of the text's lines
   pub numbered-run : (eol sep tab : ℕ) (bytes run₀ : List ℕ) → eol ≤ 255 → sep ≤ 255 → tab ≤ 255 → length s ≤ 4294967295 → 20 ≤ length run₀ → (length (accepted (setOf bytes)) ≤ 3 → numbered.DigitsApart (grammar eol sep tab (has (setOf bytes))))
@@ -99,7 +91,7 @@ module _ (s : List ℕ) (text : ByteRun s) where
   numbered-run eol sep tab bytes run₀ a b c short room apart none first state made after reply number keeps n =
       let g = numbered.fresh eol sep tab (setOf bytes) in
       let h = item-fresh numbered-lawful eol sep tab (setOf bytes) a b c in
-      items-run numbered-lawful (λ q n m i h l. (l .0, l .1, l .2, omega arith)) (numbers.Delimits s) (setOf bytes) s run₀ short (omega arith) (numbered-turns (setOf bytes))
+      items-run numbered-lawful (λ q n m i h l. (l .0, l .1, l .2, omega arith)) (Delimits s) (setOf bytes) s run₀ short (omega arith) (λ g. numbered-heads g (setOf bytes) s)
       (λ q n i h l v. fit-each run₀ (numbered.values i) room (omega arith) (omega arith, (omega arith, (omega (arith, head-byte (i .delimiter) (i .span .start) v), (omega arith, tt))))) g h (omega arith) state
       (made-back numberedFrom numberedCells itemLimits item-small g h first state made) after reply number keeps n
       ∙ ap (take n) (numbered-items (setOf bytes) s eol sep tab (length-tabulate (oneOf bytes) 256 0) apart none)
