@@ -1,4 +1,4 @@
-"""The benchmark's texts: four that are drawn from fixed seeds, documents of Debian's packages, and hostile ones."""
+"""The benchmark's texts: five that are drawn from fixed seeds, documents of Debian's packages, and hostile ones."""
 import glob
 import gzip
 import random
@@ -76,6 +76,12 @@ def quoted(chance):
     return remark + chance.choice(('\n', lines(chance, 1, 1)))
 
 
+def parts(chance):
+    """A line of a parts list: a number of one to nine digits, and what the part is."""
+    digits = chance.randint(1, 9)
+    return f'{chance.randrange(10 ** (digits - 1), 10 ** digits)}{chance.choice(".)")} {" ".join(words(chance, 2, 6))}\n'
+
+
 # Texts that some search might walk again and again, by what each repeats behind its head: openers that nothing closes, alone, with a pair
 # between them, in items and in steps of one paragraph; openers and closers behind escapes; lines whose fence runs neither open nor close;
 # blanks and digits before marks that lead nothing; line ends and marks without anything else.
@@ -93,7 +99,7 @@ HOSTILE = {
     'quotes': (b'', b'>'),
     'line ends': (b'', b'>\n<\n'),
 }
-DRAWN = {'prose': prose, 'dense': dense, 'captures': captures, 'quoted': quoted}
+DRAWN = {'prose': prose, 'dense': dense, 'captures': captures, 'quoted': quoted, 'parts': parts}
 NAMES = *DRAWN, 'documents'
 # Rust's release notes, in Markdown (package rustc-web), then Git's (package git).
 DOCUMENTS = '/usr/share/doc/rustc-web/changelog.gz', '/usr/share/doc/git/RelNotes/*.txt'

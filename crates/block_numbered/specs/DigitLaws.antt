@@ -4,23 +4,26 @@ use mathlib.Core.Bool.{Bool, true, false, and-false}
 use mathlib.Core.List.{List, [], _∷_, _++_}
 use mathlib.Core.Logic.{_⊎_, inl, inr, ⊎-elim}
 use Prim.Native.Nat.{ℕ, zero, suc, _+_, _-_, _*_, _^_, _≤_, _<_, min}
-use native.Mathlib.Nat.{pow-le-pow-right, suc-add}
+use native.Mathlib.Nat.{pow-le-pow-right, pow-succ', mul-le-mul-right, suc-add, zero-add}
 use native.Mathlib.Numerals.{add-one}
 use native.Mathlib.Omega.{arith}
 use mir.Val.{Fits}
 use mir.Syntax.{w32}
 use lib.Dec.{ltb, leb}
 use lib.ListN.{length, getD, take, drop, length-take, drop-of-length-le, List·getD-eq-default}
-use lib.Seq.{getD-take, slice, slice-empty, length-slice, take-suc, take-nil, drop-nil, take-take, length-take-le, drop-append-le}
+use lib.Seq.{getD-take, slice, slice-cons, slice-empty, length-slice, take-suc, take-nil, drop-nil, take-take, length-take-le, drop-append-le}
 use borrow.Author.Tests.{leb-true, leb-false, le-leb, lt-leb, ltb-true, ltb-false, lt-ltb, le-ltb}
 use Rattle.search.specs.Promise.{Gives}
 use Rattle.search.specs.Search.{other, holds, find, back, digit}
 use Rattle.search.specs.SearchLaws.{decide, clash, and-true, other-yes, other-no, holds-in, holds-past, find-le, find-end, find-here, Seeks, seeks-first, seeks-again, Backs, backs-first, backs-told-again, backs-told-found, backs-end, back-le, back-past, back-run, back-stop, digit-most, digit-none}
 use Rattle.decimal.specs.Decimal.{valued, allDigits}
-use Rattle.decimal.specs.DecimalLaws.{valued-more, valued-none, valued-few}
+use Rattle.decimal.specs.DecimalLaws.{valued-more, valued-lead, valued-none, valued-few}
+use Rattle.common.specs.Rules.{tabulate}
+use Rattle.common.specs.TableLaws.{tabulate-at}
 use Rattle.common.specs.Items.{leading, beyond}
 use Rattle.common.specs.ItemLaws.{leading-yes, leading-no, beyond-yes, beyond-no, leading-is}
-use Rattle.block_numbered.specs.Numbered.{oneToNine, few, readDigits, digitsAt}
+use Rattle.block_numbered.specs.Numbered.{oneToNine, few, trailAt, readDigits, digitsAt}
+use Rattle.block_numbered.specs.declared.Trail.{Trail}
 
 -- ---- past a text there is no digit
 read-digit : (s : List ℕ) (j : ℕ) → holds digit s j ≡ digit (getD s j 0)
@@ -32,74 +35,6 @@ read-digit s j = by (decide (ltb j (length s)))
         let h = ltb-false j (length s) u in
         holds-past digit s j h ∙ sym (ap digit (List·getD-eq-default s 0 {n = j} h) ∙ digit-none)
 
--- ---- a walk back over nine bytes at the most
-pub record Walking (t : ℕ → Bool) (s : List ℕ) (p k : ℕ) : Type 0 where
-  pub walk : Backs t s p k
-  pub most : p - k ≤ 9
-
-module _ (t : ℕ → Bool) (s : List ℕ) (p : ℕ) where
-  pub walking-past : length s < p → Gives (min (back t s p) 9) 0
-  walking-past h = record { answer = omega (arith, back-past t s p h) }
-
-  pub walking-first : p ≤ length s → Walking t s p p
-  walking-first h = record { walk = backs-first t s p h; most = omega arith }
-
-  module _ (k : ℕ) where
-    pub walking-full : Walking t s p k → 9 ≤ p - k → Gives (min (back t s p) 9) 9
-    walking-full w h = record { answer = omega (arith, w .walk .same) }
-
-    pub walking-end : Walking t s p k → k ≤ 0 → Gives (min (back t s p) 9) p
-    walking-end w h = record { answer = omega (arith, w .most, backs-end t s p k (w .walk) h) }
-
-    module _ (y : Bool) (l : p - k < 9) (h : 0 < k) where
-      pub walking-again : y ≡ true → Gives (t (getD s (k - 1) 0)) y → Walking t s p k → Walking t s p (k - 1)
-      walking-again e g w = record { walk = backs-told-again t s p k y g (w .walk) h e; most = omega arith }
-
-      pub walking-found : y ≡ false → Gives (t (getD s (k - 1) 0)) y → Walking t s p k → Gives (min (back t s p) 9) (p - k)
-      walking-found e g w = record { answer = omega (arith, backs-told-found t s p k y g (w .walk) h e) }
-
-pub ruleset walking-rules = (walking-past, walking-first, walking-full, walking-end, walking-again, walking-found)
-
--- ---- one to nine digits before a place
-module _ (s : List ℕ) (p n : ℕ) where
-  few-all : back digit s p ≤ 9 → n ≡ back digit s p → Gives (few (back digit s p)) n
-  few-all h e = record { answer = e ∙ sym (simp (le-leb (back digit s p) 9 h)) }
-
-  pub before-all : p ≤ n → Gives (min (back digit s p) 9) n → Gives (few (back digit s p)) n
-  before-all h g = let l = back-le digit s p in few-all (omega (arith, g .answer)) (omega (arith, g .answer))
-
-  pub before-short : n < 9 → Gives (min (back digit s p) 9) n → Gives (few (back digit s p)) n
-  before-short h g = few-all (omega (arith, g .answer)) (omega (arith, g .answer))
-
-  module _ (h : n < p) (x : ℕ) (y : Bool) where
-    pub before-more : y ≡ true → Gives (digit x) y → Gives (getD s (p - n - 1) 0) x → Gives (min (back digit s p) 9) n → Gives (few (back digit s p)) 0
-    before-more e d b g = record { answer = sym (simp (lt-leb (back digit s p) 9 more)) }
-      where
-        more : 9 < back digit s p
-        more = by (decide (leb (back digit s p) 9))
-          where
-            by : (leb (back digit s p) 9 ≡ true) ⊎ (leb (back digit s p) 9 ≡ false) → 9 < back digit s p
-            by (inl u) =
-                let l = leb-true (back digit s p) 9 u in
-                let z : suc (p - n - 1) ≡ p - back digit s p = omega (arith, g .answer) in
-                absurd (clash (ap digit (sym (b .answer)) ∙ sym (d .answer) ∙ e) (sym (read-digit s (p - n - 1)) ∙ back-stop digit s p (p - n - 1) z))
-            by (inr u) = leb-false (back digit s p) 9 u
-
-    pub before-few : y ≡ false → Gives (digit x) y → Gives (getD s (p - n - 1) 0) x → Gives (min (back digit s p) 9) n → Gives (few (back digit s p)) n
-    before-few e d b g = few-all less (omega (arith, less, g .answer))
-      where
-        less : back digit s p ≤ 9
-        less = by (decide (leb (back digit s p) 9))
-          where
-            by : (leb (back digit s p) 9 ≡ true) ⊎ (leb (back digit s p) 9 ≡ false) → back digit s p ≤ 9
-            by (inl u) = leb-true (back digit s p) 9 u
-            by (inr u) =
-                let l = leb-false (back digit s p) 9 u in
-                let m = back-le digit s p in
-                absurd (clash (sym (read-digit s (p - n - 1)) ∙ back-run digit s p (p - n - 1) (omega (arith, g .answer)) (omega arith)) (ap digit (sym (b .answer)) ∙ sym (d .answer) ∙ e))
-
-pub ruleset before-rules = (before-all, before-short, before-more, before-few)
-
 -- ---- the number that digits of a text write
 -- one byte more of a part of a text
 slice-more : (u : List ℕ) (from i : ℕ) → from ≤ i → i < length u → slice from (i + 1) u ≡ slice from i u ++ (getD u i 0 ∷ [])
@@ -109,12 +44,137 @@ slice-more u from i h l =
 pub valued-slice : (u : List ℕ) (from i : ℕ) → from ≤ i → i < length u → valued (slice from (i + 1) u) ≡ valued (slice from i u) * 10 + (getD u i 0 - 48)
 valued-slice u from i h l = ap valued (slice-more u from i h l) ∙ valued-more 0 (slice from i u) (getD u i 0)
 
+-- one byte more before it counts its power of ten
+valued-before : (u : List ℕ) (k p : ℕ) → 0 < k → k ≤ p → p ≤ length u → valued (slice (k - 1) p u) ≡ valued (slice k p u) + (getD u (k - 1) 0 - 48) * 10 ^ (p - k)
+valued-before u k p h l m =
+    let x = getD u (k - 1) 0 in
+    let z : suc (k - 1) ≡ k = omega arith in
+    let c : slice (k - 1) p u ≡ x ∷ slice k p u = slice-cons (k - 1) p u 0 (omega arith) m ∙ ap (λ (j : ℕ). x ∷ slice j p u) z in
+    let v : valued (x ∷ slice k p u) ≡ (x - 48) * 10 ^ (p - k) + valued (slice k p u) = rw (← (length-slice k p u m)) (valued-lead x (slice k p u)) in
+    omega (arith, ap valued c, v)
+
 valued-empty : (u : List ℕ) (i : ℕ) → valued (slice i i u) ≡ 0
 valued-empty u i = ap valued (slice-empty i u) ∙ valued-none
 
 read-none : (l : List ℕ) → l ≡ [] → readDigits l ≡ []
 unfolding leading
 read-none l z = ap readDigits z
+
+-- ---- powers of ten
+-- the rule of the table: all of its entries are computed and compared
+pub power-at : (l : List ℕ) (i : ℕ) → l ≡ tabulate (λ (k : ℕ). 10 ^ k) 9 0 → i < 9 → getD l i 0 ≡ 10 ^ i
+power-at l i e h = ap (λ (m : List ℕ). getD m i 0) e ∙ tabulate-at (λ (k : ℕ). 10 ^ k) 9 0 i 0 h ∙ ap (λ (k : ℕ). 10 ^ k) (zero-add i)
+
+power-most : (i : ℕ) → i < 9 → 10 ^ i ≤ 100000000
+power-most i h = pow-le-pow-right {n = 10} (omega arith) {i = i} {j = 8} (omega arith)
+
+-- ---- a walk back over nine digits at the most, which adds what each counts
+pub record Walking (s : List ℕ) (p k v : ℕ) : Type 0 where
+  pub walk : Backs digit s p k
+  pub most : p - k ≤ 9
+  pub value : v ≡ valued (slice k p s)
+  pub small : v < 10 ^ (p - k)
+
+module _ (s : List ℕ) (p : ℕ) where
+  -- n digits are counted, from k on
+  counted : (n k v : ℕ) → n ≡ p - k → k ≤ p → v ≡ valued (slice k p s) → n ≡ min (back digit s p) 9 → Gives (trailAt s p (min (back digit s p) 9)) (record { count = n; number = v })
+  counted n k v e h w m =
+      let z : p - n ≡ k = omega arith in
+      record { answer = rw (← m, z, w) }
+
+  pub walking-past : length s < p → Gives (trailAt s p (min (back digit s p) 9)) (record { count = 0; number = 0 })
+  walking-past h = counted 0 p 0 (omega arith) (omega arith) (sym (valued-empty s p)) (omega (arith, back-past digit s p h))
+
+  pub walking-first : p ≤ length s → Walking s p p 0
+  walking-first h =
+      let z : p - p ≡ 0 = omega arith in
+      record { walk = backs-first digit s p h; most = omega arith; value = sym (valued-empty s p); small = rw z (omega arith) }
+
+  module _ (k v : ℕ) (w : Walking s p k v) where
+    pub walking-low : k ≤ p
+    walking-low = w .walk .below
+
+    pub walking-full : 9 ≤ p - k → Gives (trailAt s p (min (back digit s p) 9)) (record { count = p - k; number = v })
+    walking-full h = counted (p - k) k v refl walking-low (w .value) (omega (arith, w .walk .same, w .most))
+
+    pub walking-end : k ≤ 0 → Gives (trailAt s p (min (back digit s p) 9)) (record { count = p; number = v })
+    walking-end h = counted p k v (omega arith) walking-low (w .value) (omega (arith, w .most, backs-end digit s p k (w .walk) h))
+
+    module _ (y : Bool) (h : 0 < k) (l : p - k < 9) (d : Gives (digit (getD s (k - 1) 0)) y) where
+      pub walking-found : y ≡ false → Gives (trailAt s p (min (back digit s p) 9)) (record { count = p - k; number = v })
+      walking-found e = counted (p - k) k v refl walking-low (w .value) (omega (arith, backs-told-found digit s p k y d (w .walk) h e))
+
+      module _ (e : y ≡ true) (a m : ℕ) (c : Gives (getD s (k - 1) 0 - 48) a) (g : Gives (10 ^ (p - k)) m) where
+        product : a * m ≤ 9 * m
+        product = mul-le-mul-right m (omega (arith, c .answer, digit-most (getD s (k - 1) 0) (sym (d .answer) ∙ e)))
+
+        pub walking-mul : Fits w32 (a * m)
+        walking-mul = record { fits = omega (arith, product, g .answer, power-most (p - k) l) }
+
+        pub walking-add : Fits w32 (v + a * m)
+        walking-add = record { fits = omega (arith, product, w .small, g .answer, power-most (p - k) l) }
+
+        pub walking-again : Walking s p (k - 1) (v + a * m)
+        walking-again =
+            let z : p - (k - 1) ≡ suc (p - k) = omega (arith, walking-low) in
+            record {
+              walk = backs-told-again digit s p k y d (w .walk) h e;
+              most = omega (arith, walking-low);
+              value = rw (w .value, c .answer, g .answer) (sym (valued-before s k p h walking-low (w .walk .inside)));
+              small = rw z (omega (arith, product, w .small, g .answer, pow-succ' 10 (p - k)));
+            }
+
+pub ruleset walking-rules = (walking-past, walking-first, walking-full, walking-end, walking-again, walking-found)
+
+-- ---- one to nine digits before a place
+module _ (s : List ℕ) (p : ℕ) (r : Trail) (g : Gives (trailAt s p (min (back digit s p) 9)) r) where
+  count : r .count ≡ min (back digit s p) 9
+  count = ap (λ (w : Trail). w .count) (g .answer)
+
+  few-all : back digit s p ≤ 9 → Gives (trailAt s p (few (back digit s p))) r
+  few-all h =
+      let z : min (back digit s p) 9 ≡ few (back digit s p) = rw (le-leb (back digit s p) 9 h) (omega arith) in
+      record { answer = g .answer ∙ ap (trailAt s p) z }
+
+  pub before-all : p ≤ r .count → Gives (trailAt s p (few (back digit s p))) r
+  before-all h = few-all (omega (arith, count, back-le digit s p))
+
+  pub before-short : r .count < 9 → Gives (trailAt s p (few (back digit s p))) r
+  before-short h = few-all (omega (arith, count))
+
+  module _ (h : r .count < p) (x : ℕ) (y : Bool) (d : Gives (digit x) y) (b : Gives (getD s (p - r .count - 1) 0) x) where
+    tenth : y ≡ holds digit s (p - r .count - 1)
+    tenth = d .answer ∙ ap digit (b .answer) ∙ sym (read-digit s (p - r .count - 1))
+
+    pub before-more : y ≡ true → Gives (trailAt s p (few (back digit s p))) (record { count = 0; number = 0 })
+    before-more e =
+        let z : p - 0 ≡ p = omega arith in
+        record { answer = sym (rw (lt-leb (back digit s p) 9 more, z, valued-empty s p)) }
+      where
+        more : 9 < back digit s p
+        more = by (decide (leb (back digit s p) 9))
+          where
+            by : (leb (back digit s p) 9 ≡ true) ⊎ (leb (back digit s p) 9 ≡ false) → 9 < back digit s p
+            by (inl u) =
+                let l = leb-true (back digit s p) 9 u in
+                let z : suc (p - r .count - 1) ≡ p - back digit s p = omega (arith, count) in
+                absurd (clash (sym tenth ∙ e) (back-stop digit s p (p - r .count - 1) z))
+            by (inr u) = leb-false (back digit s p) 9 u
+
+    pub before-few : y ≡ false → Gives (trailAt s p (few (back digit s p))) r
+    before-few e = few-all less
+      where
+        less : back digit s p ≤ 9
+        less = by (decide (leb (back digit s p) 9))
+          where
+            by : (leb (back digit s p) 9 ≡ true) ⊎ (leb (back digit s p) 9 ≡ false) → back digit s p ≤ 9
+            by (inl u) = leb-true (back digit s p) 9 u
+            by (inr u) =
+                let l = leb-false (back digit s p) 9 u in
+                let m = back-le digit s p in
+                absurd (clash (back-run digit s p (p - r .count - 1) (omega (arith, count)) (omega arith)) (sym tenth ∙ e))
+
+pub ruleset before-rules = (before-all, before-short, before-more, before-few)
 
 -- ---- a loop that reads nine digits at the most
 -- the first nine bytes from a place on, in a text cut behind them
@@ -139,11 +199,8 @@ module _ (u : List ℕ) (from : ℕ) where
     pub reading-low : from ≤ i
     reading-low = w .seeks .ahead
 
-    power : i - from < 9 → 10 ^ (i - from) ≤ 100000000
-    power l = pow-le-pow-right {n = 10} (omega arith) {i = i - from} {j = 8} (omega arith)
-
     pub reading-mul : i - from < 9 → Fits w32 (v * 10)
-    reading-mul l = record { fits = omega (arith, w .small, power l) }
+    reading-mul l = record { fits = omega (arith, w .small, power-most (i - from) l) }
 
     -- the digits end at i
     done : find (other digit) (take (from + 9) u) from ≡ i → Gives (digitsAt from (readDigits (drop from u))) (record { number = v; end = i })
@@ -188,7 +245,7 @@ module _ (u : List ℕ) (from : ℕ) where
       reading-stop e d b = done (w .seeks .same ∙ find-here (other digit) (take (from + 9) u) i (omega (arith, size, w .seeks .ahead)) (other-yes digit (getD (take (from + 9) u) i 0) (ap digit (byte ∙ sym (b .answer)) ∙ sym (d .answer) ∙ e)))
 
       pub reading-add : (n : ℕ) → y ≡ true → Gives (digit x) y → Gives (x - 48) n → Fits w32 (v * 10 + n)
-      reading-add n e d c = record { fits = omega (arith, w .small, power l, digit-most x (sym (d .answer) ∙ e), c .answer) }
+      reading-add n e d c = record { fits = omega (arith, w .small, power-most (i - from) l, digit-most x (sym (d .answer) ∙ e), c .answer) }
 
       pub reading-again : (n : ℕ) → y ≡ true → Gives (digit x) y → Gives (getD u i 0) x → Gives (x - 48) n → DigitsReading u from (i + 1) (v * 10 + n)
       reading-again n e d b c =
@@ -221,12 +278,15 @@ few-some m n = by (decide (leb m 9))
         (z, rw (u, lt-ltb 0 m l))
     by (inr u) = absurd (n (simp u))
 
-pub few-within : (s : List ℕ) (p n : ℕ) → Gives (few (back digit s p)) n → n ≤ p
-few-within s p n g = by (decide (leb (back digit s p) 9))
+pub few-within : (s : List ℕ) (p : ℕ) (r : Trail) → Gives (trailAt s p (few (back digit s p))) r → r .count ≤ p
+few-within s p r g = by (decide (leb (back digit s p) 9))
   where
-    by : (leb (back digit s p) 9 ≡ true) ⊎ (leb (back digit s p) 9 ≡ false) → n ≤ p
-    by (inl u) = let z : n ≡ back digit s p = g .answer ∙ simp u in omega (arith, back-le digit s p)
-    by (inr u) = let z : n ≡ 0 = g .answer ∙ simp u in omega arith
+    count : r .count ≡ few (back digit s p)
+    count = ap (λ (w : Trail). w .count) (g .answer)
+
+    by : (leb (back digit s p) 9 ≡ true) ⊎ (leb (back digit s p) 9 ≡ false) → r .count ≤ p
+    by (inl u) = let z : r .count ≡ back digit s p = count ∙ simp u in omega (arith, back-le digit s p)
+    by (inr u) = let z : r .count ≡ 0 = count ∙ simp u in omega arith
 
 pub one-to-nine : (m : ℕ) → oneToNine m ≡ true → (0 < m) × (m ≤ 9)
 one-to-nine m e = let w = and-true (ltb 0 m) (leb m 9) e in (ltb-true 0 m (w .0), leb-true m 9 (w .1))

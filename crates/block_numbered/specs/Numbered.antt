@@ -24,6 +24,7 @@ use Rattle.block_numbered.specs.declared.NumberedTurn.the-variants.{Go, 
 use Rattle.block_numbered.specs.declared.NumberedFirst.{NumberedFirst}
 use Rattle.block_numbered.specs.declared.NumberedFirst.the-variants as first
 use Rattle.block_numbered.specs.declared.DigitRun.{DigitRun}
+use Rattle.block_numbered.specs.declared.Trail.{Trail}
 
 -- "1 to 9 ASCII digits"
 abbrev pub oneToNine : ℕ → Bool
@@ -180,6 +181,10 @@ told (Refused r) = refused (numberOf r)
 -- digits read from a place: their number, and where they end
 abbrev pub digitsAt : ℕ → List ℕ → DigitRun
 digitsAt from ds = record { number = valued ds; end = from + length ds }
+
+-- the n digits before a place: how many they are, and their number
+abbrev pub trailAt : List ℕ → ℕ → ℕ → Trail
+trailAt s p n = record { count = n; number = valued (slice (p - n) p s) }
 
 -- ---- the run
 -- the promise of `next` for its result

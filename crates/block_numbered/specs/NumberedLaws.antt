@@ -18,10 +18,11 @@ use Rattle.common.specs.Turning.{Ahead, Adv, Each, OnFound, Covers}
 use Rattle.common.specs.TurnLaws.{collect-covers}
 use Rattle.common.specs.Items.{ItemGrammar, grammar, blank, leading, beyond, leads, itemFrom, itemAt, itemsOf}
 use Rattle.common.specs.ItemLaws.{both, other-true, leading-is, beyond-is, leading-beyond, acceptedAt, from-drop, marked-tests, Parted, marked-parted, parted-marked, Heads, heads-at, heads-front, AtMost, most-from, Walked, walked, walked-is, start-after, line-size, line-length, line-low, Led, led, led-find, led-walked, no-line, on-line, line-rest, line-reach, read-none, read-line, read-finds, read-adv, read-items, hit-adv, hit-finds, hit-covers, blank-refused, accepted-blank, blank-inside, accepted-inside}
-use Rattle.block_numbered.specs.Numbered.{oneToNine, few, numbered, item, numberThen, numberFrom, numberLine, numbers, NoDigit, DigitsApart, streamHit, streamTurn, readDigits, readFrom, readLine, lineTurn, digitsAt}
+use Rattle.block_numbered.specs.Numbered.{oneToNine, few, numbered, item, numberThen, numberFrom, numberLine, numbers, NoDigit, DigitsApart, streamHit, streamTurn, trailAt, readDigits, readFrom, readLine, lineTurn, digitsAt}
 use Rattle.block_numbered.specs.DigitLaws.{few-none, few-some, one-to-nine, nine-yes, digits-small, leading-few, leading-many, drop-leading}
 use Rattle.block_numbered.specs.declared.NumberedItem.{NumberedItem}
 use Rattle.block_numbered.specs.declared.DigitRun.{DigitRun}
+use Rattle.block_numbered.specs.declared.Trail.{Trail}
 
 -- ---- digits between two places
 -- where all bytes from k up to p are digits, nine at the most, they are what is read there
@@ -41,25 +42,28 @@ pub back-read : (s : List ℕ) (p : ℕ) → p ≤ length s → oneToNine (back 
 back-read s p h e = all-read s (p - back digit s p) p (omega arith) h (omega (arith, one-to-nine (back digit s p) e .1)) (walked digit s p h .all)
 
 -- ---- the ways out of the streaming turn
-pub front-size : (s : List ℕ) (p : ℕ) → p < length s → p ≡ length (take p s)
-front-size s p h = sym (length-take-le p s (omega arith))
-
 module _ (eol sep tab : ℕ) (t : ℕ → Bool) (s : List ℕ) (q p : ℕ) where
   pub stream-none : length s ≤ p → Sought t s q p → Gives (streamTurn (grammar eol sep tab t) s q) (stop q)
   unfolding streamTurn
   stream-none h w = record { answer = simp (← (w .here), le-ltb p (length s) h) }
 
-  module _ (n : ℕ) (h : p < length s) (w : Sought t s q p) (g : Gives (few (back digit s p)) n) where
+  module _ (r : Trail) (h : p < length s) (w : Sought t s q p) (x : Gives (trailAt s p (few (back digit s p))) r) where
+    abbrev n : ℕ
+    n = r .count
+
+    g : n ≡ few (back digit s p)
+    g = ap (λ (k : Trail). k .count) (x .answer)
+
     pub stream-digitless : n ≡ 0 → Gives (streamTurn (grammar eol sep tab t) s q) (go (p + 1))
     unfolding streamTurn
-    stream-digitless e = record { answer = simp (← (w .here), lt-ltb p (length s) h, few-none (back digit s p) (sym (g .answer) ∙ e)) }
+    stream-digitless e = record { answer = simp (← (w .here), lt-ltb p (length s) h, few-none (back digit s p) (sym g ∙ e)) }
 
     module _ (y : Bool) (d : n ≡ 0 → ⊥) where
       some : (few (back digit s p) ≡ back digit s p) × (oneToNine (back digit s p) ≡ true)
-      some = few-some (back digit s p) (λ z. d (g .answer ∙ z))
+      some = few-some (back digit s p) (λ z. d (g ∙ z))
 
       count : n ≡ back digit s p
-      count = g .answer ∙ some .0
+      count = g ∙ some .0
 
       -- by the tests that are left
       rest : (z : Bool) → Gives (leads eol sep tab s (p - n)) y → Gives (holds (either sep tab) s (p + 1)) z
@@ -75,10 +79,10 @@ module _ (eol sep tab : ℕ) (t : ℕ → Bool) (s : List ℕ) (q p : ℕ) where
         pub stream-bare : z ≡ false → Gives (leads eol sep tab s (p - n)) y → Gives (holds (either sep tab) s (p + 1)) z → Gives (streamTurn (grammar eol sep tab t) s q) (go (p + 1))
         stream-bare e a b = record { answer = sym (rest z a b ∙ simp (f, e)) }
 
-        pub stream-found : (e i m : ℕ) (r : DigitRun) → z ≡ true → Gives (leads eol sep tab s (p - n)) y → Gives (holds (either sep tab) s (p + 1)) z → Gives (digitsAt (p - n) (readDigits (slice (p - n) p s))) r
+        pub stream-found : (e i m : ℕ) → z ≡ true → Gives (leads eol sep tab s (p - n)) y → Gives (holds (either sep tab) s (p + 1)) z
             → Sought (is eol) s (p + 2) e → Gives (nextLine (length s) e) i → Gives (getD s p 0) m → Gives (streamTurn (grammar eol sep tab t) s q) (found (item (r .number) m (p + 2) e) i)
-        stream-found e i m r c a b x l v k =
-            let u : r .number ≡ valued (slice (p - n) p s) = ap (λ (j : DigitRun). j .number) (x .answer) ∙ ap valued (subst (λ (j : ℕ). readDigits (slice (p - j) p s) ≡ slice (p - j) p s) (sym count) (back-read s p (omega arith) (some .1))) in
+        stream-found e i m c a b l v k =
+            let u : r .number ≡ valued (slice (p - n) p s) = ap (λ (j : Trail). j .number) (x .answer) ∙ ap (λ (j : ℕ). valued (slice (p - j) p s)) (sym g) in
             record { answer = sym (rest z a b ∙ simp (f, c, ← (l .here), ← (v .answer), ← (k .answer), ← u)) }
 
 pub ruleset stream-rules = (stream-none, stream-digitless, stream-unled, stream-bare, stream-found)

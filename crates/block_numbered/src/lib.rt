@@ -3,9 +3,10 @@
 // An item's line has optional separators and tabs, one to nine ASCII digits, an accepted delimiter, and one separator or tab; the
 // span is the rest of the line. Ten digits reject.
 //
-// With up to three accepted delimiters the scan is streaming: one search for them, with a walk back over the digits and a look back
-// over separators and tabs to see that the item leads its line. Searching for the delimiter spares a search for ten digits; a stray
-// delimiter in prose fails at once, on the byte before it. With more delimiters the lines are read one by one.
+// With up to three accepted delimiters the scan is streaming: one search for them, with a walk back over the digits, which adds up
+// their number, and a look back over separators and tabs to see that the item leads its line. Searching for the delimiter spares a
+// search for ten digits; a stray delimiter in prose fails at once, on the byte before it. With more delimiters the lines are read one
+// by one, their digits forward.
 use common::items::blank_at;
 use common::items::leads_later;
 use common::refusal::Refusal;
@@ -19,7 +20,7 @@ use search::blank_end;
 use search::byte_at;
 use search::is_digit;
 use search::next_line;
-ghost use Prim.Native.Nat.{_≤_, _-_, min};
+ghost use Prim.Native.Nat.{_≤_, _<_, _-_, _^_, min};
 ghost use lib.ListN.{length, take, drop};
 ghost use Rattle.search.specs.Promise.{Gives, Steps};
 ghost use Rattle.search.specs.Search.{oneOf, back, digit};
@@ -27,7 +28,7 @@ ghost use Rattle.common.specs.Items.{grammar, has};
 ghost use Rattle.common.specs.Later.{Unled, Looked};
 ghost use Rattle.common.specs.Scanning.{at, first};
 ghost use Rattle.common.specs.Turn.{firstTurn};
-ghost use Rattle.block_numbered.specs.Numbered.{few, readDigits, digitsAt, streamTurn, lineTurn, scanner, fresh, view, rests, told, answer, state};
+ghost use Rattle.block_numbered.specs.Numbered.{few, trailAt, readDigits, digitsAt, streamTurn, lineTurn, scanner, fresh, view, rests, told, answer, state};
 
 // The fields of the Rust's iterator; the text and the set of accepted delimiters are lent beside it.
 pub struct BlockNumberedIter {
@@ -81,7 +82,26 @@ pub struct DigitRun {
     pub end: usize,
 }
 
-// What a digit counts.
+// Digits that were walked back over: how many, and their number.
+struct Trail {
+    count: usize,
+    number: u32,
+}
+
+// Nine powers of ten: at place i what a 1 counts that has i digits behind it.
+const POWERS: [u32; 9] = [
+    1,
+    10,
+    100,
+    1000,
+    10000,
+    100000,
+    1000000, // a million
+    10000000,
+    100000000,
+];
+
+// A digit's value.
 fn digit_value(x: u8) -> u32
     ensures { λ r. ⌜ Gives (x - 48) r ⌝ }
 {
@@ -91,42 +111,61 @@ fn digit_value(x: u8) -> u32
     (x - 48) as u32
 }
 
-// How many digits stand just before `p`, nine at the most.
-fn nine_before(src: &[u8], p: usize) -> usize
-    ensures { λ r. ⌜ Gives (min (back digit (now (src .entry)) p) 9) r ⌝ }
+// The power of ten at a place of the table.
+fn power(i: usize) -> u32
+    requires { ⌜ i < 9 ⌝ }
+    ensures { λ r. ⌜ Gives (10 ^ i) r ⌝ }
 {
-    if p > src.len() {
-        return 0;
-    }
-    let mut k = p;
-    while k > 0 {
-        if p - k >= 9 {
-            return 9;
-        }
-        if is_digit(src[k - 1]) {
-            k -= 1;
-        } else {
-            return p - k;
-        }
-    }
-    p
+    POWERS[i]
 }
 
-// How many digits stand just before `p`, if they are one to nine; else 0.
-fn digits_before(src: &[u8], p: usize) -> usize
-    ensures { λ r. ⌜ Gives (few (back digit (now (src .entry)) p)) r ⌝ }
+// The digits just before `p`, nine at the most. Each is read once: what it counts is added as it is passed.
+fn nine_before(src: &[u8], p: usize) -> Trail
+    ensures { λ r. ⌜ Gives (trailAt (now (src .entry)) p (min (back digit (now (src .entry)) p) 9)) r ⌝ }
 {
-    let n = nine_before(src, p);
+    if p > src.len() {
+        return Trail {
+            count: 0,
+            number: 0,
+        };
+    }
+    let mut k = p;
+    let mut number: u32 = 0;
+    while k > 0 {
+        let count = p - k;
+        if count >= 9 {
+            return Trail { count, number };
+        }
+        let x = src[k - 1];
+        if is_digit(x) {
+            number = number + digit_value(x) * power(count);
+            k -= 1;
+        } else {
+            return Trail { count, number };
+        }
+    }
+    Trail { count: p, number }
+}
+
+// The digits just before `p`, if they are one to nine; else none.
+fn digits_before(src: &[u8], p: usize) -> Trail
+    ensures { λ r. ⌜ Gives (trailAt (now (src .entry)) p (few (back digit (now (src .entry)) p))) r ⌝ }
+{
+    let walked = nine_before(src, p);
+    let n = walked.count;
     if n < 9 {
-        return n;
+        return walked;
     }
     if p <= n {
-        return n;
+        return walked;
     }
     if is_digit(byte_at(src, p - n - 1)) {
-        return 0; // ten digits or more
+        return Trail {
+            count: 0, // ten digits or more
+            number: 0,
+        };
     }
-    n
+    walked
 }
 
 // The digits of a line from `from` on, nine at the most.
@@ -174,14 +213,14 @@ fn stream_turn(
         return NumberedTurn::Stop(q);
     }
     let nxt = p + 1;
-    let n = digits_before(src, p);
+    let digits = digits_before(src, p);
+    let n = digits.count;
     if n == 0 {
         return NumberedTurn::Go(nxt);
     }
     let k = p - n;
     if leads_later(src, k, eol, sep, tab, lost) {
         if blank_at(src, nxt, sep, tab) {
-            let digits = read_digits(&src[..p], k);
             let start = p + 2;
             let e = find_byte(src, start, eol);
             return NumberedTurn::Found(digits.number, byte_at(src, p), start, e, next_line(len, e));

@@ -4,9 +4,9 @@ use mathlib.Core.Bool.{true, false}
 use mathlib.Core.List.{List, [], _∷_, _++_, append-assoc, append-nil}
 use mathlib.Core.Logic.{_⊎_, inl, inr}
 use Prim.Native.Nat.{ℕ, zero, suc, _+_, _-_, _*_, _/_, _%_, _^_, _≤_, _<_}
-use native.Mathlib.Nat.{not-suc-le-zero, pow-succ', mul-le-mul-right}
+use native.Mathlib.Nat.{not-suc-le-zero, pow-zero, pow-succ', mul-le-mul-right, add-mul, mul-assoc}
 use native.Mathlib.Omega.{arith}
-use lib.Dec.{ltb, leb}
+use lib.Dec.{ltb}
 use lib.ListN.{length, take, replicate, length-append}
 use lib.Seq.{take-append-seam}
 use borrow.Author.Tests.{lt-ltb, le-ltb, ltb-true, ltb-false, le-leb}
@@ -111,6 +111,25 @@ valued-append v (x ∷ a) b = valued-append (v * 10 + (x - 48)) a b
 pub valued-more : (v : ℕ) (l : List ℕ) (x : ℕ) → valuedFrom v (l ++ (x ∷ [])) ≡ valuedFrom v l * 10 + (x - 48)
 unfolding valuedFrom
 valued-more v l x = valued-append v l (x ∷ [])
+
+-- a number before digits counts the power of ten with as many zeros
+valued-behind : (v : ℕ) (l : List ℕ) → valuedFrom v l ≡ v * 10 ^ length l + valued l
+unfolding valuedFrom
+valued-behind v [] = sym (rw pow-zero (omega arith))
+valued-behind v (x ∷ l) =
+    let n = length l in
+    let d = x - 48 in
+    let z : 0 * 10 + d ≡ d = omega arith in
+    let a : valuedFrom (v * 10 + d) l ≡ (v * 10 + d) * 10 ^ n + valued l = valued-behind (v * 10 + d) l in
+    let b : valuedFrom (0 * 10 + d) l ≡ d * 10 ^ n + valued l = rw z (valued-behind d l) in
+    let e : (v * 10 + d) * 10 ^ n ≡ v * 10 * 10 ^ n + d * 10 ^ n = add-mul (v * 10) d (10 ^ n) in
+    let f : v * 10 ^ suc n ≡ v * 10 * 10 ^ n = ap (λ (k : ℕ). v * k) (pow-succ' 10 n) ∙ sym (mul-assoc v 10 (10 ^ n)) in
+    omega (arith, a, b, e, f)
+
+-- and so does a first digit
+pub valued-lead : (x : ℕ) (l : List ℕ) → valued (x ∷ l) ≡ (x - 48) * 10 ^ length l + valued l
+unfolding valuedFrom
+valued-lead x l = let z : 0 * 10 + (x - 48) ≡ x - 48 = omega arith in rw z (valued-behind (x - 48) l)
 
 -- none are worth 0
 pub valued-none : valued [] ≡ 0

@@ -238,7 +238,8 @@ impl Row for Sheet {
                 let ((number, delimiter), content) = stepped.next().unwrap();
                 [content.start, content.end, 1, delimiter.into(), number]
             };
-            if !cursor.is_covered(item[0] as usize) {
+            // the marker or delimiter stands two before the content
+            if !cursor.is_covered(item[0] as usize - 2) {
                 items.push(item);
             }
         }

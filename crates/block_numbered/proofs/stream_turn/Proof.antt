@@ -1,6 +1,6 @@
 -- `stream_turn` meets its contract. Assumes nothing.
 use Rattle.block_numbered.specs.DigitLaws.{few-within}
-use Rattle.block_numbered.specs.NumberedLaws.{front-size, stream-rules}
+use Rattle.block_numbered.specs.NumberedLaws.{stream-rules}
 use Rattle.common.specs.LaterLaws.{led-rules}
 use borrow.Author.Needs.{needs}
 use Rattle.block_numbered.proofs.stream_turn.Statement.{statement}
@@ -29,12 +29,6 @@ leads-later-requires c κs = search needs
 
 blank-at-requires : tie.Need-blank-at-requires
 blank-at-requires c κs = search needs
-
-slice-aggregate-read-digits : tie.Need-slice-aggregate-read-digits
-slice-aggregate-read-digits c = search front-size
-
-read-digits-requires : tie.Need-read-digits-requires
-read-digits-requires c κs = search needs
 
 add-start : tie.Need-add-start
 add-start c = search needs
@@ -69,8 +63,6 @@ stream-turn-spec =
     sub-k
     leads-later-requires
     blank-at-requires
-    slice-aggregate-read-digits
-    read-digits-requires
     add-start
     find-byte-requires
     byte-at-requires
