@@ -6,7 +6,7 @@ use mathlib.Core.Bool.{Bool}
 use mathlib.Core.List.{List}
 use Prim.Native.Nat.{ℕ}
 use Rattle.common.specs.Entry.{flatten}
-use Rattle.common.specs.Lists.{filledAnswer, buildAnswer, filledBy}
+use Rattle.common.specs.Lists.{filledAnswer, buildAnswer, countAnswer, filledBy}
 use Rattle.common.specs.Refusals.{Outcome}
 use Rattle.cells.specs.Reply.{fitted, Replied}
 
@@ -28,3 +28,8 @@ PouredAs flat w l before after r = Poured (filledAnswer w l (before .list)) (fla
 -- "For building: 1, 6, 3.", of a list whose entries have w bytes each, with the list that is left
 abbrev pub BuiltAs : {A : Type 0} → (A → List ℕ) → ℕ → Bool → List A → List ℕ → ListRuns → ListRuns → ℕ → Type 0
 BuiltAs flat w bad l s before after r = Poured (buildAnswer w bad l s (before .list)) (flatten flat l) before after r
+
+-- ---- counting
+-- how many entries building would write, whatever the room; no list is lent
+abbrev pub CountedAs : {A : Type 0} → Bool → List A → List ℕ → List ℕ → List ℕ → ℕ → Type 0
+CountedAs bad l s run run′ r = Replied (countAnswer bad l s) run run′ r

@@ -11,9 +11,9 @@ use Rattle.search.specs.Promise.{Gives}
 use Rattle.search.specs.SearchLaws.{decide}
 use Rattle.common.specs.Entry.{flatten}
 use Rattle.common.specs.Refusals.{Outcome, given, refused, differ}
-use Rattle.common.specs.Lists.{Wrote, filledAnswer, buildAnswer}
+use Rattle.common.specs.Lists.{Wrote, filledAnswer, buildAnswer, countAnswer}
 use Rattle.cells.specs.Reply.{fitted, Replied}
-use Rattle.cells.specs.Poured.{ListRuns, Poured, PouredAs, BuiltAs}
+use Rattle.cells.specs.Poured.{ListRuns, Poured, PouredAs, BuiltAs, CountedAs}
 use Rattle.cells.specs.ByteRules.{ColumnRuns, RuleRuns, uneven, unevenColumns, unevenRules}
 use Rattle.cells.specs.ReplyLaws.{replied-unique, refused-by, reply-short, enough, too-short}
 
@@ -78,19 +78,61 @@ or-right : (a b : Bool) → b ≡ true → (a || b) ≡ true
 or-right true b e = refl
 or-right false b e = e
 
--- by rules as columns, whatever is made by them: b says whether an inline rule's columns are uneven
-module _ {A : Type 0} (flat : A → List ℕ) (w : ℕ) (c : ColumnRuns) (l : List A) (s : List ℕ) (lent : ListRuns) where
-  pub columns-differ : length s ≤ 4294967295 → (length (c .fenceBytes) ≡ length (c .fenceMins) → ⊥) → BuiltAs flat w (unevenColumns c) l s lent lent 6
-  unfolding unevenColumns
-  columns-differ h d = build-bad flat w (unevenColumns c) l s lent h (rw (ne-eqb (length (c .fenceBytes)) (length (c .fenceMins)) d))
+-- ---- the ways out of counting
+module _ {A : Type 0} (bad : Bool) (l : List A) (s run : List ℕ) where
+  not-counted : (n : ℕ) → eqb n 0 ≡ false → countAnswer bad l s ≡ refused n → CountedAs bad l s run run n
+  not-counted n e x = subst (λ (o : Outcome). Replied o run run n) (sym x) (refused-by n run e)
 
-  pub columns-uneven : (b : Bool) → length s ≤ 4294967295 → b ≡ true → Gives (uneven (c .inline)) b → BuiltAs flat w (unevenColumns c) l s lent lent 6
-  unfolding unevenColumns
-  columns-uneven b h e u = build-bad flat w (unevenColumns c) l s lent h (or-right (differ (c .fenceBytes) (c .fenceMins)) (uneven (c .inline)) (sym (u .answer) ∙ e))
+  pub count-long : 4294967295 < length s → CountedAs bad l s run run 1
+  unfolding countAnswer
+  count-long h = not-counted 1 refl (simp (lt-ltb 4294967295 (length s) h))
 
-  pub columns-built : (b : Bool) (after : ListRuns) (r : ℕ) → length s ≤ 4294967295 → length (c .fenceBytes) ≡ length (c .fenceMins) → b ≡ false → Gives (uneven (c .inline)) b → PouredAs flat w l lent after r → BuiltAs flat w (unevenColumns c) l s lent after r
+  count-bad : length s ≤ 4294967295 → bad ≡ true → CountedAs bad l s run run 6
+  unfolding countAnswer
+  count-bad h e = not-counted 6 refl (simp (le-ltb 4294967295 (length s) h, e))
+
+  count-good : (run′ : List ℕ) (r : ℕ) → length s ≤ 4294967295 → bad ≡ false → Replied (given (length l ∷ [])) run run′ r → CountedAs bad l s run run′ r
+  unfolding countAnswer
+  count-good run′ r h e d =
+      let x : countAnswer bad l s ≡ given (length l ∷ []) = simp (le-ltb 4294967295 (length s) h, e) in
+      subst (λ (o : Outcome). Replied o run run′ r) (sym x) d
+
+-- ---- by rules as columns, whatever is made by them: b says whether an inline rule's columns are uneven
+module _ (c : ColumnRuns) where
+  fences-differ : (length (c .fenceBytes) ≡ length (c .fenceMins) → ⊥) → unevenColumns c ≡ true
   unfolding unevenColumns
-  columns-built b after r h e u x v = build-good flat w (unevenColumns c) l s lent after r h (rw (eq-eqb (length (c .fenceBytes)) (length (c .fenceMins)) e) (sym (x .answer) ∙ u)) v
+  fences-differ d = rw (ne-eqb (length (c .fenceBytes)) (length (c .fenceMins)) d)
+
+  inline-uneven : (b : Bool) → b ≡ true → Gives (uneven (c .inline)) b → unevenColumns c ≡ true
+  unfolding unevenColumns
+  inline-uneven b e u = or-right (differ (c .fenceBytes) (c .fenceMins)) (uneven (c .inline)) (sym (u .answer) ∙ e)
+
+  all-even : (b : Bool) → length (c .fenceBytes) ≡ length (c .fenceMins) → b ≡ false → Gives (uneven (c .inline)) b → unevenColumns c ≡ false
+  unfolding unevenColumns
+  all-even b e u x = rw (eq-eqb (length (c .fenceBytes)) (length (c .fenceMins)) e) (sym (x .answer) ∙ u)
+
+  module _ {A : Type 0} (l : List A) (s : List ℕ) (h : length s ≤ 4294967295) where
+    -- building
+    module _ (flat : A → List ℕ) (w : ℕ) (lent : ListRuns) where
+      pub columns-differ : (length (c .fenceBytes) ≡ length (c .fenceMins) → ⊥) → BuiltAs flat w (unevenColumns c) l s lent lent 6
+      columns-differ d = build-bad flat w (unevenColumns c) l s lent h (fences-differ d)
+
+      pub columns-uneven : (b : Bool) → b ≡ true → Gives (uneven (c .inline)) b → BuiltAs flat w (unevenColumns c) l s lent lent 6
+      columns-uneven b e u = build-bad flat w (unevenColumns c) l s lent h (inline-uneven b e u)
+
+      pub columns-built : (b : Bool) (after : ListRuns) (r : ℕ) → length (c .fenceBytes) ≡ length (c .fenceMins) → b ≡ false → Gives (uneven (c .inline)) b → PouredAs flat w l lent after r → BuiltAs flat w (unevenColumns c) l s lent after r
+      columns-built b after r e u x v = build-good flat w (unevenColumns c) l s lent after r h (all-even b e u x) v
+
+    -- counting
+    module _ (run : List ℕ) where
+      pub counted-differ : (length (c .fenceBytes) ≡ length (c .fenceMins) → ⊥) → CountedAs (unevenColumns c) l s run run 6
+      counted-differ d = count-bad (unevenColumns c) l s run h (fences-differ d)
+
+      pub counted-uneven : (b : Bool) → b ≡ true → Gives (uneven (c .inline)) b → CountedAs (unevenColumns c) l s run run 6
+      counted-uneven b e u = count-bad (unevenColumns c) l s run h (inline-uneven b e u)
+
+      pub counted-even : (b : Bool) (run′ : List ℕ) (r : ℕ) → length (c .fenceBytes) ≡ length (c .fenceMins) → b ≡ false → Gives (uneven (c .inline)) b → Replied (given (length l ∷ [])) run run′ r → CountedAs (unevenColumns c) l s run run′ r
+      counted-even b run′ r e u x v = count-good (unevenColumns c) l s run run′ r h (all-even b e u x) v
 
 -- by fence rules of two bytes each
 module _ {A : Type 0} (flat : A → List ℕ) (w : ℕ) (c : RuleRuns) (l : List A) (s : List ℕ) (lent : ListRuns) where

@@ -35,9 +35,17 @@ filledAnswer w l out = refuse 3 (crowded w l out) (given (length l ∷ []))
 abbrev pub filledList : {A : Type 0} → (A → List ℕ) → ℕ → List A → List ℕ → List ℕ
 filledList flat w l out = filledBy (filledAnswer w l out) (flatten flat l) out
 
--- "For building: 1, 6, 3.", of a text and of the list that rules make of it, where columns may differ
+-- "For building: 1, 6, 3.": the first two, which a text and rules whose columns may differ decide, else what follows
+abbrev pub ruled : Bool → List ℕ → Outcome → Outcome
+ruled differing s o = refuse 1 (tooLong s) (refuse 6 differing o)
+
+-- all three, of a text and of the list that rules make of it
 unfoldable pub buildAnswer : {A : Type 0} → ℕ → Bool → List A → List ℕ → List ℕ → Outcome
-buildAnswer w differing l s out = refuse 1 (tooLong s) (refuse 6 differing (filledAnswer w l out))
+buildAnswer w differing l s out = ruled differing s (filledAnswer w l out)
+
+-- the first two alone where the list is counted and not written
+unfoldable pub countAnswer : {A : Type 0} → Bool → List A → List ℕ → Outcome
+countAnswer differing l s = ruled differing s (given (length l ∷ []))
 
 -- what filling a run answers and leaves
 pub record Filled {A : Type 0} (flat : A → List ℕ) (w : ℕ) (l : List A) (out out′ : List ℕ) (o : Outcome) : Type 0 where

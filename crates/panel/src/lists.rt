@@ -1,9 +1,9 @@
-// Lists in bytes: regions by their rules, and the work sheet.
+// Lists in bytes: regions by their rules, and the work sheet; each written, or counted.
 use pour::building::build_columns;
 use pour::building::build_rules;
 use sheeting::sheet_columns;
-ghost use Rattle.pour.specs.Building.{BuiltBytes, BuiltRules};
-ghost use Rattle.sheeting.specs.Sheeting.{SheetBytes};
+ghost use Rattle.pour.specs.Building.{BuiltBytes, BuiltRules, CountedBytes};
+ghost use Rattle.sheeting.specs.Sheeting.{SheetBytes, SheetCounted};
 
 // Building by rules given as columns: fence bytes and minimums; symmetric bytes and counts; asymmetric openers, closers and counts. A
 // count column has four bytes for each byte of its byte column.
@@ -55,6 +55,56 @@ pub extern "C" fn rack_build(
         closers,
         counts,
         out,
+        answer,
+    )
+}
+
+// How many regions building by these columns would write: the room that a list needs.
+#[no_mangle]
+pub extern "C" fn rack_build_count(
+    text: &[u8],
+    eol: u8,
+    escape: u8,
+    sep: u8,
+    tab: u8,
+    fences: &[u8],
+    mins: &[u8],
+    symmetric: &[u8],
+    times: &[u8],
+    openers: &[u8],
+    closers: &[u8],
+    counts: &[u8],
+    answer: &mut [u8],
+) -> u32
+    ensures { λ r. ⌜
+        CountedBytes (record { eol = eol; escape = escape; sep = sep; tab = tab })
+        (record {
+          fenceBytes = now (fences .entry);
+          fenceMins = now (mins .entry);
+          inline = record {
+            symBytes = now (symmetric .entry);
+            symCounts = now (times .entry);
+            openers = now (openers .entry);
+            closers = now (closers .entry);
+            openCounts = now (counts .entry);
+          };
+        })
+        (now (text .entry)) (now (answer .entry)) (now (answer .exit)) r
+        ⌝ }
+{
+    pour::counting::count_columns(
+        text,
+        eol,
+        escape,
+        sep,
+        tab,
+        fences,
+        mins,
+        symmetric,
+        times,
+        openers,
+        closers,
+        counts,
         answer,
     )
 }
@@ -166,6 +216,60 @@ pub extern "C" fn rack_sheet(
         markers,
         delims,
         out,
+        answer,
+    )
+}
+
+// How many items that work sheet would have.
+#[no_mangle]
+pub extern "C" fn rack_sheet_count(
+    text: &[u8],
+    eol: u8,
+    escape: u8,
+    sep: u8,
+    tab: u8,
+    fences: &[u8],
+    mins: &[u8],
+    symmetric: &[u8],
+    times: &[u8],
+    openers: &[u8],
+    closers: &[u8],
+    counts: &[u8],
+    markers: &[u8],
+    delims: &[u8],
+    answer: &mut [u8],
+) -> u32
+    ensures { λ r. ⌜
+        SheetCounted (record { eol = eol; escape = escape; sep = sep; tab = tab })
+        (record {
+          fenceBytes = now (fences .entry);
+          fenceMins = now (mins .entry);
+          inline = record {
+            symBytes = now (symmetric .entry);
+            symCounts = now (times .entry);
+            openers = now (openers .entry);
+            closers = now (closers .entry);
+            openCounts = now (counts .entry);
+          };
+        })
+        (now (markers .entry)) (now (delims .entry)) (now (text .entry)) (now (answer .entry)) (now (answer .exit)) r
+        ⌝ }
+{
+    sheeting::counting::count_columns(
+        text,
+        eol,
+        escape,
+        sep,
+        tab,
+        fences,
+        mins,
+        symmetric,
+        times,
+        openers,
+        closers,
+        counts,
+        markers,
+        delims,
         answer,
     )
 }

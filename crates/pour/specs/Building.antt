@@ -9,7 +9,7 @@ use Rattle.region.specs.Region.{Caused, rowOf}
 use Rattle.rules.specs.Columns.{Columns}
 use Rattle.cells.specs.ByteRules.{ColumnRuns, RuleRuns, unevenColumns, unevenRules, columnsIn, ruleColumnsIn}
 use Rattle.cells.specs.Bytes.{four, rowBytes}
-use Rattle.cells.specs.Poured.{ListRuns, PouredAs, BuiltAs}
+use Rattle.cells.specs.Poured.{ListRuns, PouredAs, BuiltAs, CountedAs}
 
 -- a region's bytes: its start, and its exclusive end
 abbrev pub regionBytes : Caused → List ℕ
@@ -26,3 +26,7 @@ BuiltBytes g c s before after r = BuiltAs regionBytes rowBytes (unevenColumns c)
 -- by fence rules of two bytes each
 abbrev pub BuiltRules : Grammar → RuleRuns → List ℕ → ListRuns → ListRuns → ℕ → Type 0
 BuiltRules g c s before after r = BuiltAs regionBytes rowBytes (unevenRules c) (builtBy g (ruleColumnsIn c) s) s before after r
+
+-- how many regions building by columns would write
+abbrev pub CountedBytes : Grammar → ColumnRuns → List ℕ → List ℕ → List ℕ → ℕ → Type 0
+CountedBytes g c s run run′ r = CountedAs (unevenColumns c) (builtBy g (columnsIn c) s) s run run′ r

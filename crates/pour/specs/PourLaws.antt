@@ -1,5 +1,5 @@
 -- Laws of regions written into a list in bytes, and the ways out of building. Assumes nothing.
-use mathlib.Core.Path.{_≡_, refl, sym, subst, _∙_}
+use mathlib.Core.Path.{_≡_, refl, sym, ap, subst, _∙_}
 use mathlib.Core.Bool.{true, cond}
 use mathlib.Core.List.{List, [], _∷_}
 use Prim.Native.Nat.{ℕ, _+_, _-_, _*_, _/_, _≤_, _<_, min}
@@ -16,7 +16,7 @@ use Rattle.region.specs.Region.{Caused}
 use Rattle.rules.specs.Grammar.{Gram}
 use Rattle.region.specs.Regions.{regions, builtBy}
 use Rattle.common.specs.Lists.{RowPut}
-use Rattle.rules.specs.Columns.{alphabetOf}
+use Rattle.rules.specs.Columns.{alphabetOf, gramOf}
 use Rattle.rules.specs.Rows.{gramBy, Folded}
 use Rattle.rules.specs.Records.{keptBytes, keptMins, AllGathered}
 use Rattle.rules.specs.RecordLaws.{take-front}
@@ -47,14 +47,26 @@ pub fits-counted : (g : Gram) (s : List ℕ) (len most k : ℕ) → Gives (len /
 fits-counted g s len most k room c = rw (c .answer, room .answer)
 
 -- ---- by the rules, folded
+gram-folded : (g : Grammar) (c : ColumnRuns) (a : Alphabet) (fences : List ℕ) (rows : List (List ℕ)) → Gives (alphabetOf g (c .fenceBytes) (c .inline .symBytes) (c .inline .openers)) a
+    → Gives (fenceTable (c .fenceBytes) (c .fenceMins)) fences → Folded (c .fenceBytes) (inlineIn (c .inline)) rows → gramBy a fences rows ≡ gramOf g (columnsIn c)
+unfolding columnsIn
+gram-folded g c a fences rows ha hf hr =
+    let i = c .inline in
+    gram-same (c .fenceBytes) (i .symBytes) (cells (i .symCounts)) (i .openers) (i .closers) (cells (i .openCounts)) rows hr g (c .fenceMins) a fences ha hf
+
 pub poured-columns : (g : Grammar) (c : ColumnRuns) (s : List ℕ) (before after : ListRuns) (a : Alphabet) (fences : List ℕ) (rows : List (List ℕ)) (r : ℕ) → Gives (alphabetOf g (c .fenceBytes) (c .inline .symBytes) (c .inline .openers)) a
     → Gives (fenceTable (c .fenceBytes) (c .fenceMins)) fences → Folded (c .fenceBytes) (inlineIn (c .inline)) rows
     → PouredAs regionBytes rowBytes (regions (gramBy a fences rows) s) before after r → PouredBy g (columnsIn c) s before after r
-unfolding columnsIn
 poured-columns g c s before after a fences rows r ha hf hr v =
-    let i = c .inline in
-    let e = gram-same (c .fenceBytes) (i .symBytes) (cells (i .symCounts)) (i .openers) (i .closers) (cells (i .openCounts)) rows hr g (c .fenceMins) a fences ha hf in
-    subst (λ (z : Gram). PouredAs regionBytes rowBytes (regions z s) before after r) e v
+    subst (λ (z : Gram). PouredAs regionBytes rowBytes (regions z s) before after r) (gram-folded g c a fences rows ha hf hr) v
+
+-- counted by them
+pub counted-columns : (g : Grammar) (c : ColumnRuns) (s run run′ : List ℕ) (a : Alphabet) (fences : List ℕ) (rows : List (List ℕ)) (k r : ℕ) → Gives (alphabetOf g (c .fenceBytes) (c .inline .symBytes) (c .inline .openers)) a
+    → Gives (fenceTable (c .fenceBytes) (c .fenceMins)) fences → Folded (c .fenceBytes) (inlineIn (c .inline)) rows
+    → Gives (length (regions (gramBy a fences rows) s)) k → Replied (given (k ∷ [])) run run′ r → Replied (given (length (builtBy g (columnsIn c) s) ∷ [])) run run′ r
+counted-columns g c s run run′ a fences rows k r ha hf hr n d =
+    let e : k ≡ length (builtBy g (columnsIn c) s) = n .answer ∙ ap (λ (z : Gram). length (regions z s)) (gram-folded g c a fences rows ha hf hr) in
+    subst (λ (x : ℕ). Replied (given (x ∷ [])) run run′ r) e d
 
 -- by the first of two columns
 pub poured-front : (g : Grammar) (f m : List ℕ) (i : InlineRuns) (s : List ℕ) (before after : ListRuns) (used p q r : ℕ) → Gives (min used (length f)) p → Gives (min used (length m)) q

@@ -15,7 +15,7 @@ use Rattle.sheet.specs.Sheet.{five, sheetOf}
 use Rattle.sheet.specs.Parts.{left, Onward, Turned}
 use Rattle.feed.specs.declared.item.SheetItem.{SheetItem}
 use Rattle.cells.specs.Bytes.{four}
-use Rattle.cells.specs.Poured.{ListRuns, PouredAs, BuiltAs}
+use Rattle.cells.specs.Poured.{ListRuns, PouredAs, BuiltAs, CountedAs}
 use Rattle.cells.specs.ByteRules.{ColumnRuns, unevenColumns, columnsIn}
 use Rattle.region.specs.MemoryLaws.{Sound}
 use Rattle.sheeting.specs.Hiding.{HidesFrom}
@@ -39,6 +39,11 @@ SheetPoured l before after r = PouredAs itemBytes 20 l before after r
 abbrev pub SheetBytes : Grammar → ColumnRuns → List ℕ → List ℕ → List ℕ → ListRuns → ListRuns → ℕ → Type 0
 SheetBytes g c markers delims s before after r =
     BuiltAs itemBytes 20 (unevenColumns c) (sheetWith g (setOf markers) (setOf delims) (builtBy g (columnsIn c) s) s) s before after r
+
+-- how many items that sheet would have
+abbrev pub SheetCounted : Grammar → ColumnRuns → List ℕ → List ℕ → List ℕ → List ℕ → List ℕ → ℕ → Type 0
+SheetCounted g c markers delims s run run′ r =
+    CountedAs (unevenColumns c) (sheetWith g (setOf markers) (setOf delims) (builtBy g (columnsIn c) s) s) s run run′ r
 
 -- ---- the parts
 module _ (g : Gram) (markers delims : List Bool) (s : List ℕ) where

@@ -122,6 +122,10 @@ module _ (g : Grammar) (z : Gram) (markers delims : List Bool) (s : List ℕ) (a
       let e : rows wide (length (regions z s)) (flatten rowOf (regions z s)) ≡ map rowOf (regions z s) = rw (← (append-nil (flatten rowOf (regions z s)))) (rows-flatten rowOf wide row-wide (regions z s) []) in
       rw e (ap (outside (map rowOf (regions z s))) (w .same))
 
+  -- how many they are
+  pub shown-counted : (k : ℕ) → Gives (length (leftBy z markers delims s (record { feed = a; hider = record { start = 0; stop = 0; next = 0 } }))) k → Gives (length (sheetWith g markers delims (regions z s) s)) k
+  shown-counted k c = record { answer = c .answer ∙ ap length sheet-left }
+
   module _ (lent : ListRuns) (y : Bool) (f : Gives (leb (length (left markers delims s (map rowOf (regions z s)) a)) (length (lent .list) / 20)) y) where
     pub sheet-full : y ≡ false → SheetPoured (sheetWith g markers delims (regions z s) s) lent lent 3
     sheet-full e = subst (λ (x : List SheetItem). SheetPoured x lent lent 3) sheet-left (pour-full itemBytes 20 (left markers delims s (map rowOf (regions z s)) a) lent y f e)
@@ -132,15 +136,21 @@ module _ (g : Grammar) (z : Gram) (markers delims : List Bool) (s : List ℕ) (a
         subst (λ (x : List SheetItem). SheetPoured x lent after r) sheet-left (pour-done itemBytes 20 (left markers delims s (map rowOf (regions z s)) a) lent y f after m k r e q n v d)
 
 -- ---- by the rules and sets, folded
-pub sheet-folded : (g : Grammar) (c : ColumnRuns) (mb db s : List ℕ) (before after : ListRuns) (markers delims : List Bool) (a : Alphabet) (fences : List ℕ) (rules : List (List ℕ)) (r : ℕ)
-    → Gives (alphabetOf g (c .fenceBytes) (c .inline .symBytes) (c .inline .openers)) a → Gives (fenceTable (c .fenceBytes) (c .fenceMins)) fences
-    → Folded (c .fenceBytes) (inlineIn (c .inline)) rules → Gives (setOf mb) markers → Gives (setOf db) delims
-    → SheetPoured (sheetWith (a .grammar) markers delims (regions (gramBy a fences rules) s) s) before after r → SheetPoured (sheetWith g (setOf mb) (setOf db) (builtBy g (columnsIn c) s) s) before after r
-unfolding columnsIn
-sheet-folded g c mb db s before after markers delims a fences rules r ha hf hr hm hd v =
-    let i = c .inline in
-    let z : gramBy a fences rules ≡ gramOf g (columnsIn c) = gram-same (c .fenceBytes) (i .symBytes) (cells (i .symCounts)) (i .openers) (i .closers) (cells (i .openCounts)) rules hr g (c .fenceMins) a fences ha hf in
-    let e : sheetWith (a .grammar) markers delims (regions (gramBy a fences rules) s) s ≡ sheetWith g (setOf mb) (setOf db) (builtBy g (columnsIn c) s) s =
-    ap (λ (x : Alphabet). sheetWith (x .grammar) markers delims (regions (gramBy a fences rules) s) s) (ha .answer) ∙ ap (λ (x : Gram). sheetWith g markers delims (regions x s) s) z
-    ∙ ap (λ (x : List Bool). sheetWith g x delims (builtBy g (columnsIn c) s) s) (hm .answer) ∙ ap (λ (x : List Bool). sheetWith g (setOf mb) x (builtBy g (columnsIn c) s) s) (hd .answer) in
-    subst (λ (x : List SheetItem). SheetPoured x before after r) e v
+module _ (g : Grammar) (c : ColumnRuns) (mb db s : List ℕ) (markers delims : List Bool) (a : Alphabet) (fences : List ℕ) (rules : List (List ℕ))
+    (ha : Gives (alphabetOf g (c .fenceBytes) (c .inline .symBytes) (c .inline .openers)) a) (hf : Gives (fenceTable (c .fenceBytes) (c .fenceMins)) fences)
+    (hr : Folded (c .fenceBytes) (inlineIn (c .inline)) rules) (hm : Gives (setOf mb) markers) (hd : Gives (setOf db) delims) where
+  sheet-same : sheetWith (a .grammar) markers delims (regions (gramBy a fences rules) s) s ≡ sheetWith g (setOf mb) (setOf db) (builtBy g (columnsIn c) s) s
+  unfolding columnsIn
+  sheet-same =
+      let i = c .inline in
+      let z : gramBy a fences rules ≡ gramOf g (columnsIn c) = gram-same (c .fenceBytes) (i .symBytes) (cells (i .symCounts)) (i .openers) (i .closers) (cells (i .openCounts)) rules hr g (c .fenceMins) a fences ha hf in
+      ap (λ (x : Alphabet). sheetWith (x .grammar) markers delims (regions (gramBy a fences rules) s) s) (ha .answer) ∙ ap (λ (x : Gram). sheetWith g markers delims (regions x s) s) z
+      ∙ ap (λ (x : List Bool). sheetWith g x delims (builtBy g (columnsIn c) s) s) (hm .answer) ∙ ap (λ (x : List Bool). sheetWith g (setOf mb) x (builtBy g (columnsIn c) s) s) (hd .answer)
+
+  pub sheet-folded : (before after : ListRuns) (r : ℕ) → SheetPoured (sheetWith (a .grammar) markers delims (regions (gramBy a fences rules) s) s) before after r
+      → SheetPoured (sheetWith g (setOf mb) (setOf db) (builtBy g (columnsIn c) s) s) before after r
+  sheet-folded before after r v = subst (λ (x : List SheetItem). SheetPoured x before after r) sheet-same v
+
+  pub count-folded : (k r : ℕ) (run run′ : List ℕ) → Gives (length (sheetWith (a .grammar) markers delims (regions (gramBy a fences rules) s) s)) k → Replied (given (k ∷ [])) run run′ r
+      → Replied (given (length (sheetWith g (setOf mb) (setOf db) (builtBy g (columnsIn c) s) s) ∷ [])) run run′ r
+  count-folded k r run run′ n d = subst (λ (x : ℕ). Replied (given (x ∷ [])) run run′ r) (n .answer ∙ ap length sheet-same) d

@@ -1,5 +1,6 @@
 // The work sheet of a text by its rules, in one call: the items are sieved by the regions as these are found, so that no region list
 // has to cross from the host. An item is five numbers of four bytes each: start, end, kind, accepted byte, number.
+pub mod counting; // how many items there are
 mod hiding; // what regions hide, as they come
 
 use cells::columns::is_uneven;
@@ -116,7 +117,7 @@ fn turn(
 }
 
 // How many items are shown.
-fn count_items(
+pub(crate) fn count_items(
     walk: Sieve,
     text: &[u8],
     markers: &[bool; 256],
