@@ -1,6 +1,6 @@
 -- Laws of lists in a run of numbers: the ways out of filling. Assumes nothing.
-use mathlib.Core.Path.{_≡_, _∙_}
-use mathlib.Core.Bool.{true, false}
+use mathlib.Core.Path.{_≡_, refl, _∙_}
+use mathlib.Core.Bool.{Bool, true, false, cond}
 use mathlib.Core.List.{List, [], _∷_}
 use Prim.Native.Nat.{ℕ, _/_, _≤_, _<_}
 use native.Mathlib.Omega.{arith}
@@ -8,8 +8,8 @@ use lib.ListN.{length}
 use borrow.Author.Tests.{lt-ltb, le-ltb}
 use Rattle.search.specs.Promise.{Gives}
 use Rattle.common.specs.Entry.{room}
-use Rattle.common.specs.Refusals.{given, refused}
-use Rattle.common.specs.Lists.{Wrote, crowded, Filled}
+use Rattle.common.specs.Refusals.{Outcome, given, refused, refuse, served, tooLong}
+use Rattle.common.specs.Lists.{Wrote, crowded, filledAnswer, buildAnswer, countAnswer, Filled}
 
 -- `most` is the room
 module _ {A : Type 0} (flat : A → List ℕ) (w : ℕ) (l : List A) (out : List ℕ) (most : ℕ) (hm : most ≡ length out / w) where
@@ -29,3 +29,17 @@ module _ {A : Type 0} (flat : A → List ℕ) (w : ℕ) (l : List A) (out : List
   -- there is room
   pub room-counted : (found : ℕ) → found ≤ most → Gives (length l) found → length l ≤ room w out
   room-counted found h g = omega (arith, g .answer)
+
+-- building answers what counting answers, but for a list with less room than was counted, which is 3
+pub build-by-count : {A : Type 0} (w : ℕ) (differing : Bool) (l : List A) (s out : List ℕ)
+    → buildAnswer w differing l s out ≡ cond (served (countAnswer differing l s)) (refuse 3 (crowded w l out) (countAnswer differing l s)) (countAnswer differing l s)
+unfolding buildAnswer countAnswer
+build-by-count w differing l s out = by (tooLong s) differing
+  where
+    counted : Bool → Bool → Outcome
+    counted long bad = refuse 1 long (refuse 6 bad (given (length l ∷ [])))
+
+    by : (long bad : Bool) → refuse 1 long (refuse 6 bad (filledAnswer w l out)) ≡ cond (served (counted long bad)) (refuse 3 (crowded w l out) (counted long bad)) (counted long bad)
+    by true bad = refl
+    by false true = refl
+    by false false = refl
