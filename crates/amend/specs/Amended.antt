@@ -67,34 +67,43 @@ leftOpen eol build len e = openEnd eol (follows len (e .second)) (e .text) (reac
 
 -- ---- the answer, and the list that is left
 -- "For an amendment: 1 (old text, replacement), 6, 4, 1 (edited text), 5, 9, 7, 8, 3."
--- The first seven, which the lengths, the rules, the list, the cuts and the bytes before them decide (of the rules 6 and 9 as they hold), else
--- what follows
-unfoldable pub judged : ℕ → List ℕ → List ℕ → ℕ → Edit → Bool → Bool → Outcome → Outcome
-judged eol s l n e unequal marked o =
+-- The first four, which the texts' lengths, the columns (6 as it holds) and the cuts decide, else what follows
+unfoldable pub judgedEdit : List ℕ → Edit → Bool → Outcome → Outcome
+judgedEdit s e unequal o =
     refuse 1 (tooLong s || tooLong (e .text))
     (refuse 6 unequal
     (refuse 4 (miscut s e)
     (refuse 1 (tooLong (edited e s))
+    o)))
+
+-- and the next three, which the list, the rules (9 as it holds) and the bytes before the cuts decide
+unfoldable pub judged : ℕ → List ℕ → List ℕ → ℕ → Edit → Bool → Bool → Outcome → Outcome
+judged eol s l n e unequal marked o =
+    judgedEdit s e unequal
     (refuse 5 (misshapen l n (length s))
     (refuse 9 marked
     (refuse 7 (offJoint eol s (regionsIn n l) (e .first) (e .second))
-    o))))))
+    o)))
 
--- the last two, which the replacement and the room decide, 3 as for building, else the count
-unfoldable pub settledAnswer : ℕ → ℕ → (List ℕ → List Listed) → List Listed → Edit → List ℕ → Outcome
-settledAnswer eol len build l e out =
-    refuse 8 (leftOpen eol build len e) (filledAnswer wide (amendedRegions build len e l) out)
+-- the last two, which the replacement and the room decide, 3 as for building, where a region has w numbers of the list that is left; else the
+-- count
+unfoldable pub settledAnswer : ℕ → ℕ → ℕ → (List ℕ → List Listed) → List Listed → Edit → List ℕ → Outcome
+settledAnswer w eol len build l e out =
+    refuse 8 (leftOpen eol build len e) (filledAnswer w (amendedRegions build len e l) out)
 
 module _ (g : Grammar) (c : Columns) (s l : List ℕ) (n : ℕ) (e : Edit) where
   -- the regions that an amendment of the list l, with n regions, is to leave
   abbrev pub amendedList : List Listed
   amendedList = amendedRegions (listRegions (gramOf g c)) (length s) e (regionsIn n l)
 
-  -- all nine, one after another
+  -- all nine, one after another, where a region has w numbers of the list that is left, and columns may differ
+  unfoldable pub amendAnswer : ℕ → Bool → List ℕ → Outcome
+  amendAnswer w differing out =
+      judged (g .eol) s l n e differing (usesLineEnd g c)
+      (settledAnswer w (g .eol) (length s) (listRegions (gramOf g c)) (regionsIn n l) e out)
+
   unfoldable pub amendedAnswer : List ℕ → Outcome
-  amendedAnswer out =
-      judged (g .eol) s l n e (unequal c) (usesLineEnd g c)
-      (settledAnswer (g .eol) (length s) (listRegions (gramOf g c)) (regionsIn n l) e out)
+  amendedAnswer out = amendAnswer wide (unequal c) out
 
 -- the promise of an amendment: its answer, and the list that it leaves. "Success writes the regions from place 0, returns their count and
 -- changes nothing beyond them."

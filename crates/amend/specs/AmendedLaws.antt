@@ -3,15 +3,16 @@ use mathlib.Core.Path.{_≡_, refl, sym, ap, subst, _∙_}
 use mathlib.Core.Bool.{Bool, true, false, _||_}
 use mathlib.Core.List.{List, []}
 use mathlib.Core.Logic.{_⊎_, inl, inr}
-use Prim.Native.Nat.{ℕ, suc, _+_, _-_, _≤_, _<_}
+use Prim.Native.Nat.{ℕ, _+_, _-_, _≤_, _<_}
 use native.Mathlib.Omega.{arith}
 use lib.Dec.{ltb, leb}
 use lib.ListN.{length, getD, length-append, length-take, length-drop}
-use borrow.Author.Tests.{eq-eqb, ltb-false, leb-true}
+use borrow.Author.Tests.{ltb-false, leb-true}
 use Rattle.search.specs.Promise.{Gives}
 use Rattle.search.specs.Search.{holds}
-use Rattle.search.specs.SearchLaws.{decide, clash, neither}
-use Rattle.common.specs.Refusals.{Outcome, given, refused, refuse, tooLong, past, numberOf, told}
+use Rattle.search.specs.SearchLaws.{decide, neither}
+use Rattle.common.specs.Entry.{wide}
+use Rattle.common.specs.Refusals.{Outcome, given, refused, tooLong, past, numberOf, told}
 use Rattle.common.specs.RefusalLaws.{number-some, answer-unique}
 use Rattle.common.specs.declared.grammar.Grammar.{Grammar}
 use Rattle.common.specs.declared.refusal.Refusal.{Refusal}
@@ -25,65 +26,42 @@ use Rattle.lines.specs.Fences.{fenceTable}
 use Rattle.joint.specs.Joint.{afterEmptyLine, lineEndIsMark}
 use Rattle.amend.specs.Amend.{Edit, joint}
 use Rattle.cover.specs.Shape.{misshapen}
-use Rattle.amend.specs.Amended.{regionsIn, listRegions, edit, edited, miscut, usesLineEnd, offJoint, judged, settledAnswer, amendedAnswer, Amended}
+use Rattle.amend.specs.Amended.{regionsIn, listRegions, edit, edited, miscut, usesLineEnd, offJoint, judgedEdit, judged, settledAnswer, amendAnswer, amendedAnswer, Amended}
 use Rattle.amend.specs.Parts.{toldVerdict, Judged, CutsReady, Settled}
 use Rattle.amend.specs.RowLaws.{orderly-told}
-use Rattle.amend.specs.JudgeLaws.{edited-length}
+use Rattle.amend.specs.JudgeLaws.{not-given, refuse-same, refuse-pass, edited-length, edit-same, edit-passed}
 use Rattle.amend.specs.declared.Verdict.{Verdict}
 use Rattle.amend.specs.declared.Verdict.the-variants as verdict
 
--- ---- chains of refusals
--- a refusal is not served
-not-given : (q : Refusal) → refused (numberOf q) ≡ given [] → ⊥
-not-given q e = clash (eq-eqb (numberOf q) 0 (ap (λ (o : Outcome). o .number) e)) (number-some q)
-
--- what a chain refuses before its end it refuses with any end
-refuse-same : (k : Outcome) (n : ℕ) (b : Bool) (o o′ : Outcome) → (o ≡ k → o′ ≡ k) → refuse n b o ≡ k → refuse n b o′ ≡ k
-refuse-same k n true o o′ f e = e
-refuse-same k n false o o′ f e = f e
-
--- a chain that comes to its end has passed every test
-pub refuse-pass : (n : ℕ) (b : Bool) (o : Outcome) (l : List ℕ) → refuse (suc n) b o ≡ given l → (b ≡ false) × (o ≡ given l)
-refuse-pass n true o l e =
-    let z : suc n ≡ 0 = ap (λ (x : Outcome). x .number) e in
-    absurd (omega arith)
-refuse-pass n false o l e = (refl, e)
-
 -- ---- cuts that are judged
 module _ (eol : ℕ) (s l : List ℕ) (n : ℕ) (e : Edit) (u m : Bool) where
-  judged-stop : (q : Refusal) (o : Outcome) → judged eol s l n e u m (given []) ≡ refused (numberOf q) → judged eol s l n e u m o ≡ refused (numberOf q)
+  pub judged-stop : (q : Refusal) (o : Outcome) → judged eol s l n e u m (given []) ≡ refused (numberOf q) → judged eol s l n e u m o ≡ refused (numberOf q)
   unfolding judged
   judged-stop q o =
       let k = refused (numberOf q) in
-      let t1 = tooLong s || tooLong (e .text) in
-      let t4 = miscut s e in
-      let t1′ = tooLong (edited e s) in
       let t5 = misshapen l n (length s) in
       let t7 = offJoint eol s (regionsIn n l) (e .first) (e .second) in
-      refuse-same k 1 t1 _ _ (refuse-same k 6 u _ _ (refuse-same k 4 t4 _ _ (refuse-same k 1 t1′ _ _ (refuse-same k 5 t5 _ _ (refuse-same k 9 m _ _ (refuse-same k 7 t7 (given []) o (λ z. absurd (not-given q (sym z)))))))))
+      edit-same s e u k _ _ (refuse-same k 5 t5 _ _ (refuse-same k 9 m _ _ (refuse-same k 7 t7 (given []) o (λ z. absurd (not-given q (sym z))))))
 
-  module _ (fine : judged eol s l n e u m (given []) ≡ given []) where
-    passed : ((tooLong s || tooLong (e .text)) ≡ false) × (u ≡ false) × (miscut s e ≡ false) × (tooLong (edited e s) ≡ false) × (misshapen l n (length s) ≡ false) × (m ≡ false)
-        × (offJoint eol s (regionsIn n l) (e .first) (e .second) ≡ false)
-    unfolding judged
-    passed =
-        let a = refuse-pass 0 (tooLong s || tooLong (e .text)) _ [] fine in
-        let b = refuse-pass 5 u _ [] (a .1) in
-        let c = refuse-pass 3 (miscut s e) _ [] (b .1) in
-        let d = refuse-pass 0 (tooLong (edited e s)) _ [] (c .1) in
-        let f = refuse-pass 4 (misshapen l n (length s)) _ [] (d .1) in
-        let g = refuse-pass 8 m _ [] (f .1) in
-        let h = refuse-pass 6 (offJoint eol s (regionsIn n l) (e .first) (e .second)) _ [] (g .1) in
-        (a .0, b .0, c .0, d .0, f .0, g .0, h .0)
+  -- what is known where all seven are passed
+  pub passed : (o : Outcome) (v : List ℕ) → judged eol s l n e u m o ≡ given v → ((tooLong s || tooLong (e .text)) ≡ false) × (u ≡ false) × (miscut s e ≡ false) × (tooLong (edited e s) ≡ false) × (misshapen l n (length s) ≡ false) × (m ≡ false)
+      × (offJoint eol s (regionsIn n l) (e .first) (e .second) ≡ false) × (o ≡ given v)
+  unfolding judged
+  passed o v z =
+      let a = edit-passed s e u _ v z in
+      let f = refuse-pass 4 (misshapen l n (length s)) _ v (a .4) in
+      let g = refuse-pass 8 m _ v (f .1) in
+      let h = refuse-pass 6 (offJoint eol s (regionsIn n l) (e .first) (e .second)) o v (g .1) in
+      (a .0, a .1, a .2, a .3, f .0, g .0, h .0, h .1)
 
-    judged-on : (o : Outcome) → judged eol s l n e u m o ≡ o
-    unfolding judged
-    judged-on o = let p = passed in simp (p .0, p .1, p .2, p .3, p .4, p .5, p .6)
+  pub judged-on : judged eol s l n e u m (given []) ≡ given [] → (o : Outcome) → judged eol s l n e u m o ≡ o
+  unfolding judged judgedEdit
+  judged-on fine o = let p = passed (given []) [] fine in simp (p .0, p .1, p .2, p .3, p .4, p .5, p .6)
 
 pub ready-told : (eol : ℕ) (s l : List ℕ) (n first second : ℕ) (r : List ℕ) (u m : Bool) (v : Verdict) → v ≡ verdict.Fine → Judged eol s l n (edit first second r) u m v
     → CutsReady l n (record { first = first; second = second; len = length s }) r
 ready-told eol s l n first second r u m v e g =
-    let p = passed eol s l n (edit first second r) u m (sym (g .answer) ∙ ap toldVerdict e) in
+    let p = passed eol s l n (edit first second r) u m (given []) [] (sym (g .answer) ∙ ap toldVerdict e) in
     let a = neither (tooLong s) (tooLong r) (p .0) in
     let b = neither (ltb second first) (past s second) (p .2) in
     let cuts : first ≤ second = ltb-false second first (b .0) in
@@ -99,8 +77,8 @@ ready-told eol s l n first second r u m v e g =
 -- ---- the ways out of the entry
 module _ (g : Grammar) (c : Columns) (s l : List ℕ) (n : ℕ) (e : Edit) (out : List ℕ) where
   module _ (u m : Bool) (v : Verdict) (hv : Judged (g .eol) s l n e u m v) (hu : Gives (unequal c) u) (hm : Gives (usesLineEnd g c) m) where
-    as-told : amendedAnswer g c s l n e out ≡ judged (g .eol) s l n e u m (settledAnswer (g .eol) (length s) (listRegions (gramOf g c)) (regionsIn n l) e out)
-    unfolding amendedAnswer
+    as-told : amendedAnswer g c s l n e out ≡ judged (g .eol) s l n e u m (settledAnswer wide (g .eol) (length s) (listRegions (gramOf g c)) (regionsIn n l) e out)
+    unfolding amendedAnswer amendAnswer
     as-told = rw (← (hu .answer), ← (hm .answer))
 
     amended-stop : (q : Refusal) → v ≡ verdict.Refused q → Amended g c s l n e out out (refused (numberOf q))
@@ -110,7 +88,7 @@ module _ (g : Grammar) (c : Columns) (s l : List ℕ) (n : ℕ) (e : Edit) (out 
 
     amended-on : (out′ : List ℕ) (o : Outcome) → v ≡ verdict.Fine → Settled (g .eol) (length s) (listRegions (gramOf g c)) (regionsIn n l) e out out′ o → Amended g c s l n e out out′ o
     amended-on out′ o d w =
-        let a : amendedAnswer g c s l n e out ≡ settledAnswer (g .eol) (length s) (listRegions (gramOf g c)) (regionsIn n l) e out = as-told ∙ judged-on (g .eol) s l n e u m (sym (hv .answer) ∙ ap toldVerdict d) _ in
+        let a : amendedAnswer g c s l n e out ≡ settledAnswer wide (g .eol) (length s) (listRegions (gramOf g c)) (regionsIn n l) e out = as-told ∙ judged-on (g .eol) s l n e u m (sym (hv .answer) ∙ ap toldVerdict d) _ in
         record { answer = w .answer ∙ sym a; list = w .list ∙ rw a }
 
 module _ (g : Grammar) (f m y t o k c s l : List ℕ) (n first second : ℕ) (r out : List ℕ) (u w : Bool) (v : Verdict) where
@@ -154,7 +132,7 @@ line-alike eol s s′ k long same = by (decide (leb 2 k))
 
 module _ (g : Grammar) (c : Columns) (l : List ℕ) (n : ℕ) (e : Edit) (out : List ℕ) where
   answer-alike : (s s′ : List ℕ) → Alike s s′ e → amendedAnswer g c s l n e out ≡ amendedAnswer g c s′ l n e out
-  unfolding amendedAnswer judged offJoint joint
+  unfolding amendedAnswer amendAnswer judged judgedEdit offJoint joint
   answer-alike s s′ w =
       let size : length (edited e s) ≡ length (edited e s′) = simp (length-append, length-take, length-drop, w .long) in
       rw (w .long, size, line-alike (g .eol) s s′ (e .first) (w .long) (w .first), line-alike (g .eol) s s′ (e .second) (w .long) (w .second))

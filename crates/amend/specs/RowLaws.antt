@@ -10,7 +10,7 @@ use lib.ListN.{length, getD, take, drop, length-map, List·getD-map}
 use lib.Seq.{getD-take, getD-drop, drop-drop}
 use Rattle.search.specs.Promise.{Gives}
 use Rattle.common.specs.Entry.{flatten, rows, startOf, stopOf, Shaped, putAt, wide}
-use Rattle.common.specs.EntryLaws.{length-rows, rows-at, room-fits, length-put}
+use Rattle.common.specs.EntryLaws.{length-rows, rows-at, rows-next, room-fits, length-put, put-append}
 use Rattle.region.specs.Region.{move, reaches, keepBefore, InOrder, Listed, row, unrow}
 use Rattle.region.specs.Ahead.{order-later}
 use Rattle.common.specs.Lists.{RowPut}
@@ -101,9 +101,6 @@ orderly-told l n len e = record { roomy = room-fits wide n l (shape-fits l n len
 pub orderly-longer : (l : List ℕ) (n len m : ℕ) → len ≤ m → Orderly l n len → Orderly l n m
 orderly-longer l n len m h w = record { roomy = w .roomy; order = order-longer 0 len m (regionsIn n l) h (w .order) }
 
-pub fair : (l : List ℕ) (n len : ℕ) (y : Bool) → len ≤ 4294967295 → y ≡ false → Gives (misshapen l n len) y → Fair l n len
-fair l n len y h e g = record { shape = sym (g .answer) ∙ e; short = h }
-
 pub fair-orderly : {l : List ℕ} {n len : ℕ} → Fair l n len → Orderly l n 4294967295
 fair-orderly {l} {n} {len} w = orderly-longer l n len 4294967295 (w .short) (orderly-told l n len (w .shape))
 
@@ -158,62 +155,73 @@ module _ (l : List ℕ) (count k n : ℕ) (w : Orderly l count 4294967295) (g : 
   reached-inside z = omega (arith, g .answer, before-few k (regionsIn count l), listed-length count l, w .roomy)
 
 -- ---- regions written one after the other
--- of the regions l, to be written from row n on, `rest` is still to be written, from row m on
-pub record PuttingRows (l rest : List Listed) (n m : ℕ) (out₀ out : List ℕ) : Type 0 where
-  pub same : putAt (n * wide) (flatten row l) out₀ ≡ putAt (m * wide) (flatten row rest) out
+-- of the regions l, to be written from row n on, each in the w numbers that `flat` gives, `rest` is still to be written, from row m on
+pub record PuttingRows (flat : Listed → List ℕ) (w : ℕ) (l rest : List Listed) (n m : ℕ) (out₀ out : List ℕ) : Type 0 where
+  pub size : (r : Listed) → length (flat r) ≡ w
+  pub same : putAt (n * w) (flatten flat l) out₀ ≡ putAt (m * w) (flatten flat rest) out
   pub count : n + length l ≡ m + length rest
   pub long : length out ≡ length out₀
-  pub room : m * wide + length rest * wide ≤ length out
+  pub room : m * w + length rest * w ≤ length out
 
-module _ {l : List Listed} {n : ℕ} {out₀ : List ℕ} where
-  pub putting-first : n * wide + length l * wide ≤ length out₀ → PuttingRows l l n n out₀ out₀
-  putting-first h = record { same = refl; count = refl; long = refl; room = h }
+module _ {flat : Listed → List ℕ} {w : ℕ} {l : List Listed} {n : ℕ} {out₀ : List ℕ} where
+  pub putting-first : ((r : Listed) → length (flat r) ≡ w) → n * w + length l * w ≤ length out₀ → PuttingRows flat w l l n n out₀ out₀
+  putting-first size h = record { size = size; same = refl; count = refl; long = refl; room = h }
 
-  pub putting-put : {rest : List Listed} {m m′ : ℕ} {out out′ : List ℕ} (r : Listed) → PuttingRows l (r ∷ rest) n m out₀ out → RowPut (r .start ∷ r .stop ∷ []) m out out′ m′ → PuttingRows l rest n m′ out₀ out′
+  -- there is room for the next of them
+  pub putting-room : {r : Listed} {rest : List Listed} {m : ℕ} {out : List ℕ} → PuttingRows flat w l (r ∷ rest) n m out₀ out → m * w + w ≤ length out
+  putting-room {rest = rest} i = omega (arith, i .room, rows-next (length rest) w)
+
+  pub putting-put : {rest : List Listed} {m m′ : ℕ} {out out′ : List ℕ} (r : Listed) → PuttingRows flat w l (r ∷ rest) n m out₀ out → RowPut (flat r) m out out′ m′ → PuttingRows flat w l rest n m′ out₀ out′
   putting-put {rest} {m} {m′} {out} {out′} r i p =
-      let e : m′ * wide ≡ m * wide + 1 + 1 = omega (arith, p .next) in
-      let z : length out′ ≡ length out = ap length (p .list) ∙ length-put (m * wide) (r .start ∷ r .stop ∷ []) out in
+      let e : m′ * w ≡ m * w + w = ap (λ (k : ℕ). k * w) (p .next) ∙ rows-next m w in
+      let z : out′ ≡ putAt (m * w) (flat r) out = p .list ∙ ap (λ (k : ℕ). putAt (m * k) (flat r) out) (i .size r) in
+      let long : length out′ ≡ length out = ap length z ∙ length-put (m * w) (flat r) out in
       record {
-        same = i .same ∙ rw (p .list, e);
+        size = i .size;
+        same =
+            i .same ∙ put-append (m * w) (flat r) (flatten flat rest) out
+            ∙ ap (λ (k : ℕ). putAt k (flatten flat rest) (putAt (m * w) (flat r) out)) (ap (λ (k : ℕ). m * w + k) (i .size r) ∙ sym e)
+            ∙ ap (putAt (m′ * w) (flatten flat rest)) (sym z);
         count = omega (arith, i .count, p .next);
-        long = z ∙ i .long;
-        room = omega (arith, i .room, p .next, z);
+        long = long ∙ i .long;
+        room = omega (arith, i .room, rows-next (length rest) w, e, long);
       }
 
-  pub putting-end : {m : ℕ} {out : List ℕ} → PuttingRows l [] n m out₀ out → PutRows l n out₀ out m
+  pub putting-end : {m : ℕ} {out : List ℕ} → PuttingRows flat w l [] n m out₀ out → PutRows flat w l n out₀ out m
   putting-end i = record { next = omega (arith, i .count); list = sym (i .same) }
 
 -- ---- the loop that copies rows: it stands at row i of the list l, and at row m of `out`
-pub record Copying (l : List ℕ) (from to down up row : ℕ) (out₀ out : List ℕ) (i m : ℕ) : Type 0 where
+pub record Copying (flat : Listed → List ℕ) (w : ℕ) (l : List ℕ) (from to down up row : ℕ) (out₀ out : List ℕ) (i m : ℕ) : Type 0 where
   pub ahead : i ≤ to
   pub inside : to * wide ≤ length l
   pub order : InOrder down (4294967295 + down - up) (regionsBetween i to l)
-  pub putting : PuttingRows (map (move (λ x. x + up - down)) (regionsBetween from to l)) (map (move (λ x. x + up - down)) (regionsBetween i to l)) row m out₀ out
+  pub putting : PuttingRows flat w (map (move (λ x. x + up - down)) (regionsBetween from to l)) (map (move (λ x. x + up - down)) (regionsBetween i to l)) row m out₀ out
 
-module _ {l : List ℕ} {from to down up row : ℕ} {out₀ : List ℕ} where
-  pub copying-first : Copies l from to down up out₀ row → Copying l from to down up row out₀ out₀ from row
-  copying-first w =
+module _ {flat : Listed → List ℕ} {width : ℕ} {l : List ℕ} {from to down up row : ℕ} {out₀ : List ℕ} where
+  pub copying-first : ((r : Listed) → length (flat r) ≡ width) → Copies width l from to down up out₀ row → Copying flat width l from to down up row out₀ out₀ from row
+  copying-first size w =
+      let many : length (map (move (λ x. x + up - down)) (regionsBetween from to l)) ≡ to - from = length-map (regionsBetween from to l) (move (λ x. x + up - down)) ∙ listed-length (to - from) (drop (from * wide) l) in
       record {
         ahead = w .ahead;
         inside = w .inside;
         order = w .order;
-        putting = putting-first (omega (arith, w .room, length-map (regionsBetween from to l) (move (λ x. x + up - down)), listed-length (to - from) (drop (from * wide) l)));
+        putting = putting-first size (subst (λ (k : ℕ). row * width + k * width ≤ length out₀) (sym many) (w .room));
       }
 
-  module _ {out : List ℕ} {i m : ℕ} (w : Copying l from to down up row out₀ out i m) where
+  module _ {out : List ℕ} {i m : ℕ} (w : Copying flat width l from to down up row out₀ out i m) where
     pub copying-same : length out ≡ length out₀
     copying-same = w .putting .long
 
-    pub copying-end : to ≤ i → PutRows (movedBy down up (regionsBetween from to l)) row out₀ out m
-    copying-end h = putting-end (subst (λ (z : List Listed). PuttingRows (map (move (λ x. x + up - down)) (regionsBetween from to l)) (map (move (λ x. x + up - down)) z) row m out₀ out) (between-none to i l h) (w .putting))
+    pub copying-end : to ≤ i → PutRows flat width (movedBy down up (regionsBetween from to l)) row out₀ out m
+    copying-end h = putting-end (subst (λ (z : List Listed). PuttingRows flat width (map (move (λ x. x + up - down)) (regionsBetween from to l)) (map (move (λ x. x + up - down)) z) row m out₀ out) (between-none to i l h) (w .putting))
 
     module _ (h : i < to) where
       -- what is known of row i
       one : InOrder down (4294967295 + down - up) (rowAt i l ∷ regionsBetween (i + 1) to l)
       one = subst (InOrder down (4294967295 + down - up)) (between-next to i l h) (w .order)
 
-      next : PuttingRows (map (move (λ x. x + up - down)) (regionsBetween from to l)) (move (λ x. x + up - down) (rowAt i l) ∷ map (move (λ x. x + up - down)) (regionsBetween (i + 1) to l)) row m out₀ out
-      next = subst (λ (z : List Listed). PuttingRows (map (move (λ x. x + up - down)) (regionsBetween from to l)) (map (move (λ x. x + up - down)) z) row m out₀ out) (between-next to i l h) (w .putting)
+      next : PuttingRows flat width (map (move (λ x. x + up - down)) (regionsBetween from to l)) (move (λ x. x + up - down) (rowAt i l) ∷ map (move (λ x. x + up - down)) (regionsBetween (i + 1) to l)) row m out₀ out
+      next = subst (λ (z : List Listed). PuttingRows flat width (map (move (λ x. x + up - down)) (regionsBetween from to l)) (map (move (λ x. x + up - down)) z) row m out₀ out) (between-next to i l h) (w .putting)
 
       -- what was read of row i may be moved
       pub start-moves : (a : ℕ) → Gives (getD l (i * wide + 0) 0) a → Moves a down up
@@ -222,23 +230,30 @@ module _ {l : List ℕ} {from to down up row : ℕ} {out₀ : List ℕ} where
       pub stop-moves : (b : ℕ) → Gives (getD l (i * wide + 1) 0) b → Moves b down up
       stop-moves b g = record { low = omega (arith, g .answer, one .0, one .1); high = omega (arith, g .answer, one .0, one .1, one .2) }
 
-      module _ (x y a b : ℕ) where
-        pub copying-puts : Gives (a + up - down) x → Gives (b + up - down) y → Gives (getD l (i * wide + 0) 0) a → Gives (getD l (i * wide + 1) 0) b → RowFits m x y out
-        copying-puts gx gy ga gb =
-            record {
-              room = omega (arith, next .room);
-              low = omega (arith, gx .answer, ga .answer, start-zeroth i l, one .0, one .1, one .2);
-              high = omega (arith, gy .answer, gb .answer, one .0, one .1, one .2);
-            }
+      -- there is room for it
+      pub copying-room : m * width + width ≤ length out
+      copying-room = putting-room next
 
-        pub copying-again : (m′ : ℕ) (out′ : List ℕ) → RowPut (x ∷ y ∷ []) m out out′ m′ → Gives (a + up - down) x → Gives (b + up - down) y → Gives (getD l (i * wide + 0) 0) a → Gives (getD l (i * wide + 1) 0) b
-            → Copying l from to down up row out₀ out′ (i + 1) m′
+      module _ (x y a b : ℕ) where
+        pub copying-again : (m′ : ℕ) (out′ : List ℕ) → RowPut (flat (record { start = x; stop = y; tag = tt })) m out out′ m′ → Gives (a + up - down) x → Gives (b + up - down) y → Gives (getD l (i * wide + 0) 0) a → Gives (getD l (i * wide + 1) 0) b
+            → Copying flat width l from to down up row out₀ out′ (i + 1) m′
         copying-again m′ out′ p gx gy ga gb =
             let e : a ≡ startAt wide l i = ga .answer ∙ start-zeroth i l in
-            let q : RowPut ((startAt wide l i + up - down) ∷ (stopAt wide l i + up - down) ∷ []) m out out′ m′ = rw (← e, ← (gb .answer), ← (gx .answer), ← (gy .answer)) p in
+            let q : RowPut (flat (move (λ x. x + up - down) (rowAt i l))) m out out′ m′ = rw (← e, ← (gb .answer), ← (gx .answer), ← (gy .answer)) p in
             record {
               ahead = omega arith;
               inside = w .inside;
               order = order-later down (stopAt wide l i) (4294967295 + down - up) (regionsBetween (i + 1) to l) (omega (arith, one .0, one .1)) (one .3);
               putting = putting-put (move (λ x. x + up - down) (rowAt i l)) next q;
             }
+
+-- a row of numbers, which fit 32 bits
+pub copying-puts : {flat : Listed → List ℕ} {l : List ℕ} {from to down up row : ℕ} {out₀ out : List ℕ} {i m : ℕ} → Copying flat wide l from to down up row out₀ out i m → i < to
+    → (x y a b : ℕ) → Gives (a + up - down) x → Gives (b + up - down) y → Gives (getD l (i * wide + 0) 0) a → Gives (getD l (i * wide + 1) 0) b → RowFits m x y out
+copying-puts {l = l} {i = i} w h x y a b gx gy ga gb =
+    let o = one w h in
+    record {
+      room = copying-room w h;
+      low = omega (arith, gx .answer, ga .answer, start-zeroth i l, o .0, o .1, o .2);
+      high = omega (arith, gy .answer, gb .answer, o .0, o .1, o .2);
+    }

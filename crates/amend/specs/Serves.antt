@@ -25,9 +25,9 @@ use Rattle.context.specs.Build.{builtAnswer, Built}
 use Rattle.amend.specs.Amend.{Edit, joint, Joint}
 use Rattle.amend.specs.Several.{EndsAtJoint}
 use Rattle.amend.specs.Lists.{reaches-zero}
-use Rattle.amend.specs.Amended.{regionsIn, listRegions, edited, offJoint, leftOpen, amendedList, judged, settledAnswer, amendedAnswer, Amended}
+use Rattle.amend.specs.Amended.{regionsIn, listRegions, edited, offJoint, leftOpen, amendedList, judgedEdit, judged, settledAnswer, amendAnswer, amendedAnswer, Amended}
 use Rattle.amend.specs.Edits.{joint-cut}
-use Rattle.amend.specs.AmendedLaws.{refuse-pass}
+use Rattle.amend.specs.JudgeLaws.{refuse-pass}
 use Rattle.amend.specs.Theorem.{built-told, built-holds, built-shaped, Admitted, accepted-told, same, Rebuilt, amend-is-rebuild}
 use Rattle.amend.specs.DemandThree.{ShutEnd, Conditions, regionCount, Agree, DemandThree}
 
@@ -83,7 +83,7 @@ module _ {g : Grammar} {c : Columns} {old run l : List ℕ} {n : ℕ} {e : Edit}
   -- the amendment answers the count of the edited text's regions
   pub amend-serves : (out : List ℕ) → afreshCount g c old e ≤ room wide out
       → amendedAnswer g c old l n e out ≡ given (afreshCount g c old e ∷ [])
-  unfolding amendedAnswer judged settledAnswer
+  unfolding amendedAnswer amendAnswer judged judgedEdit settledAnswer
   amend-serves out h =
       let t = built-told b in
       let x = same g c old l n e meeting (built-holds b) in
@@ -109,7 +109,7 @@ module _ {g : Grammar} {c : Columns} {old run l : List ℕ} {n : ℕ} {e : Edit}
     (served : given (k ∷ []) ≡ amendedAnswer g c old l n e out) where
   -- where a list was built, the amendment answers a count only where the conditions hold and there is room
   pub serves-only : Conditions g c old (regionsIn n l) e × (k ≡ afreshCount g c old e) × (afreshCount g c old e ≤ room wide out)
-  unfolding amendedAnswer judged settledAnswer offJoint leftOpen joint
+  unfolding amendedAnswer amendAnswer judged judgedEdit settledAnswer offJoint leftOpen joint
   serves-only =
       let a = accepted-told g c old l n e out k served in
       let m = a .meets in

@@ -3,6 +3,7 @@ use mathlib.Core.Path.{_≡_, refl, sym, ap, subst, _∙_}
 use mathlib.Core.Bool.{Bool, true, false}
 use mathlib.Core.List.{List, [], _∷_, _++_, map}
 use Prim.Native.Nat.{ℕ, _+_, _-_, _*_, _/_, _^_, _≤_, _<_}
+use native.Mathlib.Nat.{add-mul}
 use native.Mathlib.Omega.{arith}
 use mir.Val.{Fits}
 use mir.Syntax.{w64}
@@ -12,14 +13,14 @@ use borrow.Author.Tests.{lt-ltb, le-ltb}
 use Rattle.search.specs.Promise.{Gives}
 use Rattle.common.specs.Refusals.{given, refused}
 use Rattle.common.specs.Entry.{flatten, over, putAt, wide}
-use Rattle.common.specs.EntryLaws.{length-flatten, flatten-append, length-put, put-append, put-over}
+use Rattle.common.specs.EntryLaws.{length-flatten, flatten-append, length-put, put-append, put-over, room-fits}
 use Rattle.region.specs.Region.{move, up, reaches, keepBefore, keepFrom, InOrder, Listed, tagOf, asListed, row}
 use Rattle.rules.specs.Grammar.{Gram}
 use Rattle.region.specs.Regions.{regions}
 use Rattle.region.specs.Ahead.{regions-few}
 use Rattle.joint.specs.Joint.{openEnd}
 use Rattle.amend.specs.Amend.{movedBy}
-use Rattle.common.specs.Lists.{crowded, Wrote}
+use Rattle.common.specs.Lists.{crowded, filledAnswer, Wrote}
 use Rattle.amend.specs.Amended.{regionsIn, listRegions, edit, amendedRegions, leftOpen, settledAnswer}
 use Rattle.amend.specs.Parts.{Orderly, regionsBetween, PutRows, Copies, Owns, surveyed, CutsReady, Settled, parts, Roomy}
 use Rattle.amend.specs.Lists.{stay, retag-reaches}
@@ -30,38 +31,41 @@ use Rattle.amend.specs.declared.Split.{Split}
 use Rattle.amend.specs.declared.own.Counted.{Counted}
 
 -- ---- a list's split, by its numbers
-abbrev split : ℕ → ℕ → ℕ → Split
+abbrev pub split : ℕ → ℕ → ℕ → Split
 split before after n = record { before = before; after = after; count = n }
 
 -- ---- regions written
-row-long : (r : Listed) → length (row r) ≡ wide
+pub row-long : (r : Listed) → length (row r) ≡ wide
 row-long r = refl
 
-module _ {l : List Listed} {n : ℕ} {out out′ : List ℕ} {m : ℕ} (w : PutRows l n out out′ m) where
-  put-rows-long : length out′ ≡ length out
-  put-rows-long = ap length (w .list) ∙ length-put (n * wide) (flatten row l) out
+module _ {flat : Listed → List ℕ} {width : ℕ} where
+  put-rows-long : {l : List Listed} {n : ℕ} {out out′ : List ℕ} {m : ℕ} → PutRows flat width l n out out′ m → length out′ ≡ length out
+  put-rows-long {l} {n} {out} w = ap length (w .list) ∙ length-put (n * width) (flatten flat l) out
 
-  -- the place after them
-  put-rows-place : m * wide ≡ n * wide + length (flatten row l)
-  put-rows-place = omega (arith, w .next, length-flatten row wide row-long l)
+  module _ (size : (r : Listed) → length (flat r) ≡ width) where
+    -- the place after them
+    put-rows-place : {l : List Listed} {n : ℕ} {out out′ : List ℕ} {m : ℕ} → PutRows flat width l n out out′ m → m * width ≡ n * width + length (flatten flat l)
+    put-rows-place {l} {n} w = ap (λ (k : ℕ). k * width) (w .next) ∙ add-mul n (length l) width ∙ ap (λ (k : ℕ). n * width + k) (sym (length-flatten flat width size l))
 
--- one list behind the other
-put-rows-both : {a b : List Listed} {n m k : ℕ} {out out′ out″ : List ℕ} → PutRows a n out out′ m → PutRows b m out′ out″ k → PutRows (a ++ b) n out out″ k
-put-rows-both {a = a} {b = b} {n = n} {m = m} {out = out} v w =
-    record {
-      next = omega (arith, v .next, w .next, length-append a b);
-      list =
-          w .list ∙ ap (putAt (m * wide) (flatten row b)) (v .list)
-          ∙ ap (λ (k : ℕ). putAt k (flatten row b) (putAt (n * wide) (flatten row a) out)) (put-rows-place v)
-          ∙ sym (put-append (n * wide) (flatten row a) (flatten row b) out)
-          ∙ ap (λ (z : List ℕ). putAt (n * wide) z out) (sym (flatten-append row a b));
-    }
+    -- one list behind the other
+    put-rows-both : {a b : List Listed} {n m k : ℕ} {out out′ out″ : List ℕ} → PutRows flat width a n out out′ m → PutRows flat width b m out′ out″ k → PutRows flat width (a ++ b) n out out″ k
+    put-rows-both {a = a} {b = b} {n = n} {m = m} {out = out} v w =
+        record {
+          next = omega (arith, v .next, w .next, length-append a b);
+          list =
+              w .list ∙ ap (putAt (m * width) (flatten flat b)) (v .list)
+              ∙ ap (λ (k : ℕ). putAt k (flatten flat b) (putAt (n * width) (flatten flat a) out)) (put-rows-place v)
+              ∙ sym (put-append (n * width) (flatten flat a) (flatten flat b) out)
+              ∙ ap (λ (z : List ℕ). putAt (n * width) z out) (sym (flatten-append flat a b));
+        }
 
-put-rows-over : {l : List Listed} {out out′ : List ℕ} {m : ℕ} → PutRows l 0 out out′ m → length l * wide ≤ length out → out′ ≡ over (flatten row l) out
-put-rows-over {l = l} {out = out} w h = w .list ∙ put-over (flatten row l) out (omega (arith, length-flatten row wide row-long l))
+    put-rows-over : {l : List Listed} {out out′ : List ℕ} {m : ℕ} → PutRows flat width l 0 out out′ m → length l * width ≤ length out → out′ ≡ over (flatten flat l) out
+    put-rows-over {l = l} {out = out} w h =
+        let z : 0 * width ≡ 0 = omega arith in
+        w .list ∙ ap (λ (k : ℕ). putAt k (flatten flat l) out) z ∙ put-over (flatten flat l) out (omega (arith, length-flatten flat width size l))
 
 -- ---- the three parts
-module _ {g : Gram} {l : List ℕ} {split : Split} {cuts : Cuts} {r out : List ℕ} (w : Roomy g l split cuts r out) where
+module _ {width : ℕ} {g : Gram} {l : List ℕ} {split : Split} {cuts : Cuts} {r out : List ℕ} (w : Roomy width g l split cuts r out) where
   rows-kept : length (map (move (λ x. x + 0 - 0)) (regionsBetween 0 (split .before) l)) ≡ split .before
   rows-kept = length-map (regionsBetween 0 (split .before) l) (move (λ x. x + 0 - 0)) ∙ omega (arith, listed-length (split .before - 0) (drop (0 * wide) l))
 
@@ -71,29 +75,37 @@ module _ {g : Gram} {l : List ℕ} {split : Split} {cuts : Cuts} {r out : List �
   rows-moved : length (map (move (λ x. x + (cuts .first + length r) - cuts .second)) (regionsBetween (split .after) (split .count) l)) ≡ split .count - split .after
   rows-moved = length-map (regionsBetween (split .after) (split .count) l) (move (λ x. x + (cuts .first + length r) - cuts .second)) ∙ listed-length (split .count - split .after) (drop (split .after * wide) l)
 
-  module _ {kept : ℕ} {out′ : List ℕ} (a : PutRows (movedBy 0 0 (regionsBetween 0 (split .before) l)) 0 out out′ kept) where
-    pub own-asks : Owns (regions g r) r (cuts .first) out′ kept
-    own-asks = record { fits = w .own .fits; room = omega (arith, w .own .room, a .next, rows-kept, put-rows-long a) }
+  module _ {flat : Listed → List ℕ} {kept : ℕ} {out′ : List ℕ} (a : PutRows flat width (movedBy 0 0 (regionsBetween 0 (split .before) l)) 0 out out′ kept) where
+    first-row : kept * width ≡ split .before * width
+    first-row = ap (λ (k : ℕ). k * width) (omega (arith, a .next, rows-kept))
 
-    module _ {own : ℕ} {out″ : List ℕ} (b : PutRows (up (cuts .first) (listRegions g r)) kept out′ out″ own) where
-      pub moved-asks : Copies l (split .after) (split .count) (cuts .second) (cuts .first + length r) out″ own
+    pub own-asks : Owns width (regions g r) r (cuts .first) out′ kept
+    own-asks = record { fits = w .own .fits; room = omega (arith, w .own .room, first-row, put-rows-long a) }
+
+    module _ {own : ℕ} {out″ : List ℕ} (b : PutRows flat width (up (cuts .first) (listRegions g r)) kept out′ out″ own) where
+      own-row : own * width ≡ (split .before + length (regions g r)) * width
+      own-row = ap (λ (k : ℕ). k * width) (omega (arith, a .next, b .next, rows-kept, rows-own))
+
+      pub moved-asks : Copies width l (split .after) (split .count) (cuts .second) (cuts .first + length r) out″ own
       moved-asks =
+          let long : length out ≡ length out″ = sym (put-rows-long b ∙ put-rows-long a) in
           record {
             ahead = w .moved .ahead;
             inside = w .moved .inside;
             order = w .moved .order;
-            room = omega (arith, w .moved .room, a .next, b .next, rows-kept, rows-own, put-rows-long a, put-rows-long b);
+            room = subst (λ (k : ℕ). own * width + (split .count - split .after) * width ≤ k) long (subst (λ (k : ℕ). k + (split .count - split .after) * width ≤ length out) (sym own-row) (w .moved .room));
           }
 
-      pub all-written : {k : ℕ} {out‴ : List ℕ} → PutRows (movedBy (cuts .second) (cuts .first + length r) (regionsBetween (split .after) (split .count) l)) own out″ out‴ k → Wrote row (parts g l split cuts r) out out‴ k
+      pub all-written : {k : ℕ} {out‴ : List ℕ} → ((r : Listed) → length (flat r) ≡ width) → PutRows flat width (movedBy (cuts .second) (cuts .first + length r) (regionsBetween (split .after) (split .count) l)) own out″ out‴ k → Wrote flat (parts g l split cuts r) out out‴ k
       unfolding parts
-      all-written {k} {out‴} c =
+      all-written {k} {out‴} row-size c =
           let A = map (move (λ x. x + 0 - 0)) (regionsBetween 0 (split .before) l) in
           let B = up (cuts .first) (listRegions g r) in
           let C = map (move (λ x. x + (cuts .first + length r) - cuts .second)) (regionsBetween (split .after) (split .count) l) in
-          let all : PutRows (A ++ (B ++ C)) 0 out out‴ k = put-rows-both a (put-rows-both b c) in
+          let all : PutRows flat width (A ++ (B ++ C)) 0 out out‴ k = put-rows-both row-size a (put-rows-both row-size b c) in
           let size : length (A ++ (B ++ C)) ≡ split .before + length (regions g r) + (split .count - split .after) = omega (arith, all .next, a .next, b .next, c .next, rows-kept, rows-own, rows-moved) in
-          record { count = omega (arith, all .next); list = put-rows-over all (omega (arith, size, w .moved .room)) }
+          let many : length (A ++ (B ++ C)) * width ≡ (split .before + length (regions g r)) * width + (split .count - split .after) * width = ap (λ (k : ℕ). k * width) size ∙ add-mul (split .before + length (regions g r)) (split .count - split .after) width in
+          record { count = omega (arith, all .next); list = put-rows-over row-size all (subst (λ (k : ℕ). k ≤ length out) (sym many) (w .moved .room)) }
 
 -- ---- a replacement's end
 open-same : (eol : ℕ) (g : Gram) (len first second : ℕ) (r : List ℕ) → leftOpen eol (listRegions g) len (edit first second r) ≡ openEnd eol (ltb second len) r (reaches (length r) (regions g r))
@@ -104,9 +116,12 @@ module _ (eol : ℕ) (g : Gram) (len first second : ℕ) (r : List ℕ) (own : C
   open-told : leftOpen eol (listRegions g) len (edit first second r) ≡ y
   open-told = open-same eol g len first second r ∙ ap (λ (w : Counted). openEnd eol (ltb second len) r (w .reaching)) (sym (c .answer)) ∙ sym (h .answer)
 
-  pub settled-open : (l : List Listed) (out : List ℕ) → y ≡ true → Settled eol len (listRegions g) l (edit first second r) out out (refused 8)
+  pub answer-open : (w : ℕ) (l : List Listed) (out : List ℕ) → y ≡ true → settledAnswer w eol len (listRegions g) l (edit first second r) out ≡ refused 8
   unfolding settledAnswer
-  settled-open l out e = record { answer = simp (open-told, e); list = simp (open-told, e) }
+  answer-open w l out e = simp (open-told, e)
+
+  pub settled-open : (l : List Listed) (out : List ℕ) → y ≡ true → Settled eol len (listRegions g) l (edit first second r) out out (refused 8)
+  settled-open l out e = let a = answer-open wide l out e in record { answer = sym a; list = rw a }
 
 -- ---- cuts that may be made
 pub ready-orderly : {l : List ℕ} {n : ℕ} {cuts : Cuts} {r : List ℕ} → CutsReady l n cuts r → Orderly l n 4294967295
@@ -135,7 +150,7 @@ module _ (g : Gram) (l : List ℕ) (n : ℕ) (cuts : Cuts) (r : List ℕ) (ready
       ∙ sym (from-drop (cuts .second) 0 (cuts .len) (regionsIn n l) (ready .orderly .order))
 
   -- what is written in three parts is the list asked for
-  parts-same : parts g l (split before after n) cuts r ≡ amendedRegions (listRegions g) (cuts .len) (edit (cuts .first) (cuts .second) r) (regionsIn n l)
+  pub parts-same : parts g l (split before after n) cuts r ≡ amendedRegions (listRegions g) (cuts .len) (edit (cuts .first) (cuts .second) r) (regionsIn n l)
   unfolding parts amendedRegions
   parts-same =
       ap (λ (z : List Listed). z ++ (up (cuts .first) (listRegions g r) ++ map (move (λ x. x + (cuts .first + length r) - cuts .second)) (regionsBetween after n l))) (stay (regionsBetween 0 before l) ∙ front)
@@ -164,44 +179,53 @@ module _ (g : Gram) (l : List ℕ) (n : ℕ) (cuts : Cuts) (r : List ℕ) (ready
       pub three-fit : Fits w64 (before + own .count + (n - after))
       three-fit = record { fits = omega (arith, counted, few-before, ready .orderly .roomy, ready .small, regions-few g r) }
 
-    pub roomy : before + own .count + (n - after) ≤ length out / wide → Roomy g l (split before after n) cuts r out
-    roomy h =
-        record {
-          kept =
-              record {
-                ahead = omega arith;
-                inside = omega (arith, few-before, ready .orderly .roomy);
-                order = subst (InOrder 0 (4294967295 + 0 - 0)) (listed-take n before l few-before ∙ sym (between-zero before l)) (order-take 0 4294967295 before (regionsIn n l) (order-longer 0 (cuts .len) 4294967295 (regionsIn n l) (ready .short) (ready .orderly .order)));
-                room = omega (arith, counted);
-              };
-          own = record { fits = omega (arith, ready .small, ready .rising, ready .inside); room = omega (arith, counted) };
-          moved =
-              record {
-                ahead = few-after;
-                inside = ready .orderly .roomy;
-                order =
-                    subst (InOrder (cuts .second) (4294967295 + cuts .second - (cuts .first + length r))) (sym rest)
-                    (order-longer (cuts .second) (cuts .len) (4294967295 + cuts .second - (cuts .first + length r)) (keepFrom (cuts .second) (regionsIn n l)) (omega (arith, ready .small, ready .rising, ready .inside)) (order-from (cuts .second) 0 (cuts .len) (regionsIn n l) (ready .orderly .order)));
-                room = omega (arith, counted);
-              };
-        }
+    module _ (width : ℕ) where
+      -- rows behind others that have room together
+      room-two : (a b : ℕ) → a + b ≤ length out / width → a * width + b * width ≤ length out
+      room-two a b h = subst (λ (k : ℕ). k ≤ length out) (add-mul a b width) (room-fits width (a + b) out h)
+
+      pub roomy : before + own .count + (n - after) ≤ length out / width → Roomy width g l (split before after n) cuts r out
+      roomy h =
+          record {
+            kept =
+                record {
+                  ahead = omega arith;
+                  inside = omega (arith, few-before, ready .orderly .roomy);
+                  order = subst (InOrder 0 (4294967295 + 0 - 0)) (listed-take n before l few-before ∙ sym (between-zero before l)) (order-take 0 4294967295 before (regionsIn n l) (order-longer 0 (cuts .len) 4294967295 (regionsIn n l) (ready .short) (ready .orderly .order)));
+                  room = room-two 0 (before - 0) (omega arith);
+                };
+            own = record { fits = omega (arith, ready .small, ready .rising, ready .inside); room = room-two before (length (regions g r)) (omega (arith, counted)) };
+            moved =
+                record {
+                  ahead = few-after;
+                  inside = ready .orderly .roomy;
+                  order =
+                      subst (InOrder (cuts .second) (4294967295 + cuts .second - (cuts .first + length r))) (sym rest)
+                      (order-longer (cuts .second) (cuts .len) (4294967295 + cuts .second - (cuts .first + length r)) (keepFrom (cuts .second) (regionsIn n l)) (omega (arith, ready .small, ready .rising, ready .inside)) (order-from (cuts .second) 0 (cuts .len) (regionsIn n l) (ready .orderly .order)));
+                  room = room-two (before + length (regions g r)) (n - after) (omega (arith, counted));
+                };
+          }
+
+    -- how many regions are asked for, as counted
+    pub total-told : length (amendedRegions (listRegions g) (cuts .len) (edit (cuts .first) (cuts .second) r) (regionsIn n l)) ≡ before + own .count + (n - after)
+    total-told = omega (arith, total, counted)
 
     module _ (eol : ℕ) (y : Bool) (e : y ≡ false) (o : Gives (openEnd eol (ltb (cuts .second) (cuts .len)) r (own .reaching)) y) where
-      shut : leftOpen eol (listRegions g) (cuts .len) (edit (cuts .first) (cuts .second) r) ≡ false
-      shut = open-told eol g (cuts .len) (cuts .first) (cuts .second) r own y c o ∙ e
+      -- a replacement that is shut leaves the room to decide
+      pub answer-shut : (width : ℕ) → settledAnswer width eol (cuts .len) (listRegions g) (regionsIn n l) (edit (cuts .first) (cuts .second) r) out ≡ filledAnswer width (amendedRegions (listRegions g) (cuts .len) (edit (cuts .first) (cuts .second) r) (regionsIn n l)) out
+      unfolding settledAnswer
+      answer-shut width = simp (open-told eol g (cuts .len) (cuts .first) (cuts .second) r own y c o, e)
 
       pub settled-full : length out / wide < before + own .count + (n - after) → Settled eol (cuts .len) (listRegions g) (regionsIn n l) (edit (cuts .first) (cuts .second) r) out out (refused 3)
-      unfolding settledAnswer
       settled-full h =
-          let f : crowded wide (amendedRegions (listRegions g) (cuts .len) (edit (cuts .first) (cuts .second) r) (regionsIn n l)) out ≡ true = lt-ltb (length out / wide) (length (amendedRegions (listRegions g) (cuts .len) (edit (cuts .first) (cuts .second) r) (regionsIn n l))) (omega (arith, total, counted)) in
-          record { answer = simp (shut, f); list = simp (shut, f) }
+          let f : crowded wide (amendedRegions (listRegions g) (cuts .len) (edit (cuts .first) (cuts .second) r) (regionsIn n l)) out ≡ true = lt-ltb (length out / wide) (length (amendedRegions (listRegions g) (cuts .len) (edit (cuts .first) (cuts .second) r) (regionsIn n l))) (omega (arith, total-told)) in
+          record { answer = sym (answer-shut wide ∙ simp f); list = simp (answer-shut wide, f) }
 
       pub settled-done : (out′ : List ℕ) (k : ℕ) → before + own .count + (n - after) ≤ length out / wide → Wrote row (parts g l (split before after n) cuts r) out out′ k
           → Settled eol (cuts .len) (listRegions g) (regionsIn n l) (edit (cuts .first) (cuts .second) r) out out′ (given (k ∷ []))
-      unfolding settledAnswer
       settled-done out′ k h w =
-          let f : crowded wide (amendedRegions (listRegions g) (cuts .len) (edit (cuts .first) (cuts .second) r) (regionsIn n l)) out ≡ false = le-ltb (length out / wide) (length (amendedRegions (listRegions g) (cuts .len) (edit (cuts .first) (cuts .second) r) (regionsIn n l))) (omega (arith, total, counted)) in
+          let f : crowded wide (amendedRegions (listRegions g) (cuts .len) (edit (cuts .first) (cuts .second) r) (regionsIn n l)) out ≡ false = le-ltb (length out / wide) (length (amendedRegions (listRegions g) (cuts .len) (edit (cuts .first) (cuts .second) r) (regionsIn n l))) (omega (arith, total-told)) in
           record {
-            answer = ap (λ (m : ℕ). given (m ∷ [])) (w .count ∙ ap length parts-same) ∙ simp (shut, f);
-            list = w .list ∙ ap (λ (z : List Listed). over (flatten row z) out) parts-same ∙ simp (shut, f);
+            answer = ap (λ (m : ℕ). given (m ∷ [])) (w .count ∙ ap length parts-same) ∙ sym (answer-shut wide ∙ simp f);
+            list = w .list ∙ ap (λ (z : List Listed). over (flatten row z) out) parts-same ∙ simp (answer-shut wide, f);
           }

@@ -1,7 +1,7 @@
 -- Mission demand 3, of the promises that the code keeps: where a list holds the regions of the old text and an amendment accepts, it leaves the list that building the edited text afresh leaves. Assumes nothing.
 -- The page: "mission demand 3 adds that the old list was built from the old text, by the grammar and rules the amendment is given".
 use mathlib.Core.Path.{_≡_, refl, sym, ap, subst, _∙_}
-use mathlib.Core.Bool.{true, false, not, _||_, _&&_}
+use mathlib.Core.Bool.{Bool, true, false, not, _&&_}
 use mathlib.Core.List.{List, [], _∷_, _++_, map}
 use mathlib.Core.Logic.{_⊎_, inl, inr}
 use Prim.Native.Nat.{ℕ, _+_, _-_, _*_, _≤_, _<_}
@@ -27,10 +27,11 @@ use Rattle.amend.specs.Amend.{Edit, joint}
 use Rattle.amend.specs.Several.{Fits, none, last, next}
 use Rattle.cover.specs.Shape.{misshapen}
 use Rattle.common.specs.Lists.{crowded, buildAnswer}
-use Rattle.amend.specs.Amended.{regionsIn, listRegions, edited, amendedRegions, miscut, usesLineEnd, offJoint, leftOpen, amendedList, judged, settledAnswer, amendedAnswer, Amended}
+use Rattle.amend.specs.Amended.{regionsIn, listRegions, edited, amendedRegions, usesLineEnd, offJoint, leftOpen, amendedList, settledAnswer, amendAnswer, amendedAnswer, Amended}
 use Rattle.amend.specs.Starts.{unless-end}
 use Rattle.amend.specs.Edits.{relist-one}
-use Rattle.amend.specs.AmendedLaws.{refuse-pass}
+use Rattle.amend.specs.JudgeLaws.{refuse-pass}
+use Rattle.amend.specs.AmendedLaws.{passed}
 use Rattle.region.specs.LoopLaws.{row-wide}
 use Rattle.amend.specs.Lists.{retag-order}
 use Rattle.amend.specs.Demand.{demand-columns}
@@ -44,7 +45,7 @@ row-says : (l : List Caused) → map unrow (map rowOf l) ≡ map asListed l
 row-says [] = refl
 row-says (r ∷ l) = ap (λ (z : List Listed). asListed r ∷ z) (row-says l)
 
-listed-flatten : (l : List Caused) (rest : List ℕ) → regionsIn (length l) (flatten rowOf l ++ rest) ≡ map asListed l
+pub listed-flatten : (l : List Caused) (rest : List ℕ) → regionsIn (length l) (flatten rowOf l ++ rest) ≡ map asListed l
 unfolding regionsIn
 listed-flatten l rest = ap (map unrow) (rows-flatten rowOf wide row-wide l rest) ∙ row-says l
 
@@ -100,34 +101,34 @@ pub record Admitted (g : Grammar) (c : Columns) (s l : List ℕ) (n : ℕ) (e : 
   pub joints : offJoint (g .eol) s (regionsIn n l) (e .first) (e .second) ≡ false
   pub shut : leftOpen (g .eol) (listRegions (gramOf g c)) (length s) e ≡ false
 
-pub record Accepted (g : Grammar) (c : Columns) (s l : List ℕ) (n : ℕ) (e : Edit) (out : List ℕ) (k : ℕ) : Type 0 where
-  pub equal : unequal c ≡ false
+-- all of it, where a region has w numbers of the list that is left, and columns may differ
+pub record Accepted (w : ℕ) (differing : Bool) (g : Grammar) (c : Columns) (s l : List ℕ) (n : ℕ) (e : Edit) (out : List ℕ) (k : ℕ) : Type 0 where
+  pub equal : differing ≡ false
   pub short : tooLong (edited e s) ≡ false
   pub meets : Admitted g c s l n e
-  pub fits : crowded wide (amendedList g c s l n e) out ≡ false
+  pub fits : crowded w (amendedList g c s l n e) out ≡ false
   pub count : k ≡ length (amendedList g c s l n e)
 
-pub accepted-told : (g : Grammar) (c : Columns) (s l : List ℕ) (n : ℕ) (e : Edit) (out : List ℕ) (k : ℕ) → given (k ∷ []) ≡ amendedAnswer g c s l n e out → Accepted g c s l n e out k
-unfolding amendedAnswer judged settledAnswer
-accepted-told g c s l n e out k served =
+pub accepted-by : (w : ℕ) (differing : Bool) (g : Grammar) (c : Columns) (s l : List ℕ) (n : ℕ) (e : Edit) (out : List ℕ) (k : ℕ) → given (k ∷ []) ≡ amendAnswer g c s l n e w differing out
+    → Accepted w differing g c s l n e out k
+unfolding amendAnswer settledAnswer
+accepted-by w differing g c s l n e out k served =
     let v = k ∷ [] in
-    let p1 = refuse-pass 0 (tooLong s || tooLong (e .text)) _ v (sym served) in
-    let p6 = refuse-pass 5 (unequal c) _ v (p1 .1) in
-    let p4 = refuse-pass 3 (miscut s e) _ v (p6 .1) in
-    let p1′ = refuse-pass 0 (tooLong (edited e s)) _ v (p4 .1) in
-    let p5 = refuse-pass 4 (misshapen l n (length s)) _ v (p1′ .1) in
-    let p9 = refuse-pass 8 (usesLineEnd g c) _ v (p5 .1) in
-    let p7 = refuse-pass 6 (offJoint (g .eol) s (regionsIn n l) (e .first) (e .second)) _ v (p9 .1) in
-    let p8 = refuse-pass 7 (leftOpen (g .eol) (listRegions (gramOf g c)) (length s) e) _ v (p7 .1) in
-    let p3 = refuse-pass 2 (crowded wide (amendedList g c s l n e) out) _ v (p8 .1) in
-    let m = neither (ltb (e .second) (e .first)) (past s (e .second)) (p4 .0) in
+    let p = passed (g .eol) s l n e differing (usesLineEnd g c) _ v (sym served) in
+    let p8 = refuse-pass 7 (leftOpen (g .eol) (listRegions (gramOf g c)) (length s) e) _ v (p .7) in
+    let p3 = refuse-pass 2 (crowded w (amendedList g c s l n e) out) _ v (p8 .1) in
+    let m = neither (ltb (e .second) (e .first)) (past s (e .second)) (p .2) in
     record {
-      equal = p6 .0;
-      short = p1′ .0;
-      meets = record { cuts = (ltb-false (e .second) (e .first) (m .0), ltb-false (length s) (e .second) (m .1)); free = p9 .0; joints = p7 .0; shut = p8 .0 };
+      equal = p .1;
+      short = p .3;
+      meets = record { cuts = (ltb-false (e .second) (e .first) (m .0), ltb-false (length s) (e .second) (m .1)); free = p .5; joints = p .6; shut = p8 .0 };
       fits = p3 .0;
       count = ap (λ (o : Outcome). getD (o .values) 0 0) (sym (p3 .1));
     }
+
+pub accepted-told : (g : Grammar) (c : Columns) (s l : List ℕ) (n : ℕ) (e : Edit) (out : List ℕ) (k : ℕ) → given (k ∷ []) ≡ amendedAnswer g c s l n e out → Accepted wide (unequal c) g c s l n e out k
+unfolding amendedAnswer
+accepted-told g c s l n e out k served = accepted-by wide (unequal c) g c s l n e out k served
 
 -- ---- so the edit fits the joint theorem
 module _ (g : Grammar) (c : Columns) (s l : List ℕ) (n : ℕ) (e : Edit) (a : Admitted g c s l n e) (holds : HoldsRegions g c s l n) where
@@ -168,7 +169,7 @@ pub record Rebuilt (k : ℕ) (out out′ blank fresh : List ℕ) (a : Answer) : 
   pub whole : blank ≡ out → (a ≡ Value k) × (fresh ≡ out′)
 
 module _ (g : Grammar) (c : Columns) (s l : List ℕ) (n : ℕ) (e : Edit) (out out′ : List ℕ) (k : ℕ) (holds : HoldsRegions g c s l n) (m : Amended g c s l n e out out′ (told (Value k))) where
-  tested : Accepted g c s l n e out k
+  tested : Accepted wide (unequal c) g c s l n e out k
   tested = accepted-told g c s l n e out k (m .answer)
 
   -- the regions of the edited text

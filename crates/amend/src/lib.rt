@@ -1,7 +1,7 @@
 // The amendment of a region list: where a stretch of a text is replaced between two joints, the list of the edited text is made from
 // the old list and the replacement alone. Of the old text only its length and the two bytes before each cut are read.
 mod joints; // where an amendment may cut
-mod own; // the replacement's own regions
+pub mod own; // the replacement's own regions
 mod rows; // a list as rows of two numbers
 
 use common::grammar::Grammar;
@@ -22,41 +22,68 @@ use rules::columns::columns_differ;
 use rules::rows::Rows;
 use rules::rows::rule_rows;
 use rules::search_bytes::Alphabet;
+ghost use Rattle.common.specs.Entry.{wide};
 ghost use Rattle.common.specs.Lists.{Wrote};
 ghost use Rattle.common.specs.Refusals.{told};
 ghost use Rattle.region.specs.Region.{row};
 ghost use Rattle.rules.specs.Columns.{columns};
 ghost use Rattle.rules.specs.Rows.{gramBy};
 ghost use Rattle.amend.specs.Amended.{edit, regionsIn, listRegions, Amended};
-ghost use Rattle.amend.specs.Parts.{Judged, CutsReady, parts, Roomy, Settled};
+ghost use Rattle.amend.specs.Parts.{JudgedEdit, Judged, CutsReady, parts, Roomy, Settled};
 
 // Whether the cuts may be made.
-enum Verdict {
+pub enum Verdict {
     Fine,
     Refused(Refusal),
 }
 
 // What is wrong with the rules: columns differ; a line end escapes or opens.
-struct Flaws {
-    unequal: bool,
-    marked: bool,
+pub struct Flaws {
+    pub unequal: bool,
+    pub marked: bool,
 }
 
 // Where a text of `len` bytes is cut.
-struct Cuts {
-    first: usize,
-    second: usize,
-    len: usize,
+pub struct Cuts {
+    pub first: usize,
+    pub second: usize,
+    pub len: usize,
 }
 
 // Of a list's `count` rows those before row `before` are kept, and those from row `after` on are moved.
-struct Split {
-    before: usize,
-    after: usize,
-    count: usize,
+pub struct Split {
+    pub before: usize,
+    pub after: usize,
+    pub count: usize,
 }
 
-// The refusals that the texts' lengths, the rules, the list, the cuts and the bytes before them decide, in the page's order.
+// The refusals that the texts' lengths, the columns and the cuts decide, in the page's order.
+pub fn judge_edit(old: &[u8], first: usize, second: usize, text: &[u8], unequal: bool) -> Verdict
+    ensures { λ r. ⌜ JudgedEdit (now (old .entry)) (edit first second (now (text .entry))) unequal r ⌝ }
+{
+    let len = old.len();
+    if len > MAX_INPUT_LEN {
+        return Verdict::Refused(Refusal::TextTooLong);
+    }
+    if text.len() > MAX_INPUT_LEN {
+        return Verdict::Refused(Refusal::TextTooLong);
+    }
+    if unequal {
+        return Verdict::Refused(Refusal::ColumnsDiffer);
+    }
+    if first > second {
+        return Verdict::Refused(Refusal::CutsOutOfOrder);
+    }
+    if second > len {
+        return Verdict::Refused(Refusal::CutsOutOfOrder);
+    }
+    if len - (second - first) + text.len() > MAX_INPUT_LEN {
+        return Verdict::Refused(Refusal::TextTooLong);
+    }
+    Verdict::Fine
+}
+
+// And those that the list, the rules and the bytes before the cuts decide.
 fn judge(
     old: &[u8],
     list: &[u32],
@@ -72,35 +99,21 @@ fn judge(
         (flaws .marked) r
         ⌝ }
 {
-    let len = old.len();
-    if len > MAX_INPUT_LEN {
-        return Verdict::Refused(Refusal::TextTooLong);
+    match judge_edit(old, first, second, text, flaws.unequal) {
+        Verdict::Refused(r) => Verdict::Refused(r),
+        Verdict::Fine => {
+            if is_misshapen(list, count, old.len()) {
+                return Verdict::Refused(Refusal::ListMisshapen);
+            }
+            if flaws.marked {
+                return Verdict::Refused(Refusal::LineEndMark);
+            }
+            if is_off_joint(old, list, count, first, second, eol) {
+                return Verdict::Refused(Refusal::NotAtJoint);
+            }
+            Verdict::Fine
+        }
     }
-    if text.len() > MAX_INPUT_LEN {
-        return Verdict::Refused(Refusal::TextTooLong);
-    }
-    if flaws.unequal {
-        return Verdict::Refused(Refusal::ColumnsDiffer);
-    }
-    if first > second {
-        return Verdict::Refused(Refusal::CutsOutOfOrder);
-    }
-    if second > len {
-        return Verdict::Refused(Refusal::CutsOutOfOrder);
-    }
-    if len - (second - first) + text.len() > MAX_INPUT_LEN {
-        return Verdict::Refused(Refusal::TextTooLong);
-    }
-    if is_misshapen(list, count, len) {
-        return Verdict::Refused(Refusal::ListMisshapen);
-    }
-    if flaws.marked {
-        return Verdict::Refused(Refusal::LineEndMark);
-    }
-    if is_off_joint(old, list, count, first, second, eol) {
-        return Verdict::Refused(Refusal::NotAtJoint);
-    }
-    Verdict::Fine
 }
 
 // Writes the list of the edited text: the rows that are kept; the replacement's own regions, moved up by the first cut; the last rows,
@@ -116,7 +129,7 @@ fn write(
     out: &mut [u32],
 ) -> usize
     requires { ⌜
-        Roomy (gramBy alphabet (now fences) (now rules)) (now list) split cuts (now text) (now out)
+        Roomy wide (gramBy alphabet (now fences) (now rules)) (now list) split cuts (now text) (now out)
         ⌝ }
     ensures { λ r. ⌜
         Wrote row (parts (gramBy alphabet (now (fences .entry)) (now (rules .entry))) (now (list .entry)) split cuts

@@ -7,7 +7,8 @@ use rules::search_bytes::Alphabet;
 ghost use mathlib.Core.Bool.{_||_};
 ghost use lib.Dec.{leb};
 ghost use Rattle.search.specs.Promise.{Gives};
-ghost use Rattle.region.specs.Region.{up};
+ghost use Rattle.common.specs.Entry.{wide};
+ghost use Rattle.region.specs.Region.{row, up};
 ghost use Rattle.region.specs.Regions.{regions};
 ghost use Rattle.rules.specs.Rows.{gramBy};
 ghost use Rattle.amend.specs.Parts.{surveyed, Owns, PutRows};
@@ -30,7 +31,7 @@ fn reached(already: bool, end: usize, len: usize) -> bool
 }
 
 // The regions of a text, counted.
-pub(crate) fn survey(text: &[u8], alphabet: Alphabet, fences: &[u16; 256], rules: &Rows) -> Counted
+pub fn survey(text: &[u8], alphabet: Alphabet, fences: &[u16; 256], rules: &Rows) -> Counted
     ensures { λ r. ⌜ Gives (surveyed (gramBy alphabet (now (fences .entry)) (now (rules .entry))) (now (text .entry))) r ⌝ }
 {
     let mut dead = [0usize; 256];
@@ -54,7 +55,7 @@ pub(crate) fn survey(text: &[u8], alphabet: Alphabet, fences: &[u16; 256], rules
     }
 }
 
-// Writes the regions of a text, moved up by `by`, to row `row` of `out` and on. Answers the row after them.
+// Writes the regions of a text, moved up by `by`, to row `into` of `out` and on. Answers the row after them.
 pub(crate) fn write_own(
     text: &[u8],
     by: usize,
@@ -62,16 +63,16 @@ pub(crate) fn write_own(
     fences: &[u16; 256],
     rules: &Rows,
     out: &mut [u32],
-    row: usize,
+    into: usize,
 ) -> usize
-    requires { ⌜ Owns (regions (gramBy alphabet (now fences) (now rules)) (now text)) (now text) by (now out) row ⌝ }
+    requires { ⌜ Owns wide (regions (gramBy alphabet (now fences) (now rules)) (now text)) (now text) by (now out) into ⌝ }
     ensures { λ r. ⌜
-        PutRows (up by (listRegions (gramBy alphabet (now (fences .entry)) (now (rules .entry))) (now (text .entry)))) row
+        PutRows row wide (up by (listRegions (gramBy alphabet (now (fences .entry)) (now (rules .entry))) (now (text .entry)))) into
         (now (out .entry)) (now (out .exit)) r
         ⌝ }
 {
     let mut dead = [0usize; 256];
-    let mut at = row;
+    let mut at = into;
     let mut q = 0;
     loop {
         match next_region(text, q, alphabet, fences, rules, &mut dead) {

@@ -6,7 +6,7 @@ ghost use mathlib.Core.List.{[], _∷_};
 ghost use Prim.Native.Nat.{_+_, _-_, _*_, _<_};
 ghost use lib.ListN.{length, getD};
 ghost use Rattle.search.specs.Promise.{Gives};
-ghost use Rattle.region.specs.Region.{keepBefore};
+ghost use Rattle.region.specs.Region.{keepBefore, row};
 ghost use Rattle.common.specs.Lists.{RowPut};
 ghost use Rattle.region.specs.Room.{RowFits};
 ghost use Rattle.amend.specs.Amend.{movedBy};
@@ -74,7 +74,7 @@ fn moved(place: usize, down: usize, up: usize) -> usize
     place - down + up
 }
 
-// Copies the rows from `from` up to `to`, each place lowered by `down` and raised by `up`, to row `row` of `out` and on. Answers
+// Copies the rows from `from` up to `to`, each place lowered by `down` and raised by `up`, to row `into` of `out` and on. Answers
 // the row after them.
 pub(crate) fn copy_rows(
     list: &[u32],
@@ -83,13 +83,13 @@ pub(crate) fn copy_rows(
     down: usize,
     up: usize,
     out: &mut [u32],
-    row: usize,
+    into: usize,
 ) -> usize
-    requires { ⌜ Copies (now list) from to down up (now out) row ⌝ }
-    ensures { λ r. ⌜ PutRows (movedBy down up (regionsBetween from to (now (list .entry)))) row (now (out .entry)) (now (out .exit)) r ⌝ }
+    requires { ⌜ Copies wide (now list) from to down up (now out) into ⌝ }
+    ensures { λ r. ⌜ PutRows row wide (movedBy down up (regionsBetween from to (now (list .entry)))) into (now (out .entry)) (now (out .exit)) r ⌝ }
 {
     let mut i = from;
-    let mut n = row;
+    let mut n = into;
     while i < to {
         let start = moved(number(list, i, START), down, up);
         let end = moved(number(list, i, END), down, up);

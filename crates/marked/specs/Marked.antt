@@ -17,10 +17,10 @@ use Rattle.cont.specs.Frames.{markAt, afterMark, marksFrom, lineMarks, openStar
 use Rattle.region.specs.Region.{reaches, keepBefore, keepFrom}
 use Rattle.cover.specs.Shape.{misshapen}
 use Rattle.amend.specs.Amend.{joint}
-use Rattle.amend.specs.Amended.{regionsIn, amendedRegions, offJoint, leftOpen, judged, settledAnswer, amendedAnswer}
+use Rattle.amend.specs.Amended.{regionsIn, amendedRegions, offJoint, leftOpen, judgedEdit, judged, settledAnswer, amendAnswer, amendedAnswer}
 use Rattle.listing.specs.Listing.{houseRegions}
 use Rattle.marked.specs.Page.{Says, page}
 
 pub marked : Each Says page
-unfolding is either oneOf other holds firstOf firstPlace find back lineStart opensLine closesTo closing shuts reader endsAt paragraphEnd nextIn scan collect shutPlace oddBefore symTurn asymTurn inline regionTurn regionsFrom regions houseRegions searched openRule symRule begins opens closes closeEnd nextFence fences leading beyond itemAt itemsOf digit valuedFrom numberLine markAt afterMark marksFrom lineMarks openStart ending frames gather reaches keepBefore keepFrom joint regionsIn amendedRegions misshapen offJoint leftOpen judged settledAnswer amendedAnswer
+unfolding is either oneOf other holds firstOf firstPlace find back lineStart opensLine closesTo closing shuts reader endsAt paragraphEnd nextIn scan collect shutPlace oddBefore symTurn asymTurn inline regionTurn regionsFrom regions houseRegions searched openRule symRule begins opens closes closeEnd nextFence fences leading beyond itemAt itemsOf digit valuedFrom numberLine markAt afterMark marksFrom lineMarks openStart ending frames gather reaches keepBefore keepFrom joint regionsIn amendedRegions misshapen offJoint leftOpen judgedEdit judged settledAnswer amendAnswer amendedAnswer
 marked = (refl, (refl, (refl, (refl, (refl, (refl, (refl, (refl, (refl, (refl, (refl, (refl, (refl, (refl, (refl, (refl, (refl, (refl, (record { answer = refl; list = refl }, (record { answer = refl; list = refl }, (record { answer = refl; list = refl }, (record { answer = refl; list = refl }, (refl, (record { answer = refl; list = refl }, tt))))))))))))))))))))))))

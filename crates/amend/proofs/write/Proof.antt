@@ -1,6 +1,6 @@
 -- `write` meets its contract. Assumes nothing.
 use borrow.Author.Needs.{needs}
-use Rattle.amend.specs.SettleLaws.{own-asks, moved-asks, all-written}
+use Rattle.amend.specs.SettleLaws.{row-long, own-asks, moved-asks, all-written}
 use Rattle.amend.proofs.write.Statement.{statement}
 use Rattle.amend.proofs.write.Tie as tie
 
@@ -20,7 +20,7 @@ same-length : tie.Need-same-length
 same-length c = search needs
 
 returns : tie.Need-returns
-returns c = search all-written
+returns c = search (all-written, row-long)
 
 pub write-spec : {M : Type 1} → statement M
 write-spec =

@@ -2,19 +2,22 @@
 use borrow.Author.Needs.{needs}
 use Prim.Native.Nat.{_-_}
 use lib.ListN.{length}
+use Rattle.common.specs.Entry.{wide}
 use Rattle.rules.specs.Rows.{gramBy}
+use Rattle.region.specs.Region.{row}
 use Rattle.amend.specs.OwnLaws.{Moving, moving-first, moving-same, moving-end, moving-less, moving-puts, moving-again}
+use Rattle.amend.specs.SettleLaws.{row-long}
 use Rattle.amend.proofs.own.write_own.Statement.{statement}
 use Rattle.amend.proofs.own.write_own.Tie as tie
 
 abbrev Inv-loop : tie.InvT-loop
-Inv-loop text by alphabet fences rules out₀ row dead₀ at₀ q₀ out dead at q = Moving (gramBy alphabet fences rules) text dead by row out₀ out at q
+Inv-loop text by alphabet fences rules out₀ into dead₀ at₀ q₀ out dead at q = Moving row wide (gramBy alphabet fences rules) text dead by into out₀ out at q
 
 abbrev μ-loop : tie.MeasureT-loop
-μ-loop text by alphabet fences rules out₀ row dead₀ at₀ q₀ out dead at q = length text - q
+μ-loop text by alphabet fences rules out₀ into dead₀ at₀ q₀ out dead at q = length text - q
 
 loop-holds : tie.Need-loop-holds Inv-loop μ-loop
-loop-holds c = search moving-first
+loop-holds c = search (moving-first, row-long)
 
 next-region-requires : tie.Need-next-region-requires Inv-loop μ-loop
 next-region-requires c κs = search needs

@@ -1,18 +1,21 @@
 -- `copy_rows` meets its contract: a loop over rows that writes them moved. Assumes nothing.
 use borrow.Author.Needs.{needs}
 use Prim.Native.Nat.{_-_}
+use Rattle.common.specs.Entry.{wide}
+use Rattle.region.specs.Region.{row}
 use Rattle.amend.specs.RowLaws.{Copying, copying-first, copying-same, copying-end, start-moves, stop-moves, copying-puts, copying-again}
+use Rattle.amend.specs.SettleLaws.{row-long}
 use Rattle.amend.proofs.rows.copy_rows.Statement.{statement}
 use Rattle.amend.proofs.rows.copy_rows.Tie as tie
 
 abbrev Inv-loop : tie.InvT-loop
-Inv-loop list from to down up out₀ row i₀ n₀ out i n = Copying list from to down up row out₀ out i n
+Inv-loop list from to down up out₀ into i₀ n₀ out i n = Copying row wide list from to down up into out₀ out i n
 
 abbrev μ-loop : tie.MeasureT-loop
-μ-loop list from to down up out₀ row i₀ n₀ out i n = to - i
+μ-loop list from to down up out₀ into i₀ n₀ out i n = to - i
 
 loop-holds : tie.Need-loop-holds Inv-loop μ-loop
-loop-holds c = search copying-first
+loop-holds c = search (copying-first, row-long)
 
 number-requires : tie.Need-number-requires Inv-loop μ-loop
 number-requires c κs = search needs
