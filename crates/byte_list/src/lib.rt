@@ -17,7 +17,7 @@ ghost use Rattle.cover.specs.Shape.{misshapen, regionAt};
 ghost use Rattle.cells.specs.Bytes.{cells, rowBytes};
 
 // The number in cell `k` as a place, else 0.
-fn place_in(list: &[u8], k: usize) -> usize
+pub fn place_in(list: &[u8], k: usize) -> usize
     ensures { λ r. ⌜ Gives (getD (cells (now (list .entry))) k 0) r ⌝ }
 {
     cell(list, k) as usize

@@ -1,0 +1,3 @@
+pub mod Amending
+pub mod ByteParts
+pub mod WriteLaws
