@@ -167,7 +167,7 @@ module _ (g : Gram) (l : List ℕ) (n : ℕ) (cuts : Cuts) (r : List ℕ) (ready
       let c = length-map (regionsBetween after n l) (move (λ x. x + (cuts .first + length r) - cuts .second)) ∙ listed-length (n - after) (drop (after * wide) l) in
       sym (ap length parts-same) ∙ omega (arith, length-append A (B ++ C), length-append B C, a, b, c)
 
-  module _ (own : Counted) (c : Gives (surveyed g r) own) (out : List ℕ) where
+  module _ (own : Counted) (c : Gives (surveyed g r) own) where
     counted : own .count ≡ length (regions g r)
     counted = ap (λ (w : Counted). w .count) (c .answer)
 
@@ -179,7 +179,11 @@ module _ (g : Gram) (l : List ℕ) (n : ℕ) (cuts : Cuts) (r : List ℕ) (ready
       pub three-fit : Fits w64 (before + own .count + (n - after))
       three-fit = record { fits = omega (arith, counted, few-before, ready .orderly .roomy, ready .small, regions-few g r) }
 
-    module _ (width : ℕ) where
+    -- how many regions are asked for, as counted
+    pub total-told : length (amendedRegions (listRegions g) (cuts .len) (edit (cuts .first) (cuts .second) r) (regionsIn n l)) ≡ before + own .count + (n - after)
+    total-told = omega (arith, total, counted)
+
+    module _ (out : List ℕ) (width : ℕ) where
       -- rows behind others that have room together
       room-two : (a b : ℕ) → a + b ≤ length out / width → a * width + b * width ≤ length out
       room-two a b h = subst (λ (k : ℕ). k ≤ length out) (add-mul a b width) (room-fits width (a + b) out h)
@@ -206,11 +210,7 @@ module _ (g : Gram) (l : List ℕ) (n : ℕ) (cuts : Cuts) (r : List ℕ) (ready
                 };
           }
 
-    -- how many regions are asked for, as counted
-    pub total-told : length (amendedRegions (listRegions g) (cuts .len) (edit (cuts .first) (cuts .second) r) (regionsIn n l)) ≡ before + own .count + (n - after)
-    total-told = omega (arith, total, counted)
-
-    module _ (eol : ℕ) (y : Bool) (e : y ≡ false) (o : Gives (openEnd eol (ltb (cuts .second) (cuts .len)) r (own .reaching)) y) where
+    module _ (out : List ℕ) (eol : ℕ) (y : Bool) (e : y ≡ false) (o : Gives (openEnd eol (ltb (cuts .second) (cuts .len)) r (own .reaching)) y) where
       -- a replacement that is shut leaves the room to decide
       pub answer-shut : (width : ℕ) → settledAnswer width eol (cuts .len) (listRegions g) (regionsIn n l) (edit (cuts .first) (cuts .second) r) out ≡ filledAnswer width (amendedRegions (listRegions g) (cuts .len) (edit (cuts .first) (cuts .second) r) (regionsIn n l)) out
       unfolding settledAnswer

@@ -1,3 +1,4 @@
 pub mod Amending
 pub mod ByteParts
 pub mod WriteLaws
+pub mod AmendingLaws
