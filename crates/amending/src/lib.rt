@@ -207,7 +207,16 @@ fn settle(
         count,
     };
     pour(
-        list, split, total, cuts, text, alphabet, fences, rules, out, answer,
+        list,
+        split,
+        total,
+        cuts,
+        text,
+        alphabet,
+        fences,
+        rules,
+        out,
+        answer,
     )
 }
 
@@ -250,7 +259,17 @@ fn with_columns(
     let alphabet = Alphabet::of(g, fences, symmetric, openers);
     let table = fence_table(fences, mins);
     let rules = rule_rows(fences, symmetric, times, openers, closers, counts);
-    settle(list, count, cuts, text, alphabet, &table, &rules, out, answer)
+    settle(
+        list,
+        count,
+        cuts,
+        text,
+        alphabet,
+        &table,
+        &rules,
+        out,
+        answer,
+    )
 }
 
 // Amends the list of an old text, whose first `count` regions it has, for the text in which the bytes from the first cut up to the
@@ -317,7 +336,20 @@ pub fn amend_columns(
                 tab,
             };
             with_columns(
-                list, count, cuts, text, g, fences, mins, symmetric, times, openers, closers, counts, out, answer,
+                list,
+                count,
+                cuts,
+                text,
+                g,
+                fences,
+                mins,
+                symmetric,
+                times,
+                openers,
+                closers,
+                counts,
+                out,
+                answer,
             )
         }
     }

@@ -24,7 +24,7 @@ enum-told : tie.Need-enum-told
 enum-told c = search needs
 
 with-columns-requires : tie.Need-with-columns-requires
-with-columns-requires c κs = search ready-told
+with-columns-requires c κs = search (ready-told, c .before .before .enum-told .given, c .before .before .before .before .judge .ensures)
 
 returns : tie.Need-returns
 returns c = search bytes-refused
