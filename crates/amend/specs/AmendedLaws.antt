@@ -1,12 +1,12 @@
 -- Laws of the amendment: the ways out of the entry, that its promise leaves one answer and one list, and that it sees little of the old text. Assumes nothing.
 use mathlib.Core.Path.{_≡_, refl, sym, ap, subst, _∙_}
-use mathlib.Core.Bool.{Bool, true, false, _||_}
-use mathlib.Core.List.{List, []}
+use mathlib.Core.Bool.{Bool, true, false, cond, _||_}
+use mathlib.Core.List.{List, [], _++_}
 use mathlib.Core.Logic.{_⊎_, inl, inr}
 use Prim.Native.Nat.{ℕ, _+_, _-_, _≤_, _<_}
 use native.Mathlib.Omega.{arith}
 use lib.Dec.{ltb, leb}
-use lib.ListN.{length, getD, length-append, length-take, length-drop}
+use lib.ListN.{length, getD, length-append, length-map, length-take, length-drop}
 use borrow.Author.Tests.{ltb-false, leb-true}
 use Rattle.search.specs.Promise.{Gives}
 use Rattle.search.specs.Search.{holds}
@@ -17,6 +17,7 @@ use Rattle.common.specs.RefusalLaws.{number-some, answer-unique}
 use Rattle.common.specs.declared.grammar.Grammar.{Grammar}
 use Rattle.common.specs.declared.refusal.Refusal.{Refusal}
 use Rattle.common.specs.declared.refusal.Answer.{Answer}
+use Rattle.region.specs.Region.{Region, move, up, keepBefore, keepFrom}
 use Rattle.rules.specs.Grammar.{Gram}
 use Rattle.rules.specs.Columns.{Columns, inlineRules, columns, unequal, alphabetOf, gramOf}
 use Rattle.rules.specs.Rows.{gramBy, Folded}
@@ -24,10 +25,11 @@ use Rattle.rules.specs.RowLaws.{gram-same}
 use Rattle.rules.specs.declared.search_bytes.Alphabet.{Alphabet}
 use Rattle.lines.specs.Fences.{fenceTable}
 use Rattle.joint.specs.Joint.{afterEmptyLine, lineEndIsMark}
-use Rattle.amend.specs.Amend.{Edit, joint}
+use Rattle.amend.specs.Amend.{Edit, movedBy, joint}
 use Rattle.cover.specs.Shape.{misshapen}
-use Rattle.amend.specs.Amended.{regionsIn, listRegions, edit, edited, miscut, usesLineEnd, offJoint, judgedEdit, judged, settledAnswer, amendAnswer, amendedAnswer, Amended}
+use Rattle.amend.specs.Amended.{regionsIn, listRegions, edit, edited, follows, amendedRegions, miscut, usesLineEnd, offJoint, judgedEdit, judged, settledAnswer, amendAnswer, amendedAnswer, Amended}
 use Rattle.amend.specs.Parts.{toldVerdict, Judged, CutsReady, Settled}
+use Rattle.amend.specs.Starts.{apart-few}
 use Rattle.amend.specs.RowLaws.{orderly-told}
 use Rattle.amend.specs.JudgeLaws.{not-given, refuse-same, refuse-pass, edited-length, edit-same, edit-passed}
 use Rattle.amend.specs.declared.Verdict.{Verdict}
@@ -103,6 +105,20 @@ module _ (g : Grammar) (f m y t o k c s l : List ℕ) (n first second : ℕ) (r 
       amended-on g (columns f m y t o k c) s l n (edit first second r) out u w v hv hu hw out′ a d
       (subst (λ (x : Gram). Settled (g .eol) (length s) (listRegions x) (regionsIn n l) (edit first second r) out out′ a) (gram-same f y t o k c rules hr g m alphabet fences hs hf)
       (subst (λ (x : Alphabet). Settled (x .grammar .eol) (length s) (listRegions (gramBy alphabet fences rules)) (regionsIn n l) (edit first second r) out out′ a) (hs .answer) z))
+
+-- ---- how many regions
+-- an amended list has at most the old list's regions and the replacement's own
+pub amended-regions-few : {T : Type 0} (build : List ℕ → List (Region T)) (len : ℕ) (e : Edit) (l : List (Region T)) → e .first ≤ e .second → length (amendedRegions build len e l) ≤ length l + length (build (e .text))
+unfolding amendedRegions
+amended-regions-few {T} build len e l h = by (decide (follows len (e .second)))
+  where
+    few : (rest : List (Region T)) → length rest ≤ length (keepFrom (e .second) l) → length (keepBefore (e .first) l ++ (up (e .first) (build (e .text)) ++ rest)) ≤ length l + length (build (e .text))
+    few rest k =
+        omega (arith, apart-few (e .first) (e .second) h l, length-append (keepBefore (e .first) l) (up (e .first) (build (e .text)) ++ rest), length-append (up (e .first) (build (e .text))) rest, length-map (build (e .text)) (move (λ x. e .first + x)))
+
+    by : (follows len (e .second) ≡ true) ⊎ (follows len (e .second) ≡ false) → length (keepBefore (e .first) l ++ (up (e .first) (build (e .text)) ++ cond (follows len (e .second)) (movedBy (e .second) (e .first + length (e .text)) (keepFrom (e .second) l)) [])) ≤ length l + length (build (e .text))
+    by (inl u) = rw u (few (movedBy (e .second) (e .first + length (e .text)) (keepFrom (e .second) l)) (omega (arith, length-map (keepFrom (e .second) l) (move (λ x. x + (e .first + length (e .text)) - e .second)))))
+    by (inr u) = rw u (few [] (omega arith))
 
 -- ---- one answer, one list
 -- two results of an amendment for the same arguments are one: the answer, and the list that is left

@@ -23,6 +23,10 @@ use Rattle.amend.specs.declared.Verdict.the-variants as verdict
 pub not-given : (q : Refusal) → refused (numberOf q) ≡ given [] → ⊥
 not-given q e = clash (eq-eqb (numberOf q) 0 (ap (λ (o : Outcome). o .number) e)) (number-some q)
 
+-- what has the number 0 is served
+pub number-given : (o : Outcome) → o .number ≡ 0 → o ≡ given (o .values)
+number-given o e = ap (λ (k : ℕ). record { number = k; values = o .values }) e
+
 -- what a chain refuses before its end it refuses with any end
 pub refuse-same : (k : Outcome) (n : ℕ) (b : Bool) (o o′ : Outcome) → (o ≡ k → o′ ≡ k) → refuse n b o ≡ k → refuse n b o′ ≡ k
 refuse-same k n true o o′ f e = e

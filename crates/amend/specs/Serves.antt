@@ -80,18 +80,17 @@ module _ {g : Grammar} {c : Columns} {old run l : List ℕ} {n : ℕ} {e : Edit}
   meeting : Admitted g c old l n e
   meeting = record { cuts = (w .rising, w .within); free = w .apart; joints = on-joints; shut = closed }
 
-  -- the amendment answers the count of the edited text's regions
-  pub amend-serves : (out : List ℕ) → afreshCount g c old e ≤ room wide out
-      → amendedAnswer g c old l n e out ≡ given (afreshCount g c old e ∷ [])
-  unfolding amendedAnswer amendAnswer judged judgedEdit settledAnswer
-  amend-serves out h =
-      let t = built-told b in
+  -- the amendment answers the count of the edited text's regions, where a region has `width` numbers of the list that is left
+  pub amend-serves-by : (width : ℕ) (differing : Bool) (out : List ℕ) → differing ≡ false → afreshCount g c old e ≤ room width out
+      → amendAnswer g c old l n e width differing out ≡ given (afreshCount g c old e ∷ [])
+  unfolding amendAnswer judged judgedEdit settledAnswer
+  amend-serves-by width differing out d h =
       let x = same g c old l n e meeting (built-holds b) in
       let size = length-map (regions (gramOf g c) (edited e old)) asListed in
       rw (
-        t .short,
+        built-told b .short,
         le-ltb 4294967295 (length (e .text)) (w .replacement),
-        t .equal,
+        d,
         le-ltb (e .second) (e .first) (w .rising),
         le-ltb (length old) (e .second) (w .within),
         le-ltb 4294967295 (length (edited e old)) (w .finished),
@@ -101,8 +100,12 @@ module _ {g : Grammar} {c : Columns} {old run l : List ℕ} {n : ℕ} {e : Edit}
         closed,
         x,
         size,
-        le-ltb (room wide out) (afreshCount g c old e) h,
+        le-ltb (room width out) (afreshCount g c old e) h,
       )
+
+  pub amend-serves : (out : List ℕ) → afreshCount g c old e ≤ room wide out → amendedAnswer g c old l n e out ≡ given (afreshCount g c old e ∷ [])
+  unfolding amendedAnswer
+  amend-serves out h = amend-serves-by wide (unequal c) out (built-told b .equal) h
 
 -- ---- nothing less is served
 module _ {g : Grammar} {c : Columns} {old run l : List ℕ} {n : ℕ} {e : Edit} (b : Built g c old run l (told (Value n))) (out : List ℕ) (k : ℕ)

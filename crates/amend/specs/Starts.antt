@@ -3,7 +3,7 @@ use mathlib.Core.Path.{_≡_, refl, sym, ap, subst, _∙_}
 use mathlib.Core.Bool.{true, false, cond, or-false}
 use mathlib.Core.List.{List, [], _∷_, map}
 use mathlib.Core.Logic.{_⊎_, inl, inr}
-use Prim.Native.Nat.{ℕ, zero, suc, _≤_, _<_}
+use Prim.Native.Nat.{ℕ, zero, suc, _+_, _≤_, _<_}
 use native.Mathlib.Omega.{arith}
 use lib.Dec.{ltb, leb}
 use lib.ListN.{length, getD, take, drop}
@@ -148,6 +148,20 @@ module _ {T : Type 0} where
             gone : length (keepBefore k l) ≡ suc m → (ltb (r .stop) k ≡ true) ⊎ (ltb (r .stop) k ≡ false) → r .stop < k
             gone z (inl v) = ltb-true (r .stop) k v
             gone z (inr v) = absurd (omega (arith, ap length (none-before k (r .stop) len l (w .3) (ltb-false (r .stop) k v))))
+
+  -- what starts before one place and what starts from a later one on are at most the list
+  pub apart-few : (a b : ℕ) → a ≤ b → (l : List (Region T)) → length (keepBefore a l) + length (keepFrom b l) ≤ length l
+  unfolding keepBefore keepFrom
+  apart-few a b h [] = omega arith
+  apart-few a b h (r ∷ l) = by (apart-few a b h l) (decide (ltb (r .start) a)) (decide (ltb (r .start) b))
+    where
+      by : length (keepBefore a l) + length (keepFrom b l) ≤ length l → (ltb (r .start) a ≡ true) ⊎ (ltb (r .start) a ≡ false) → (ltb (r .start) b ≡ true) ⊎ (ltb (r .start) b ≡ false)
+          → length (keepBefore a (r ∷ l)) + length (keepFrom b (r ∷ l)) ≤ suc (length l)
+      by ih (inl u) v =
+          let k = ltb-true (r .start) a u in
+          rw (before-yes a r l k, from-no b r l (omega arith)) (omega arith)
+      by ih (inr u) (inl v) = rw (before-no a r l (ltb-false (r .start) a u), from-no b r l (ltb-true (r .start) b v)) (omega arith)
+      by ih (inr u) (inr v) = rw (before-no a r l (ltb-false (r .start) a u), from-yes b r l (ltb-false (r .start) b v)) (omega arith)
 
   -- from the text's end on nothing starts
   pub unless-end : (f : ℕ → ℕ) (k len q : ℕ) (l : List (Region T)) → k ≤ len → InOrder q len l → map (move f) (keepFrom k l) ≡ cond (ltb k len) (map (move f) (keepFrom k l)) []

@@ -30,7 +30,7 @@ use Rattle.common.specs.Lists.{crowded, buildAnswer}
 use Rattle.amend.specs.Amended.{regionsIn, listRegions, edited, amendedRegions, usesLineEnd, offJoint, leftOpen, amendedList, settledAnswer, amendAnswer, amendedAnswer, Amended}
 use Rattle.amend.specs.Starts.{unless-end}
 use Rattle.amend.specs.Edits.{relist-one}
-use Rattle.amend.specs.JudgeLaws.{refuse-pass}
+use Rattle.amend.specs.JudgeLaws.{number-given, refuse-pass}
 use Rattle.amend.specs.AmendedLaws.{passed}
 use Rattle.region.specs.LoopLaws.{row-wide}
 use Rattle.amend.specs.Lists.{retag-order}
@@ -125,6 +125,18 @@ accepted-by w differing g c s l n e out k served =
       fits = p3 .0;
       count = ap (λ (o : Outcome). getD (o .values) 0 0) (sym (p3 .1));
     }
+
+-- an amendment that is served answers the count
+pub counted-by : (w : ℕ) (differing : Bool) (g : Grammar) (c : Columns) (s l : List ℕ) (n : ℕ) (e : Edit) (out : List ℕ) → amendAnswer g c s l n e w differing out .number ≡ 0
+    → given (length (amendedList g c s l n e) ∷ []) ≡ amendAnswer g c s l n e w differing out
+unfolding amendAnswer settledAnswer
+counted-by w differing g c s l n e out h =
+    let o = amendAnswer g c s l n e w differing out in
+    let z : o ≡ given (o .values) = number-given o h in
+    let p = passed (g .eol) s l n e differing (usesLineEnd g c) _ (o .values) z in
+    let p8 = refuse-pass 7 (leftOpen (g .eol) (listRegions (gramOf g c)) (length s) e) _ (o .values) (p .7) in
+    let p3 = refuse-pass 2 (crowded w (amendedList g c s l n e) out) _ (o .values) (p8 .1) in
+    p3 .1 ∙ sym z
 
 pub accepted-told : (g : Grammar) (c : Columns) (s l : List ℕ) (n : ℕ) (e : Edit) (out : List ℕ) (k : ℕ) → given (k ∷ []) ≡ amendedAnswer g c s l n e out → Accepted wide (unequal c) g c s l n e out k
 unfolding amendedAnswer
