@@ -1,6 +1,6 @@
 -- Laws of lists as rows of two numbers: the regions that rows say, and the rules of the loops that search and copy rows. Assumes nothing.
 use mathlib.Core.Path.{_≡_, refl, sym, ap, subst, _∙_}
-use mathlib.Core.Bool.{Bool, false}
+use mathlib.Core.Bool.{false}
 use mathlib.Core.List.{List, [], _∷_, map}
 use Prim.Native.Nat.{ℕ, zero, suc, _+_, _-_, _*_, _/_, _≤_, _<_}
 use native.Mathlib.Nat.{sub-zero, add-zero}
@@ -11,7 +11,7 @@ use lib.Seq.{getD-take, getD-drop, drop-drop}
 use Rattle.search.specs.Promise.{Gives}
 use Rattle.common.specs.Entry.{flatten, rows, startOf, stopOf, Shaped, putAt, wide}
 use Rattle.common.specs.EntryLaws.{length-rows, rows-at, rows-next, room-fits, length-put, put-append}
-use Rattle.region.specs.Region.{move, reaches, keepBefore, InOrder, Listed, row, unrow}
+use Rattle.region.specs.Region.{move, reaches, keepBefore, InOrder, Listed, unrow}
 use Rattle.region.specs.Ahead.{order-later}
 use Rattle.common.specs.Lists.{RowPut}
 use Rattle.region.specs.Room.{RowFits}

@@ -6,19 +6,19 @@ use mathlib.Core.Bool.{false, not}
 use mathlib.Core.List.{List, [], _∷_}
 use Prim.Native.Nat.{ℕ, _+_, _*_, _/_, _≤_}
 use native.Mathlib.Omega.{arith}
-use lib.Dec.{ltb, eqb}
+use lib.Dec.{ltb}
 use lib.ListN.{length, length-map}
 use borrow.Author.Tests.{eq-eqb, eqb-true, not-false}
 use Rattle.search.specs.SearchLaws.{neither}
-use Rattle.common.specs.Entry.{flatten, room, over, wide}
+use Rattle.common.specs.Entry.{flatten, over, wide}
 use Rattle.common.specs.EntryLaws.{flatten-map}
 use Rattle.common.specs.Lists.{crowded, buildAnswer}
 use Rattle.common.specs.Refusals.{Outcome, given, told, tooLong, differ}
 use Rattle.common.specs.declared.grammar.Grammar.{Grammar}
 use Rattle.common.specs.declared.refusal.Answer.the-variants.{Value}
-use Rattle.region.specs.Region.{Caused, Listed, asListed}
-use Rattle.region.specs.Regions.{regions, builtBy}
-use Rattle.rules.specs.Columns.{Columns, unequal, gramOf}
+use Rattle.region.specs.Region.{Listed, asListed}
+use Rattle.region.specs.Regions.{builtBy}
+use Rattle.rules.specs.Columns.{unequal, gramOf}
 use Rattle.context.specs.Build.{builtAnswer, builtList, Built}
 use Rattle.cells.specs.Bytes.{cells, fourfold, rowBytes}
 use Rattle.cells.specs.CellLaws.{length-cells}
