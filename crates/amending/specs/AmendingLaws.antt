@@ -21,11 +21,11 @@ use Rattle.region.specs.Region.{Listed, keepBefore}
 use Rattle.rules.specs.Grammar.{Gram}
 use Rattle.rules.specs.Columns.{alphabetOf, gramOf}
 use Rattle.rules.specs.Rows.{gramBy, Folded}
-use Rattle.rules.specs.RowLaws.{gram-same}
 use Rattle.rules.specs.declared.search_bytes.Alphabet.{Alphabet}
 use Rattle.joint.specs.Joint.{openEnd, lineEndIsMark}
 use Rattle.cells.specs.Bytes.{cells, rowBytes}
 use Rattle.cells.specs.CellLaws.{length-cells}
+use Rattle.cells.specs.RuleLaws.{gram-folded}
 use Rattle.cells.specs.ByteRules.{ColumnRuns, inlineIn, uneven, unevenColumns, columnsIn}
 use Rattle.cells.specs.Reply.{Replied}
 use Rattle.cells.specs.Poured.{ListRuns, Poured, PouredAs}
@@ -42,16 +42,6 @@ use Rattle.amend.specs.declared.Split.{Split}
 use Rattle.amend.specs.declared.own.Counted.{Counted}
 use Rattle.amending.specs.Amending.{listedBytes, AmendedBytes}
 use Rattle.amending.specs.ByteParts.{Planned, SettledBytes}
-
--- ---- columns
-module _ (c : ColumnRuns) where
-  pub fences-differ : (length (c .fenceBytes) ≡ length (c .fenceMins) → ⊥) → true ≡ unevenColumns c
-  unfolding unevenColumns
-  fences-differ h = rw (ne-eqb (length (c .fenceBytes)) (length (c .fenceMins)) h)
-
-  pub inline-differs : (b : Bool) → length (c .fenceBytes) ≡ length (c .fenceMins) → Gives (uneven (c .inline)) b → b ≡ unevenColumns c
-  unfolding unevenColumns
-  inline-differs b h g = rw (eq-eqb (length (c .fenceBytes)) (length (c .fenceMins)) h) (g .answer)
 
 -- ---- pouring the three parts
 module _ (g : Gram) (l : List ℕ) (cut : Split) (cuts : Cuts) (r : List ℕ) (total : ℕ) (p : Planned g l cut cuts r total) where
@@ -106,11 +96,8 @@ module _ (g : Gram) (list : List ℕ) (n : ℕ) (cuts : Cuts) (r : List ℕ) (re
 pub settled-columns : (g : Grammar) (c : ColumnRuns) (len : ℕ) (l : List Listed) (e : Edit) (before after : ListRuns) (a : Alphabet) (fences : List ℕ) (rows : List (List ℕ)) (r : ℕ)
     → Gives (alphabetOf g (c .fenceBytes) (c .inline .symBytes) (c .inline .openers)) a → Gives (fenceTable (c .fenceBytes) (c .fenceMins)) fences → Folded (c .fenceBytes) (inlineIn (c .inline)) rows
     → SettledBytes (a .grammar .eol) len (listRegions (gramBy a fences rows)) l e before after r → SettledBytes (g .eol) len (listRegions (gramOf g (columnsIn c))) l e before after r
-unfolding columnsIn
 settled-columns g c len l e before after a fences rows r ha hf hr v =
-    let i = c .inline in
-    let same = gram-same (c .fenceBytes) (i .symBytes) (cells (i .symCounts)) (i .openers) (i .closers) (cells (i .openCounts)) rows hr g (c .fenceMins) a fences ha hf in
-    subst (λ (z : Gram). SettledBytes (g .eol) len (listRegions z) l e before after r) same
+    subst (λ (z : Gram). SettledBytes (g .eol) len (listRegions z) l e before after r) (gram-folded g c a fences rows ha hf hr)
     (subst (λ (x : Alphabet). SettledBytes (x .grammar .eol) len (listRegions (gramBy a fences rows)) l e before after r) (ha .answer) v)
 
 -- ---- the ways out of the entry

@@ -12,7 +12,7 @@ use amend::judge_edit;
 use amend::own::survey;
 use byte_list::is_misshapen;
 use cells::ROW;
-use cells::columns::is_uneven;
+use cells::columns::columns_differ;
 use cells::columns::rule_rows;
 use cells::reply;
 use common::grammar::Grammar;
@@ -32,42 +32,12 @@ ghost use Rattle.common.specs.Lists.{Wrote};
 ghost use Rattle.rules.specs.Columns.{gramOf};
 ghost use Rattle.rules.specs.Rows.{gramBy};
 ghost use Rattle.cells.specs.Bytes.{cells, rowBytes};
-ghost use Rattle.cells.specs.ByteRules.{unevenColumns, columnsIn};
+ghost use Rattle.cells.specs.ByteRules.{columnsIn};
 ghost use Rattle.cells.specs.Poured.{PouredAs};
 ghost use Rattle.amend.specs.Amended.{edit, regionsIn, listRegions};
 ghost use Rattle.amend.specs.Parts.{Judged, CutsReady, parts, Roomy};
 ghost use Rattle.amending.specs.Amending.{listedBytes, AmendedBytes};
 ghost use Rattle.amending.specs.ByteParts.{Planned, SettledBytes};
-
-// Whether a column has another length than its byte column says.
-fn columns_differ(
-    fences: &[u8],
-    mins: &[u8],
-    symmetric: &[u8],
-    times: &[u8],
-    openers: &[u8],
-    closers: &[u8],
-    counts: &[u8],
-) -> bool
-    ensures { λ r. ⌜
-        Gives (unevenColumns (record {
-          fenceBytes = now (fences .entry);
-          fenceMins = now (mins .entry);
-          inline = record {
-            symBytes = now (symmetric .entry);
-            symCounts = now (times .entry);
-            openers = now (openers .entry);
-            closers = now (closers .entry);
-            openCounts = now (counts .entry);
-          };
-        })) r
-        ⌝ }
-{
-    if fences.len() != mins.len() {
-        return true;
-    }
-    is_uneven(symmetric, times, openers, closers, counts)
-}
 
 // The refusals that the texts' lengths, the rules, the list, the cuts and the bytes before them decide, in the page's order.
 fn judge(

@@ -10,11 +10,11 @@ use borrow.Author.Tests.{lt-ltb, le-ltb, leb-true, leb-false, eq-eqb, ne-eqb}
 use Rattle.search.specs.Promise.{Gives}
 use Rattle.search.specs.SearchLaws.{decide}
 use Rattle.common.specs.Entry.{flatten}
-use Rattle.common.specs.Refusals.{Outcome, given, refused, differ}
+use Rattle.common.specs.Refusals.{Outcome, given, refused}
 use Rattle.common.specs.Lists.{Wrote, filledAnswer, buildAnswer, countAnswer}
 use Rattle.cells.specs.Reply.{fitted, Replied}
 use Rattle.cells.specs.Poured.{ListRuns, Poured, PouredAs, BuiltAs, CountedAs}
-use Rattle.cells.specs.ByteRules.{ColumnRuns, RuleRuns, uneven, unevenColumns, unevenRules}
+use Rattle.cells.specs.ByteRules.{RuleRuns, uneven, unevenRules}
 use Rattle.cells.specs.ReplyLaws.{replied-unique, refused-by, reply-short, enough, too-short}
 
 -- two results for the same arguments are one
@@ -55,7 +55,7 @@ module _ {A : Type 0} (flat : A → List ℕ) (w : ℕ) (l : List A) (lent : Lis
         let o : filledAnswer w l (lent .list) ≡ given (k ∷ []) = rw (t, v .count) in
         subst (λ (x : Outcome). Poured x (flatten flat l) lent after r) (sym o) (record { reply = d; left = v .list ∙ simp (enough (k ∷ []) (lent .answer) m n q) })
 
--- ---- the ways out of building
+-- ---- the ways out of building: b says whether a rule's columns differ
 module _ {A : Type 0} (flat : A → List ℕ) (w : ℕ) (bad : Bool) (l : List A) (s : List ℕ) (lent : ListRuns) where
   off : (n : ℕ) → eqb n 0 ≡ false → buildAnswer w bad l s (lent .list) ≡ refused n → BuiltAs flat w bad l s lent lent n
   off n e x = subst (λ (o : Outcome). Poured o (flatten flat l) lent lent n) (sym x) (poured-off n (flatten flat l) lent e)
@@ -64,19 +64,15 @@ module _ {A : Type 0} (flat : A → List ℕ) (w : ℕ) (bad : Bool) (l : List A
   unfolding buildAnswer
   build-long h = off 1 refl (simp (lt-ltb 4294967295 (length s) h))
 
-  pub build-bad : length s ≤ 4294967295 → bad ≡ true → BuiltAs flat w bad l s lent lent 6
+  pub build-bad : (b : Bool) → length s ≤ 4294967295 → b ≡ true → Gives bad b → BuiltAs flat w bad l s lent lent 6
   unfolding buildAnswer
-  build-bad h e = off 6 refl (simp (le-ltb 4294967295 (length s) h, e))
+  build-bad b h e g = off 6 refl (simp (le-ltb 4294967295 (length s) h, sym (g .answer) ∙ e))
 
-  pub build-good : (after : ListRuns) (r : ℕ) → length s ≤ 4294967295 → bad ≡ false → PouredAs flat w l lent after r → BuiltAs flat w bad l s lent after r
+  pub build-good : (b : Bool) (after : ListRuns) (r : ℕ) → length s ≤ 4294967295 → b ≡ false → Gives bad b → PouredAs flat w l lent after r → BuiltAs flat w bad l s lent after r
   unfolding buildAnswer
-  build-good after r h e d =
-      let x : buildAnswer w bad l s (lent .list) ≡ filledAnswer w l (lent .list) = simp (le-ltb 4294967295 (length s) h, e) in
+  build-good b after r h e g d =
+      let x : buildAnswer w bad l s (lent .list) ≡ filledAnswer w l (lent .list) = simp (le-ltb 4294967295 (length s) h, sym (g .answer) ∙ e) in
       subst (λ (o : Outcome). Poured o (flatten flat l) lent after r) (sym x) d
-
-or-right : (a b : Bool) → b ≡ true → (a || b) ≡ true
-or-right true b e = refl
-or-right false b e = e
 
 -- ---- the ways out of counting
 module _ {A : Type 0} (bad : Bool) (l : List A) (s run : List ℕ) where
@@ -87,63 +83,34 @@ module _ {A : Type 0} (bad : Bool) (l : List A) (s run : List ℕ) where
   unfolding countAnswer
   count-long h = not-counted 1 refl (simp (lt-ltb 4294967295 (length s) h))
 
-  count-bad : length s ≤ 4294967295 → bad ≡ true → CountedAs bad l s run run 6
+  pub count-bad : (b : Bool) → length s ≤ 4294967295 → b ≡ true → Gives bad b → CountedAs bad l s run run 6
   unfolding countAnswer
-  count-bad h e = not-counted 6 refl (simp (le-ltb 4294967295 (length s) h, e))
+  count-bad b h e g = not-counted 6 refl (simp (le-ltb 4294967295 (length s) h, sym (g .answer) ∙ e))
 
-  count-good : (run′ : List ℕ) (r : ℕ) → length s ≤ 4294967295 → bad ≡ false → Replied (given (length l ∷ [])) run run′ r → CountedAs bad l s run run′ r
+  pub count-good : (b : Bool) (run′ : List ℕ) (r : ℕ) → length s ≤ 4294967295 → b ≡ false → Gives bad b → Replied (given (length l ∷ [])) run run′ r → CountedAs bad l s run run′ r
   unfolding countAnswer
-  count-good run′ r h e d =
-      let x : countAnswer bad l s ≡ given (length l ∷ []) = simp (le-ltb 4294967295 (length s) h, e) in
+  count-good b run′ r h e g d =
+      let x : countAnswer bad l s ≡ given (length l ∷ []) = simp (le-ltb 4294967295 (length s) h, sym (g .answer) ∙ e) in
       subst (λ (o : Outcome). Replied o run run′ r) (sym x) d
 
--- ---- by rules as columns, whatever is made by them: b says whether an inline rule's columns are uneven
-module _ (c : ColumnRuns) where
-  fences-differ : (length (c .fenceBytes) ≡ length (c .fenceMins) → ⊥) → unevenColumns c ≡ true
-  unfolding unevenColumns
-  fences-differ d = rw (ne-eqb (length (c .fenceBytes)) (length (c .fenceMins)) d)
+or-right : (a b : Bool) → b ≡ true → (a || b) ≡ true
+or-right true b e = refl
+or-right false b e = e
 
-  inline-uneven : (b : Bool) → b ≡ true → Gives (uneven (c .inline)) b → unevenColumns c ≡ true
-  unfolding unevenColumns
-  inline-uneven b e u = or-right (differ (c .fenceBytes) (c .fenceMins)) (uneven (c .inline)) (sym (u .answer) ∙ e)
-
-  all-even : (b : Bool) → length (c .fenceBytes) ≡ length (c .fenceMins) → b ≡ false → Gives (uneven (c .inline)) b → unevenColumns c ≡ false
-  unfolding unevenColumns
-  all-even b e u x = rw (eq-eqb (length (c .fenceBytes)) (length (c .fenceMins)) e) (sym (x .answer) ∙ u)
-
-  module _ {A : Type 0} (l : List A) (s : List ℕ) (h : length s ≤ 4294967295) where
-    -- building
-    module _ (flat : A → List ℕ) (w : ℕ) (lent : ListRuns) where
-      pub columns-differ : (length (c .fenceBytes) ≡ length (c .fenceMins) → ⊥) → BuiltAs flat w (unevenColumns c) l s lent lent 6
-      columns-differ d = build-bad flat w (unevenColumns c) l s lent h (fences-differ d)
-
-      pub columns-uneven : (b : Bool) → b ≡ true → Gives (uneven (c .inline)) b → BuiltAs flat w (unevenColumns c) l s lent lent 6
-      columns-uneven b e u = build-bad flat w (unevenColumns c) l s lent h (inline-uneven b e u)
-
-      pub columns-built : (b : Bool) (after : ListRuns) (r : ℕ) → length (c .fenceBytes) ≡ length (c .fenceMins) → b ≡ false → Gives (uneven (c .inline)) b → PouredAs flat w l lent after r → BuiltAs flat w (unevenColumns c) l s lent after r
-      columns-built b after r e u x v = build-good flat w (unevenColumns c) l s lent after r h (all-even b e u x) v
-
-    -- counting
-    module _ (run : List ℕ) where
-      pub counted-differ : (length (c .fenceBytes) ≡ length (c .fenceMins) → ⊥) → CountedAs (unevenColumns c) l s run run 6
-      counted-differ d = count-bad (unevenColumns c) l s run h (fences-differ d)
-
-      pub counted-uneven : (b : Bool) → b ≡ true → Gives (uneven (c .inline)) b → CountedAs (unevenColumns c) l s run run 6
-      counted-uneven b e u = count-bad (unevenColumns c) l s run h (inline-uneven b e u)
-
-      pub counted-even : (b : Bool) (run′ : List ℕ) (r : ℕ) → length (c .fenceBytes) ≡ length (c .fenceMins) → b ≡ false → Gives (uneven (c .inline)) b → Replied (given (length l ∷ [])) run run′ r → CountedAs (unevenColumns c) l s run run′ r
-      counted-even b run′ r e u x v = count-good (unevenColumns c) l s run run′ r h (all-even b e u x) v
-
--- by fence rules of two bytes each
+-- ---- by fence rules of two bytes each: b says whether an inline rule's columns are uneven
 module _ {A : Type 0} (flat : A → List ℕ) (w : ℕ) (c : RuleRuns) (l : List A) (s : List ℕ) (lent : ListRuns) where
+  bad-rules : length s ≤ 4294967295 → unevenRules c ≡ true → BuiltAs flat w (unevenRules c) l s lent lent 6
+  bad-rules h e = build-bad flat w (unevenRules c) l s lent (unevenRules c) h e (record { answer = refl })
+
   pub rules-odd : length s ≤ 4294967295 → (length (c .fenceRules) % 2 ≡ 0 → ⊥) → BuiltAs flat w (unevenRules c) l s lent lent 6
   unfolding unevenRules
-  rules-odd h d = build-bad flat w (unevenRules c) l s lent h (rw (ne-eqb (length (c .fenceRules) % 2) 0 d))
+  rules-odd h d = bad-rules h (rw (ne-eqb (length (c .fenceRules) % 2) 0 d))
 
   pub rules-uneven : (b : Bool) → length s ≤ 4294967295 → b ≡ true → Gives (uneven (c .inline)) b → BuiltAs flat w (unevenRules c) l s lent lent 6
   unfolding unevenRules
-  rules-uneven b h e u = build-bad flat w (unevenRules c) l s lent h (or-right (not (eqb (length (c .fenceRules) % 2) 0)) (uneven (c .inline)) (sym (u .answer) ∙ e))
+  rules-uneven b h e u = bad-rules h (or-right (not (eqb (length (c .fenceRules) % 2) 0)) (uneven (c .inline)) (sym (u .answer) ∙ e))
 
   pub rules-built : (b : Bool) (after : ListRuns) (r : ℕ) → length s ≤ 4294967295 → length (c .fenceRules) % 2 ≡ 0 → b ≡ false → Gives (uneven (c .inline)) b → PouredAs flat w l lent after r → BuiltAs flat w (unevenRules c) l s lent after r
   unfolding unevenRules
-  rules-built b after r h e u x v = build-good flat w (unevenRules c) l s lent after r h (rw (eq-eqb (length (c .fenceRules) % 2) 0 e) (sym (x .answer) ∙ u)) v
+  rules-built b after r h e u x v =
+      build-good flat w (unevenRules c) l s lent (unevenRules c) after r h (rw (eq-eqb (length (c .fenceRules) % 2) 0 e) (sym (x .answer) ∙ u)) (record { answer = refl }) v

@@ -1,4 +1,4 @@
--- Laws of rules read from byte runs: the ways out of the tests, the counts' table, and the fence rules gathered. Assumes nothing.
+-- Laws of rules read from byte runs: the ways out of the tests, the counts' table, the fence rules gathered, and the grammar that columns make. Assumes nothing.
 use mathlib.Core.Path.{_≡_, sym, _∙_}
 use mathlib.Core.Bool.{Bool, true, false}
 use mathlib.Core.List.{List, []}
@@ -12,11 +12,17 @@ use Rattle.search.specs.Promise.{Gives}
 use Rattle.search.specs.SearchLaws.{decide}
 use Rattle.common.specs.Entry.{rows}
 use Rattle.common.specs.EntryLaws.{rows-at, length-rows}
+use Rattle.common.specs.declared.grammar.Grammar.{Grammar}
+use Rattle.lines.specs.Fences.{fenceTable}
+use Rattle.rules.specs.Columns.{alphabetOf, gramOf}
+use Rattle.rules.specs.Rows.{gramBy, Folded}
+use Rattle.rules.specs.RowLaws.{gram-same}
+use Rattle.rules.specs.declared.search_bytes.Alphabet.{Alphabet}
 use Rattle.rules.specs.Records.{noRule, OneMore, AllGathered}
 use Rattle.rules.specs.RecordLaws.{Gathering, gather-again, gather-all}
 use Rattle.rules.specs.declared.records.Gathered.{Gathered}
-use Rattle.cells.specs.Bytes.{fourfold}
-use Rattle.cells.specs.ByteRules.{InlineRuns, uneven, fenceRuleOf, fenceRulesOf}
+use Rattle.cells.specs.Bytes.{cells, fourfold}
+use Rattle.cells.specs.ByteRules.{InlineRuns, ColumnRuns, uneven, unevenColumns, inlineIn, columnsIn, fenceRuleOf, fenceRulesOf}
 
 -- ---- four bytes for each number
 module _ (len count : ℕ) where
@@ -72,3 +78,21 @@ module _ (f : Gathered) (l : List ℕ) (i : ℕ) (so-far : Gathering (fenceRules
 
   pub rules-all : length l / 2 ≤ i → AllGathered (fenceRulesOf l) f
   rules-all h = gather-all f (fenceRulesOf l) i so-far (omega (arith, length-rules l))
+
+-- ---- whether any column differs
+module _ (c : ColumnRuns) where
+  pub fences-differ : (length (c .fenceBytes) ≡ length (c .fenceMins) → ⊥) → true ≡ unevenColumns c
+  unfolding unevenColumns
+  fences-differ h = rw (ne-eqb (length (c .fenceBytes)) (length (c .fenceMins)) h)
+
+  pub inline-differs : (b : Bool) → length (c .fenceBytes) ≡ length (c .fenceMins) → Gives (uneven (c .inline)) b → b ≡ unevenColumns c
+  unfolding unevenColumns
+  inline-differs b h g = rw (eq-eqb (length (c .fenceBytes)) (length (c .fenceMins)) h) (g .answer)
+
+-- ---- the grammar of columns, folded into tables
+pub gram-folded : (g : Grammar) (c : ColumnRuns) (a : Alphabet) (fences : List ℕ) (rules : List (List ℕ)) → Gives (alphabetOf g (c .fenceBytes) (c .inline .symBytes) (c .inline .openers)) a
+    → Gives (fenceTable (c .fenceBytes) (c .fenceMins)) fences → Folded (c .fenceBytes) (inlineIn (c .inline)) rules → gramBy a fences rules ≡ gramOf g (columnsIn c)
+unfolding columnsIn
+gram-folded g c a fences rules ha hf hr =
+    let i = c .inline in
+    gram-same (c .fenceBytes) (i .symBytes) (cells (i .symCounts)) (i .openers) (i .closers) (cells (i .openCounts)) rules hr g (c .fenceMins) a fences ha hf

@@ -19,7 +19,7 @@ ghost use Rattle.rules.specs.Columns.{inlineRules};
 ghost use Rattle.rules.specs.Rows.{OpenersLaid, RulesLaid, twin, Folded};
 ghost use Rattle.rules.specs.Records.{AllGathered};
 ghost use Rattle.cells.specs.Bytes.{cells};
-ghost use Rattle.cells.specs.ByteRules.{fenceRulesOf, uneven};
+ghost use Rattle.cells.specs.ByteRules.{fenceRulesOf, uneven, unevenColumns};
 
 // Whether a run of `len` bytes is four for each of `count` numbers.
 fn is_fourfold(len: usize, count: usize) -> bool
@@ -59,6 +59,36 @@ pub fn is_uneven(
         return true;
     }
     true
+}
+
+// Whether a column of the fence rules or of the inline rules has another length than its byte column says.
+pub fn columns_differ(
+    fences: &[u8],
+    mins: &[u8],
+    symmetric: &[u8],
+    times: &[u8],
+    openers: &[u8],
+    closers: &[u8],
+    counts: &[u8],
+) -> bool
+    ensures { λ r. ⌜
+        Gives (unevenColumns (record {
+          fenceBytes = now (fences .entry);
+          fenceMins = now (mins .entry);
+          inline = record {
+            symBytes = now (symmetric .entry);
+            symCounts = now (times .entry);
+            openers = now (openers .entry);
+            closers = now (closers .entry);
+            openCounts = now (counts .entry);
+          };
+        })) r
+        ⌝ }
+{
+    if fences.len() != mins.len() {
+        return true;
+    }
+    is_uneven(symmetric, times, openers, closers, counts)
 }
 
 // The number in cell `i` of a count column.

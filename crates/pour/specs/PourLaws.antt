@@ -16,13 +16,12 @@ use Rattle.region.specs.Region.{Caused}
 use Rattle.rules.specs.Grammar.{Gram}
 use Rattle.region.specs.Regions.{regions, builtBy}
 use Rattle.common.specs.Lists.{RowPut}
-use Rattle.rules.specs.Columns.{alphabetOf, gramOf}
+use Rattle.rules.specs.Columns.{alphabetOf}
 use Rattle.rules.specs.Rows.{gramBy, Folded}
 use Rattle.rules.specs.Records.{keptBytes, keptMins, AllGathered}
 use Rattle.rules.specs.RecordLaws.{take-front}
 use Rattle.region.specs.Ahead.{regions-few}
 use Rattle.region.specs.IndexLaws.{gathered-count, gathered-flat}
-use Rattle.rules.specs.RowLaws.{gram-same}
 use Rattle.rules.specs.declared.search_bytes.Alphabet.{Alphabet}
 use Rattle.rules.specs.declared.records.Gathered.{Gathered}
 use Rattle.cells.specs.Bytes.{four, cells, rowBytes}
@@ -30,6 +29,7 @@ use Rattle.cells.specs.Reply.{LaidIf, Replied, fitted}
 use Rattle.cells.specs.Poured.{ListRuns, PouredAs}
 use Rattle.pour.specs.Building.{regionBytes, PouredBy}
 use Rattle.cells.specs.ByteRules.{inlineIn, InlineRuns, ColumnRuns, RuleRuns, columnsIn, fenceRulesOf, ruleColumnsIn}
+use Rattle.cells.specs.RuleLaws.{gram-folded}
 use Rattle.cells.specs.ReplyLaws.{laid-there}
 
 -- a region in a row of `rowBytes`
@@ -47,13 +47,6 @@ pub fits-counted : (g : Gram) (s : List ℕ) (len most k : ℕ) → Gives (len /
 fits-counted g s len most k room c = rw (c .answer, room .answer)
 
 -- ---- by the rules, folded
-gram-folded : (g : Grammar) (c : ColumnRuns) (a : Alphabet) (fences : List ℕ) (rows : List (List ℕ)) → Gives (alphabetOf g (c .fenceBytes) (c .inline .symBytes) (c .inline .openers)) a
-    → Gives (fenceTable (c .fenceBytes) (c .fenceMins)) fences → Folded (c .fenceBytes) (inlineIn (c .inline)) rows → gramBy a fences rows ≡ gramOf g (columnsIn c)
-unfolding columnsIn
-gram-folded g c a fences rows ha hf hr =
-    let i = c .inline in
-    gram-same (c .fenceBytes) (i .symBytes) (cells (i .symCounts)) (i .openers) (i .closers) (cells (i .openCounts)) rows hr g (c .fenceMins) a fences ha hf
-
 pub poured-columns : (g : Grammar) (c : ColumnRuns) (s : List ℕ) (before after : ListRuns) (a : Alphabet) (fences : List ℕ) (rows : List (List ℕ)) (r : ℕ) → Gives (alphabetOf g (c .fenceBytes) (c .inline .symBytes) (c .inline .openers)) a
     → Gives (fenceTable (c .fenceBytes) (c .fenceMins)) fences → Folded (c .fenceBytes) (inlineIn (c .inline)) rows
     → PouredAs regionBytes rowBytes (regions (gramBy a fences rows) s) before after r → PouredBy g (columnsIn c) s before after r

@@ -1,6 +1,7 @@
 // Building into a list in bytes: region k has its start at byte 8k and its exclusive end at byte 8k + 4. The answer is how many there
 // are.
 use crate::pouring::pour;
+use cells::columns::columns_differ;
 use cells::columns::gather_rules;
 use cells::columns::is_uneven;
 use cells::columns::rule_rows;
@@ -185,10 +186,7 @@ pub fn build_columns(
     if text.len() > MAX_INPUT_LEN {
         return 1;
     }
-    if fences.len() != mins.len() {
-        return 6;
-    }
-    if is_uneven(symmetric, times, openers, closers, counts) {
+    if columns_differ(fences, mins, symmetric, times, openers, closers, counts) {
         return 6;
     }
     let g = Grammar {

@@ -1,5 +1,5 @@
 // How many regions building would write, whatever the room: a host that was refused with 3 learns what it needs.
-use cells::columns::is_uneven;
+use cells::columns::columns_differ;
 use cells::columns::rule_rows;
 use cells::reply;
 use common::grammar::Grammar;
@@ -86,10 +86,7 @@ pub fn count_columns(
     if text.len() > MAX_INPUT_LEN {
         return 1;
     }
-    if fences.len() != mins.len() {
-        return 6;
-    }
-    if is_uneven(symmetric, times, openers, closers, counts) {
+    if columns_differ(fences, mins, symmetric, times, openers, closers, counts) {
         return 6;
     }
     let g = Grammar {

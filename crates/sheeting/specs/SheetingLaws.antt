@@ -17,9 +17,8 @@ use Rattle.common.specs.declared.grammar.Grammar.{Grammar}
 use Rattle.rules.specs.Grammar.{Gram}
 use Rattle.region.specs.Regions.{regions, builtBy}
 use Rattle.lines.specs.Fences.{fenceTable}
-use Rattle.rules.specs.Columns.{alphabetOf, gramOf}
+use Rattle.rules.specs.Columns.{alphabetOf}
 use Rattle.rules.specs.Rows.{gramBy, Folded}
-use Rattle.rules.specs.RowLaws.{gram-same}
 use Rattle.region.specs.LoopLaws.{row-wide}
 use Rattle.region.specs.MemoryLaws.{sound-zeros}
 use Rattle.cover.specs.Cursor.{covers}
@@ -40,6 +39,7 @@ use Rattle.cells.specs.Reply.{LaidIf, Replied}
 use Rattle.cells.specs.ReplyLaws.{laid-there}
 use Rattle.cells.specs.Poured.{ListRuns}
 use Rattle.cells.specs.ByteRules.{ColumnRuns, inlineIn, columnsIn}
+use Rattle.cells.specs.RuleLaws.{gram-folded}
 use Rattle.cells.specs.PouredLaws.{pour-full, pour-done}
 use Rattle.sheeting.specs.Hiding.{HidesFrom, PassedOn}
 use Rattle.sheeting.specs.HidingLaws.{hides-first, hides-later}
@@ -140,11 +140,8 @@ module _ (g : Grammar) (c : ColumnRuns) (mb db s : List ℕ) (markers delims : L
     (ha : Gives (alphabetOf g (c .fenceBytes) (c .inline .symBytes) (c .inline .openers)) a) (hf : Gives (fenceTable (c .fenceBytes) (c .fenceMins)) fences)
     (hr : Folded (c .fenceBytes) (inlineIn (c .inline)) rules) (hm : Gives (setOf mb) markers) (hd : Gives (setOf db) delims) where
   sheet-same : sheetWith (a .grammar) markers delims (regions (gramBy a fences rules) s) s ≡ sheetWith g (setOf mb) (setOf db) (builtBy g (columnsIn c) s) s
-  unfolding columnsIn
   sheet-same =
-      let i = c .inline in
-      let z : gramBy a fences rules ≡ gramOf g (columnsIn c) = gram-same (c .fenceBytes) (i .symBytes) (cells (i .symCounts)) (i .openers) (i .closers) (cells (i .openCounts)) rules hr g (c .fenceMins) a fences ha hf in
-      ap (λ (x : Alphabet). sheetWith (x .grammar) markers delims (regions (gramBy a fences rules) s) s) (ha .answer) ∙ ap (λ (x : Gram). sheetWith g markers delims (regions x s) s) z
+      ap (λ (x : Alphabet). sheetWith (x .grammar) markers delims (regions (gramBy a fences rules) s) s) (ha .answer) ∙ ap (λ (x : Gram). sheetWith g markers delims (regions x s) s) (gram-folded g c a fences rules ha hf hr)
       ∙ ap (λ (x : List Bool). sheetWith g x delims (builtBy g (columnsIn c) s) s) (hm .answer) ∙ ap (λ (x : List Bool). sheetWith g (setOf mb) x (builtBy g (columnsIn c) s) s) (hd .answer)
 
   pub sheet-folded : (before after : ListRuns) (r : ℕ) → SheetPoured (sheetWith (a .grammar) markers delims (regions (gramBy a fences rules) s) s) before after r

@@ -2,7 +2,7 @@
 use crate::Sieve;
 use crate::count_items;
 use crate::hiding::Hider;
-use cells::columns::is_uneven;
+use cells::columns::columns_differ;
 use cells::columns::rule_rows;
 use cells::reply;
 use common::grammar::Grammar;
@@ -128,10 +128,7 @@ pub fn count_columns(
     if text.len() > MAX_INPUT_LEN {
         return 1;
     }
-    if fences.len() != mins.len() {
-        return 6;
-    }
-    if is_uneven(symmetric, times, openers, closers, counts) {
+    if columns_differ(fences, mins, symmetric, times, openers, closers, counts) {
         return 6;
     }
     let g = Grammar {

@@ -3,7 +3,7 @@
 pub mod counting; // how many items there are
 mod hiding; // what regions hide, as they come
 
-use cells::columns::is_uneven;
+use cells::columns::columns_differ;
 use cells::columns::rule_rows;
 use cells::reply;
 use cells::reply::put_numbers;
@@ -363,10 +363,7 @@ pub fn sheet_columns(
     if text.len() > MAX_INPUT_LEN {
         return 1;
     }
-    if fences.len() != mins.len() {
-        return 6;
-    }
-    if is_uneven(symmetric, times, openers, closers, counts) {
+    if columns_differ(fences, mins, symmetric, times, openers, closers, counts) {
         return 6;
     }
     let g = Grammar {

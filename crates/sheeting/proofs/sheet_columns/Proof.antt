@@ -1,20 +1,17 @@
 -- `sheet_columns` meets its contract. Assumes nothing.
 use borrow.Author.Needs.{needs}
-use Rattle.cells.specs.PouredLaws.{build-long, columns-differ, columns-uneven, columns-built}
+use Rattle.cells.specs.PouredLaws.{build-long, build-bad, build-good}
 use Rattle.sheeting.proofs.sheet_columns.Statement.{statement}
 use Rattle.sheeting.proofs.sheet_columns.Tie as tie
 
 returns : tie.Need-returns
 returns c = search build-long
 
+columns-differ-requires : tie.Need-columns-differ-requires
+columns-differ-requires c κs = search needs
+
 returns-2 : tie.Need-returns-2
-returns-2 c = search columns-differ
-
-is-uneven-requires : tie.Need-is-uneven-requires
-is-uneven-requires c κs = search needs
-
-returns-3 : tie.Need-returns-3
-returns-3 c = search columns-uneven
+returns-2 c = search build-bad
 
 by-columns-requires : tie.Need-by-columns-requires
 by-columns-requires c κs = search needs
@@ -25,18 +22,17 @@ same-length c = search needs
 same-length-2 : tie.Need-same-length-2
 same-length-2 c = search needs
 
-returns-4 : tie.Need-returns-4
-returns-4 c = search columns-built
+returns-3 : tie.Need-returns-3
+returns-3 c = search build-good
 
 pub sheet-columns-spec : {M : Type 1} → statement M
 sheet-columns-spec =
     tie.close
     (tie.spec
     returns
+    columns-differ-requires
     returns-2
-    is-uneven-requires
-    returns-3
     by-columns-requires
     same-length
     same-length-2
-    returns-4)
+    returns-3)

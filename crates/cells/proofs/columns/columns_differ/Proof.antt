@@ -1,8 +1,8 @@
 -- `columns_differ` meets its contract. Assumes nothing.
 use borrow.Author.Needs.{needs}
-use Rattle.amending.specs.AmendingLaws.{fences-differ, inline-differs}
-use Rattle.amending.proofs.columns_differ.Statement.{statement}
-use Rattle.amending.proofs.columns_differ.Tie as tie
+use Rattle.cells.specs.RuleLaws.{fences-differ, inline-differs}
+use Rattle.cells.proofs.columns.columns_differ.Statement.{statement}
+use Rattle.cells.proofs.columns.columns_differ.Tie as tie
 
 returns : tie.Need-returns
 returns c = search fences-differ
