@@ -24,7 +24,7 @@ use Rattle.context.specs.Build.{builtAnswer, builtList, Built}
 use Rattle.region.specs.Ahead.{regions-few, regions-shaped}
 use Rattle.cover.specs.Shape.{misshapen}
 use Rattle.feed.specs.Items.{markItems, numberedItems, merge}
-use Rattle.sheet.specs.Sheet.{five, sheetOf, sheetAnswer, sheetList, Sheeted}
+use Rattle.sheet.specs.Sheet.{five, sheetOf, sheetJudged, sheetAnswer, sheetList, Sheeted}
 use Rattle.sheet.specs.SheetLaws.{five-numbers}
 use Rattle.sheet.specs.RunLaws.{items-few, outside-few}
 use Rattle.common.specs.Sets.{houseMarkers, houseDelims}
@@ -91,7 +91,7 @@ few-shown s =
 module _ (s list items items′ : List ℕ) (markers delims : List Bool) (count : ℕ) (g : Grammar) (a : Answer) (e : Gives house g) (em : markers ≡ houseMarkers) (ed : delims ≡ houseDelims) (h : length s ≤ 8192)
     (held : RegionsIn s list count) (space : length items ≡ 40965) (w : Sheeted g markers delims list count s items items′ (told a)) where
   sheeted-is : (told a ≡ given (length (houseSheet s) ∷ [])) × (items′ ≡ over (flatten five (houseSheet s)) items)
-  unfolding sheetAnswer sheetList
+  unfolding sheetJudged sheetAnswer sheetList
   sheeted-is =
       let short = le-ltb 4294967295 (length s) (omega arith) in
       let roomy = le-ltb (length items / 5) (length (houseSheet s)) (omega (arith, few-shown s)) in

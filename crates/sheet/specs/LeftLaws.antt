@@ -1,11 +1,13 @@
 -- Laws of the items that are left to show, whatever the regions come from: what a turn tells of them, and the loops that count and write them. Assumes nothing.
-use mathlib.Core.Path.{_≡_, ap, subst, _∙_}
+use mathlib.Core.Path.{_≡_, sym, ap, subst, _∙_}
 use mathlib.Core.Bool.{Bool, true, false}
 use mathlib.Core.List.{List, [], _∷_, map}
-use Prim.Native.Nat.{ℕ, suc, _+_, _*_, _≤_, _<_}
+use Prim.Native.Nat.{ℕ, suc, _+_, _*_, _/_, _≤_, _<_}
 use native.Mathlib.Nat.{zero-mul, suc-mul}
 use native.Mathlib.Omega.{arith}
+use lib.Dec.{leb}
 use lib.ListN.{length, length-append}
+use borrow.Author.Tests.{le-leb}
 use Rattle.search.specs.Promise.{Gives}
 use Rattle.common.specs.Entry.{flatten, room, over, putAt}
 use Rattle.common.specs.EntryLaws.{Written, length-flatten, room-fits, written-none, written-room, written-put, written-all}
@@ -43,11 +45,18 @@ started-onward g markers delims s f w = record {
   few = omega (arith, ap length (w .same), items-few g markers delims s);
 }
 
+pub fits-counted : (l : List SheetItem) (len width most k : ℕ) → Gives (len / width) most → Gives (length l) k → leb k most ≡ leb (length l) (len / width)
+fits-counted l len width most k space c = rw (c .answer, space .answer)
+
 -- ---- a turn
 module _ (markers delims : List Bool) (s : List ℕ) (regions : List (List ℕ)) (low : ℕ) (f : Feed) (r : Onward markers delims s low f) where
   pub left-few : length (left markers delims s regions f) ≤ length s
   unfolding left
   left-few = omega (arith, r .few, outside-few regions (ahead markers delims s f))
+
+  -- the ways out of the question whether `len` places are enough, where an item takes `width`
+  pub fits-roomy : (len width most : ℕ) → length s ≤ most → Gives (len / width) most → true ≡ leb (length (left markers delims s regions f)) (len / width)
+  fits-roomy len width most h space = sym (le-leb (length (left markers delims s regions f)) (len / width) (omega (arith, left-few, space .answer)))
 
   module _ (t : Taken) (d : Gives (taken markers delims s f) t) where
     took-it : Took markers delims s f t

@@ -36,17 +36,20 @@ outside regions (i ∷ l) = elim (inside regions (testedPlace i)) [ true ↦ out
 unfoldable pub sheetOf : Grammar → List Bool → List Bool → List ℕ → ℕ → List ℕ → List SheetItem
 sheetOf g markers delims l n s = outside (rows wide n l) (merge (markItems g markers s) (numberedItems g delims s))
 
--- "For a work sheet: 1, 5, 3."; "Its room is a fifth of the run, rounded down."
-unfoldable pub sheetAnswer : Grammar → List Bool → List Bool → List ℕ → ℕ → List ℕ → List ℕ → Outcome
-sheetAnswer g markers delims l n s out =
-    refuse 1 (tooLong s) (refuse 5 (misshapen l n (length s)) (filledAnswer 5 (sheetOf g markers delims l n s) out))
+-- "For a work sheet: 1, 5, 3.": the two that the text and the list decide, else what follows
+unfoldable pub sheetJudged : List ℕ → ℕ → List ℕ → Outcome → Outcome
+sheetJudged l n s o = refuse 1 (tooLong s) (refuse 5 (misshapen l n (length s)) o)
+
+-- and the last, of items that are w places wide: in a run of numbers "its room is a fifth of the run, rounded down"
+unfoldable pub sheetAnswer : ℕ → Grammar → List Bool → List Bool → List ℕ → ℕ → List ℕ → List ℕ → Outcome
+sheetAnswer w g markers delims l n s out = sheetJudged l n s (filledAnswer w (sheetOf g markers delims l n s) out)
 
 -- the run that is left; a refusal changes nothing
 unfoldable pub sheetList : Grammar → List Bool → List Bool → List ℕ → ℕ → List ℕ → List ℕ → List ℕ
 sheetList g markers delims l n s out =
-    filledBy (sheetAnswer g markers delims l n s out) (flatten five (sheetOf g markers delims l n s)) out
+    filledBy (sheetAnswer 5 g markers delims l n s out) (flatten five (sheetOf g markers delims l n s)) out
 
 -- the promise of a work sheet: its answer, and the run that it leaves
 pub record Sheeted (g : Grammar) (markers delims : List Bool) (l : List ℕ) (n : ℕ) (s out out′ : List ℕ) (o : Outcome) : Type 0 where
-  pub answer : o ≡ sheetAnswer g markers delims l n s out
+  pub answer : o ≡ sheetAnswer 5 g markers delims l n s out
   pub list : out′ ≡ sheetList g markers delims l n s out

@@ -17,7 +17,7 @@ use Rattle.common.specs.declared.refusal.Answer.{Answer}
 use Rattle.common.specs.declared.grammar.Grammar.{Grammar}
 use Rattle.cover.specs.Shape.{misshapen}
 use Rattle.cover.specs.ShapeLaws.{shape-fits, shape-order}
-use Rattle.sheet.specs.Sheet.{five, outside, sheetOf, sheetAnswer, sheetList, Sheeted}
+use Rattle.sheet.specs.Sheet.{five, outside, sheetOf, sheetJudged, sheetAnswer, sheetList, Sheeted}
 use Rattle.feed.specs.Feeds.{freshFeed}
 use Rattle.feed.specs.FeedLaws.{Started, started}
 use Rattle.sheet.specs.Parts.{left, Ready}
@@ -37,7 +37,8 @@ module _ (g : Grammar) (markers delims : List Bool) (l : List ℕ) (n : ℕ) (s 
   w : Started g markers delims s a
   w = started g markers delims s a short d
 
-  started-left : left markers delims s (rows wide n l) a ≡ sheetOf g markers delims l n s
+  -- all items are left
+  pub started-left : left markers delims s (rows wide n l) a ≡ sheetOf g markers delims l n s
   unfolding left sheetOf
   started-left = ap (outside (rows wide n l)) (w .same)
 
@@ -70,23 +71,35 @@ module _ (g : Grammar) (markers delims : List Bool) (l : List ℕ) (n : ℕ) (s 
     pub fill-counted : (out′ : List ℕ) (j k : ℕ) → j ≤ most → Gives (length (left markers delims s (rows wide n l) a)) j → Wrote five (left markers delims s (rows wide n l) a) out out′ k → Filled five 5 (sheetOf g markers delims l n s) out out′ (given (k ∷ []))
     fill-counted out′ j k h c v = left-filled out′ _ (list.fill-counted five 5 _ out most hm j out′ k h c v)
 
+-- ---- the refusals that the text and the list decide
+module _ (l : List ℕ) (n : ℕ) (s : List ℕ) (o : Outcome) where
+  pub judged-long : 4294967295 < length s → sheetJudged l n s o ≡ refused 1
+  unfolding sheetJudged
+  judged-long h = simp (lt-ltb 4294967295 (length s) h)
+
+  module _ (short : length s ≤ 4294967295) (y : Bool) where
+    pub judged-misshapen : y ≡ true → Gives (misshapen l n (length s)) y → sheetJudged l n s o ≡ refused 5
+    unfolding sheetJudged
+    judged-misshapen e m = simp (le-ltb 4294967295 (length s) short, ← (m .answer), e)
+
+    pub judged-on : y ≡ false → Gives (misshapen l n (length s)) y → sheetJudged l n s o ≡ o
+    unfolding sheetJudged
+    judged-on e m = simp (le-ltb 4294967295 (length s) short, ← (m .answer), e)
+
 -- ---- the ways out of the entry
 module _ (g : Grammar) (markers delims : List Bool) (l : List ℕ) (n : ℕ) (s out : List ℕ) where
   pub sheet-long : 4294967295 < length s → Sheeted g markers delims l n s out out (refused 1)
   unfolding sheetAnswer sheetList
-  sheet-long h = record { answer = simp (lt-ltb 4294967295 (length s) h); list = simp (lt-ltb 4294967295 (length s) h) }
+  sheet-long h = record { answer = sym (judged-long l n s _ h); list = rw (judged-long l n s _ h) }
 
   module _ (short : length s ≤ 4294967295) (y : Bool) where
     pub sheet-misshapen : y ≡ true → Gives (misshapen l n (length s)) y → Sheeted g markers delims l n s out out (refused 5)
     unfolding sheetAnswer sheetList
-    sheet-misshapen e m = record { answer = simp (le-ltb 4294967295 (length s) short, ← (m .answer), e); list = simp (le-ltb 4294967295 (length s) short, ← (m .answer), e) }
+    sheet-misshapen e m = record { answer = sym (judged-misshapen l n s _ short y e m); list = rw (judged-misshapen l n s _ short y e m) }
 
     pub sheet-filled : (out′ : List ℕ) (o : Outcome) → y ≡ false → Gives (misshapen l n (length s)) y → Filled five 5 (sheetOf g markers delims l n s) out out′ o → Sheeted g markers delims l n s out out′ o
     unfolding sheetAnswer sheetList
-    sheet-filled out′ o e m v = record {
-      answer = v .answer ∙ simp (le-ltb 4294967295 (length s) short, ← (m .answer), e);
-      list = v .list ∙ simp (le-ltb 4294967295 (length s) short, ← (m .answer), e);
-    }
+    sheet-filled out′ o e m v = record { answer = v .answer ∙ sym (judged-on l n s _ short y e m); list = v .list ∙ rw (judged-on l n s _ short y e m) }
 
 pub shape-told : (l : List ℕ) (n len : ℕ) (y : Bool) → y ≡ false → Gives (misshapen l n len) y → misshapen l n len ≡ false
 shape-told l n len y e m = sym (m .answer) ∙ e
@@ -95,4 +108,4 @@ shape-told l n len y e m = sym (m .answer) ∙ e
 pub sheet-unique : {g : Grammar} {markers delims : List Bool} {l : List ℕ} {n : ℕ} {s out out′ out″ : List ℕ} {r r′ : Answer} → Sheeted g markers delims l n s out out′ (told r) → Sheeted g markers delims l n s out out″ (told r′)
     → (r ≡ r′) × (out′ ≡ out″)
 sheet-unique {g = g} {markers = markers} {delims = delims} {l = l} {n = n} {s = s} {out = out} a b =
-    (answer-unique {o = sheetAnswer g markers delims l n s out} (record { answer = a .answer }) (record { answer = b .answer }), a .list ∙ sym (b .list))
+    (answer-unique {o = sheetAnswer 5 g markers delims l n s out} (record { answer = a .answer }) (record { answer = b .answer }), a .list ∙ sym (b .list))

@@ -32,25 +32,25 @@ ghost use Rattle.sheet.specs.Sheet.{five, sheetOf, Sheeted};
 ghost use Rattle.sheet.specs.Parts.{isAt, SortedRows, Hid, left, Ready, TurnedBy};
 
 // Whether an item is hidden, and the cursor's next index.
-struct Query {
-    hidden: bool,
-    index: usize,
+pub struct Query {
+    pub hidden: bool,
+    pub index: usize,
 }
 
 // Both scanners, and the cursor's index in the list.
-struct Walk {
-    feed: Feed,
-    index: usize,
+pub struct Walk {
+    pub feed: Feed,
+    pub index: usize,
 }
 
 // What a turn tells, and what comes after the item.
-struct SheetStep {
-    seen: Seen,
-    rest: Walk,
+pub struct SheetStep {
+    pub seen: Seen,
+    pub rest: Walk,
 }
 
 // Whether a query found a region.
-fn is_at(found: Found) -> bool
+pub fn is_at(found: Found) -> bool
     ensures { λ r. ⌜ Gives (isAt found) r ⌝ }
 {
     match found {

@@ -1,11 +1,13 @@
 -- What the work sheet of a text by its rules answers and writes. Assumes nothing.
 -- The page: "It holds the marker and numbered items, both scanned from place 0", without those whose tested byte (request 2) is inside one of
 -- the regions of the text's own rules.
-use mathlib.Core.Bool.{Bool}
+use mathlib.Core.Path.{_≡_}
+use mathlib.Core.Bool.{Bool, cond}
 use mathlib.Core.List.{List, map}
-use Prim.Native.Nat.{ℕ}
+use Prim.Native.Nat.{ℕ, _+_, _*_}
+use lib.Dec.{ltb}
 use lib.ListN.{length}
-use Rattle.common.specs.Entry.{flatten}
+use Rattle.common.specs.Entry.{flatten, room, putAt}
 use Rattle.common.specs.Sets.{setOf}
 use Rattle.common.specs.declared.grammar.Grammar.{Grammar}
 use Rattle.region.specs.Region.{Caused, rowOf}
@@ -25,6 +27,11 @@ use Rattle.sheeting.specs.declared.Sieved.{Sieved}
 -- "An item is five numbers", here of four bytes each
 abbrev pub itemBytes : SheetItem → List ℕ
 itemBytes i = flatten four (five i)
+
+-- item n written as row n of a list where there is room for it, and the next item's number; else nothing is changed, and it is n
+pub record ItemPut (i : SheetItem) (n : ℕ) (out out′ : List ℕ) (r : ℕ) : Type 0 where
+  pub next : r ≡ cond (ltb n (room 20 out)) (n + 1) n
+  pub list : out′ ≡ cond (ltb n (room 20 out)) (putAt (n * 20) (itemBytes i) out) out
 
 -- "The work sheet takes a text, the grammar bytes, the marker and delimiter sets and a list": the list as building writes it, region by region
 abbrev pub sheetWith : Grammar → List Bool → List Bool → List Caused → List ℕ → List SheetItem

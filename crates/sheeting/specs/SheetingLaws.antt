@@ -4,14 +4,14 @@ use mathlib.Core.Bool.{Bool, true, false}
 use mathlib.Core.List.{List, [], _∷_, map, append-nil}
 use Prim.Native.Nat.{ℕ, _+_, _*_, _/_, _≤_, _<_}
 use native.Mathlib.Omega.{arith}
-use lib.Dec.{leb}
+use lib.Dec.{ltb, leb}
 use lib.ListN.{length, replicate}
-use borrow.Author.Tests.{le-leb}
+use borrow.Author.Tests.{lt-ltb, le-ltb}
 use Rattle.search.specs.Promise.{Gives}
 use Rattle.common.specs.Refusals.{given}
 use Rattle.common.specs.Entry.{flatten, rows, wide}
 use Rattle.common.specs.EntryLaws.{rows-flatten}
-use Rattle.common.specs.Lists.{RowPut, Wrote}
+use Rattle.common.specs.Lists.{Wrote}
 use Rattle.common.specs.Sets.{setOf}
 use Rattle.common.specs.declared.grammar.Grammar.{Grammar}
 use Rattle.rules.specs.Grammar.{Gram}
@@ -27,9 +27,10 @@ use Rattle.feed.specs.Items.{testedPlace}
 use Rattle.sheet.specs.Sheet.{five, inside, outside, sheetOf}
 use Rattle.feed.specs.Feeds.{freshFeed, taken}
 use Rattle.feed.specs.FeedLaws.{Started, started}
-use Rattle.sheet.specs.Parts.{left}
-use Rattle.sheet.specs.LeftLaws.{started-onward, left-few, item-later, item-onward, left-end, left-hidden, left-shown}
+use Rattle.sheet.specs.Parts.{left, Turned}
+use Rattle.sheet.specs.LeftLaws.{started-onward, item-later, item-onward, left-end, left-hidden, left-shown, Writing, write-room, write-shown}
 use Rattle.feed.specs.declared.item.SheetItem.{SheetItem}
+use Rattle.sheet.specs.declared.item.Seen.{Seen}
 use Rattle.sheet.specs.declared.item.Seen.the-variants as seen
 use Rattle.feed.specs.declared.Head.the-variants as head
 use Rattle.feed.specs.declared.Feed.{Feed}
@@ -43,7 +44,7 @@ use Rattle.cells.specs.RuleLaws.{gram-folded}
 use Rattle.cells.specs.PouredLaws.{pour-full, pour-done}
 use Rattle.sheeting.specs.Hiding.{HidesFrom, PassedOn}
 use Rattle.sheeting.specs.HidingLaws.{hides-first, hides-later}
-use Rattle.sheeting.specs.Sheeting.{itemBytes, sheetWith, SheetPoured, leftBy, SieveReady, ReadyBy, SieveTurned}
+use Rattle.sheeting.specs.Sheeting.{itemBytes, ItemPut, sheetWith, SheetPoured, leftBy, SieveReady, ReadyBy, SieveTurned}
 use Rattle.sheeting.specs.declared.hiding.Hider.{Hider}
 use Rattle.sheeting.specs.declared.Sieve.{Sieve}
 use Rattle.sheeting.specs.declared.Sieved.{Sieved}
@@ -53,8 +54,29 @@ use Rattle.region.specs.Region.{rowOf}
 pub item-size : (i : SheetItem) → length (itemBytes i) ≡ 20
 item-size i = refl
 
-pub laid-item : (n : ℕ) (i : SheetItem) (out out′ : List ℕ) → n * 20 + 20 ≤ length out → LaidIf (n * 20) (flatten four (five i)) out out′ → RowPut (itemBytes i) n out out′ (n + 1)
-laid-item n i out out′ h w = record { next = refl; list = laid-there (n * 20) (itemBytes i) out out′ h w .list }
+-- the ways out of writing one; m is how many there is room for
+module _ (n : ℕ) (i : SheetItem) (out : List ℕ) (m : ℕ) where
+  pub put-none : m ≤ n → Gives (length out / 20) m → ItemPut i n out out n
+  put-none h g =
+      let t : ltb n (length out / 20) ≡ false = le-ltb n (length out / 20) (omega (arith, g .answer)) in
+      record { next = simp t; list = simp t }
+
+  pub put-there : (out′ : List ℕ) → n < m → Gives (length out / 20) m → LaidIf (n * 20) (flatten four (five i)) out out′ → ItemPut i n out out′ (n + 1)
+  put-there out′ h g d =
+      let t : ltb n (length out / 20) ≡ true = lt-ltb n (length out / 20) (omega (arith, g .answer)) in
+      record { next = simp t; list = laid-there (n * 20) (itemBytes i) out out′ (omega (arith, g .answer)) d .list ∙ simp t }
+
+-- two results for the same arguments are one
+pub put-unique : {i : SheetItem} {n : ℕ} {out out′ out″ : List ℕ} {r r′ : ℕ} → ItemPut i n out out′ r → ItemPut i n out out″ r′ → (r ≡ r′) × (out′ ≡ out″)
+put-unique a b = (a .next ∙ sym (b .next), a .list ∙ sym (b .list))
+
+-- item k of those to write stands behind the k that are written
+module _ {markers delims : List Bool} {s : List ℕ} {regions : List (List ℕ)} {all : List SheetItem} {out₀ out out′ : List ℕ} {f f′ : Feed} {k m : ℕ} {Goes : Type 0} {x : Seen} {i : SheetItem} where
+  pub write-item : x ≡ seen.Shown i → Turned markers delims s regions Goes f x f′ → Writing markers delims s regions itemBytes 20 all out₀ f out k → ItemPut i k out out′ m
+      → Writing markers delims s regions itemBytes 20 all out₀ f′ out′ m
+  write-item e w c d =
+      let t : ltb k (length out / 20) ≡ true = lt-ltb k (length out / 20) (omega (arith, write-room itemBytes 20 item-size e w c)) in
+      write-shown itemBytes 20 item-size e w c (record { next = d .next ∙ simp t; list = d .list ∙ simp t })
 
 -- ---- a turn
 module _ (g : Gram) (markers delims : List Bool) (s : List ℕ) (w : Sieve) (t : Taken) where
@@ -99,13 +121,6 @@ module _ (g : Gram) (markers delims : List Bool) (s : List ℕ) where
   -- the beginning, with a memory of zeros
   pub ready-first : (w : Sieve) → SieveReady g markers delims s w → ReadyBy g markers delims s (replicate 256 0) w
   ready-first w r = record { ready = r; sound = sound-zeros g s (w .hider .next) }
-
-  -- the ways out of the question whether `len` bytes are enough
-  pub fits-roomy : (w : Sieve) → SieveReady g markers delims s w → (len most : ℕ) → length s ≤ most → Gives (len / 20) most → true ≡ leb (length (leftBy g markers delims s w)) (len / 20)
-  fits-roomy w r len most h room = sym (le-leb (length (leftBy g markers delims s w)) (len / 20) (omega (arith, left-few markers delims s (map rowOf (regions g s)) (r .low) (w .feed) (r .onward), room .answer)))
-
-  pub fits-counted : (w : Sieve) (len most k : ℕ) → Gives (len / 20) most → Gives (length (leftBy g markers delims s w)) k → leb k most ≡ leb (length (leftBy g markers delims s w)) (len / 20)
-  fits-counted w len most k room c = rw (c .answer, room .answer)
 
 -- ---- the ways out of pouring a sheet
 module _ (g : Grammar) (z : Gram) (markers delims : List Bool) (s : List ℕ) (a : Feed) (short : length s ≤ 4294967295) (d : Gives (freshFeed g markers delims s) a) where

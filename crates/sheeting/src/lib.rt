@@ -23,16 +23,16 @@ use lines::fence_tests::fence_table;
 use rules::rows::Rows;
 use rules::search_bytes::Alphabet;
 use sheet::item::Seen;
-ghost use Prim.Native.Nat.{_+_, _*_, _/_, _≤_};
+ghost use Prim.Native.Nat.{_/_, _≤_};
 ghost use lib.Dec.{leb};
 ghost use lib.ListN.{length};
 ghost use Rattle.search.specs.Promise.{Gives};
 ghost use Rattle.common.specs.Sets.{setOf};
 ghost use Rattle.region.specs.Regions.{regions, builtBy};
-ghost use Rattle.common.specs.Lists.{RowPut, Wrote};
+ghost use Rattle.common.specs.Lists.{Wrote};
 ghost use Rattle.rules.specs.Rows.{gramBy};
 ghost use Rattle.cells.specs.ByteRules.{columnsIn};
-ghost use Rattle.sheeting.specs.Sheeting.{itemBytes, leftBy, SieveReady, ReadyBy, SieveTurned, sheetWith, SheetPoured, SheetBytes};
+ghost use Rattle.sheeting.specs.Sheeting.{itemBytes, ItemPut, leftBy, SieveReady, ReadyBy, SieveTurned, sheetWith, SheetPoured, SheetBytes};
 
 // Both scanners, and the region that may hide their next item.
 struct Sieve {
@@ -46,18 +46,23 @@ struct Sieved {
     rest: Sieve,
 }
 
+// How many bytes an item has in a list.
+const ITEM: usize = 20;
+
 // How many items a list of `len` bytes has room for.
-fn item_room(len: usize) -> usize
+pub fn item_room(len: usize) -> usize
     ensures { λ r. ⌜ Gives (len / 20) r ⌝ }
 {
-    len / 20
+    len / ITEM
 }
 
-// Writes item `n` to its twenty bytes, and answers the next item's number.
-fn put_item(out: &mut [u8], n: usize, item: SheetItem) -> usize
-    requires { ⌜ n * 20 + 20 ≤ length (now out) ⌝ }
-    ensures { λ r. ⌜ RowPut (itemBytes item) n (now (out .entry)) (now (out .exit)) r ⌝ }
+// Writes item `n` to its bytes where there is room for it, and answers the next item's number; else nothing, and answers `n`.
+pub fn put_item(out: &mut [u8], n: usize, item: SheetItem) -> usize
+    ensures { λ r. ⌜ ItemPut item n (now (out .entry)) (now (out .exit)) r ⌝ }
 {
+    if item_room(out.len()) <= n {
+        return n;
+    }
     let all = [
         item.start as usize,
         item.end as usize,
@@ -65,7 +70,7 @@ fn put_item(out: &mut [u8], n: usize, item: SheetItem) -> usize
         item.byte as usize,
         item.number as usize,
     ];
-    put_numbers(out, n * 20, &all);
+    put_numbers(out, n * ITEM, &all);
     n + 1
 }
 

@@ -1,6 +1,6 @@
 -- `fits` meets its contract. Assumes nothing.
 use borrow.Author.Needs.{needs}
-use Rattle.sheeting.specs.SheetingLaws.{fits-roomy, fits-counted}
+use Rattle.sheet.specs.LeftLaws.{fits-roomy, fits-counted}
 use Rattle.sheeting.proofs.fits.Statement.{statement}
 use Rattle.sheeting.proofs.fits.Tie as tie
 

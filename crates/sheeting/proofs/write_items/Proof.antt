@@ -6,9 +6,9 @@ use Rattle.rules.specs.Rows.{gramBy}
 use Rattle.feed.specs.Ahead.{ahead}
 use Rattle.region.specs.Region.{rowOf}
 use Rattle.region.specs.Regions.{regions}
-use Rattle.sheet.specs.LeftLaws.{Writing, write-first, write-count, write-list, write-hidden, write-room, write-shown, write-long, less-hidden, less-shown}
+use Rattle.sheet.specs.LeftLaws.{Writing, write-first, write-count, write-list, write-hidden, write-long, less-hidden, less-shown}
 use Rattle.sheeting.specs.Sheeting.{itemBytes, leftBy, ReadyBy}
-use Rattle.sheeting.specs.SheetingLaws.{item-size, ready-first, ready-hidden, ready-shown}
+use Rattle.sheeting.specs.SheetingLaws.{item-size, write-item, ready-first, ready-hidden, ready-shown}
 use Rattle.sheeting.proofs.write_items.Statement.{statement}
 use Rattle.sheeting.proofs.write_items.Tie as tie
 
@@ -48,13 +48,13 @@ enum-known-seen : tie.Need-enum-known-seen Inv-loop μ-loop
 enum-known-seen c = search needs
 
 put-item-requires : tie.Need-put-item-requires Inv-loop μ-loop
-put-item-requires c κs = search (write-room itemBytes 20 item-size)
+put-item-requires c κs = search needs
 
 loop-less-2 : tie.Need-loop-less-2 Inv-loop μ-loop
 loop-less-2 c = search less-shown
 
 loop-again-2 : tie.Need-loop-again-2 Inv-loop μ-loop
-loop-again-2 c = search (write-shown itemBytes 20 item-size, ready-shown)
+loop-again-2 c = search (write-item, ready-shown)
 
 pub write-items-spec : {M : Type 1} → statement M
 write-items-spec =
