@@ -45,18 +45,11 @@ started-onward g markers delims s f w = record {
   few = omega (arith, ap length (w .same), items-few g markers delims s);
 }
 
-pub fits-counted : (l : List SheetItem) (len width most k : ℕ) → Gives (len / width) most → Gives (length l) k → leb k most ≡ leb (length l) (len / width)
-fits-counted l len width most k space c = rw (c .answer, space .answer)
-
 -- ---- a turn
 module _ (markers delims : List Bool) (s : List ℕ) (regions : List (List ℕ)) (low : ℕ) (f : Feed) (r : Onward markers delims s low f) where
   pub left-few : length (left markers delims s regions f) ≤ length s
   unfolding left
   left-few = omega (arith, r .few, outside-few regions (ahead markers delims s f))
-
-  -- the ways out of the question whether `len` places are enough, where an item takes `width`
-  pub fits-roomy : (len width most : ℕ) → length s ≤ most → Gives (len / width) most → true ≡ leb (length (left markers delims s regions f)) (len / width)
-  fits-roomy len width most h space = sym (le-leb (length (left markers delims s regions f)) (len / width) (omega (arith, left-few, space .answer)))
 
   module _ (t : Taken) (d : Gives (taken markers delims s f) t) where
     took-it : Took markers delims s f t
@@ -93,6 +86,15 @@ module _ (markers delims : List Bool) (s : List ℕ) (regions : List (List ℕ))
         pub left-shown : inside regions (testedPlace i) ≡ false → Turned markers delims s regions Goes f (seen.Shown i) (t .rest)
         unfolding left
         left-shown h = record { same = ap (outside regions) next ∙ outside-shown regions i (ahead markers delims s (t .rest)) h; goes = (goes, fewer) }
+
+-- ---- the ways out of the question whether `len` places are enough, where an item takes `width`
+pub fits-roomy : (markers delims : List Bool) (s : List ℕ) (regions : List (List ℕ)) (low : ℕ) (f : Feed) → Onward markers delims s low f → (len width most : ℕ) → length s ≤ most → Gives (len / width) most
+    → true ≡ leb (length (left markers delims s regions f)) (len / width)
+fits-roomy markers delims s regions low f r len width most h space =
+    sym (le-leb (length (left markers delims s regions f)) (len / width) (omega (arith, left-few markers delims s regions low f r, space .answer)))
+
+pub fits-counted : (l : List SheetItem) (len width most k : ℕ) → Gives (len / width) most → Gives (length l) k → leb k most ≡ leb (length l) (len / width)
+fits-counted l len width most k space c = rw (c .answer, space .answer)
 
 -- ---- the loops: of all items that are shown, those of the scanners f are left
 module _ (markers delims : List Bool) (s : List ℕ) (regions : List (List ℕ)) where

@@ -40,7 +40,7 @@ sheetOf g markers delims l n s = outside (rows wide n l) (merge (markItems g mar
 unfoldable pub sheetJudged : List ℕ → ℕ → List ℕ → Outcome → Outcome
 sheetJudged l n s o = refuse 1 (tooLong s) (refuse 5 (misshapen l n (length s)) o)
 
--- and the last, of items that are w places wide: in a run of numbers "its room is a fifth of the run, rounded down"
+-- and the last, of items that are w places wide; of numbers it is 5: "Its room is a fifth of the run, rounded down."
 unfoldable pub sheetAnswer : ℕ → Grammar → List Bool → List Bool → List ℕ → ℕ → List ℕ → List ℕ → Outcome
 sheetAnswer w g markers delims l n s out = sheetJudged l n s (filledAnswer w (sheetOf g markers delims l n s) out)
 

@@ -56,8 +56,8 @@ item-size i = refl
 
 -- the ways out of writing one; m is how many there is room for
 module _ (n : ℕ) (i : SheetItem) (out : List ℕ) (m : ℕ) where
-  pub put-none : m ≤ n → Gives (length out / 20) m → ItemPut i n out out n
-  put-none h g =
+  pub put-past : m ≤ n → Gives (length out / 20) m → ItemPut i n out out n
+  put-past h g =
       let t : ltb n (length out / 20) ≡ false = le-ltb n (length out / 20) (omega (arith, g .answer)) in
       record { next = simp t; list = simp t }
 
@@ -67,8 +67,8 @@ module _ (n : ℕ) (i : SheetItem) (out : List ℕ) (m : ℕ) where
       record { next = simp t; list = laid-there (n * 20) (itemBytes i) out out′ (omega (arith, g .answer)) d .list ∙ simp t }
 
 -- two results for the same arguments are one
-pub put-unique : {i : SheetItem} {n : ℕ} {out out′ out″ : List ℕ} {r r′ : ℕ} → ItemPut i n out out′ r → ItemPut i n out out″ r′ → (r ≡ r′) × (out′ ≡ out″)
-put-unique a b = (a .next ∙ sym (b .next), a .list ∙ sym (b .list))
+pub item-unique : {i : SheetItem} {n : ℕ} {out out′ out″ : List ℕ} {r r′ : ℕ} → ItemPut i n out out′ r → ItemPut i n out out″ r′ → (r ≡ r′) × (out′ ≡ out″)
+item-unique a b = (a .next ∙ sym (b .next), a .list ∙ sym (b .list))
 
 -- item k of those to write stands behind the k that are written
 module _ {markers delims : List Bool} {s : List ℕ} {regions : List (List ℕ)} {all : List SheetItem} {out₀ out out′ : List ℕ} {f f′ : Feed} {k m : ℕ} {Goes : Type 0} {x : Seen} {i : SheetItem} where

@@ -1,6 +1,6 @@
 -- `put_item` meets its contract. Assumes nothing.
 use borrow.Author.Needs.{needs}
-use Rattle.sheeting.specs.SheetingLaws.{put-none, put-there}
+use Rattle.sheeting.specs.SheetingLaws.{put-past, put-there}
 use Rattle.sheeting.proofs.put_item.Statement.{statement}
 use Rattle.sheeting.proofs.put_item.Tie as tie
 
@@ -8,7 +8,7 @@ item-room-requires : tie.Need-item-room-requires
 item-room-requires c κs = search needs
 
 returns : tie.Need-returns
-returns c = search put-none
+returns c = search put-past
 
 cast-put-numbers : tie.Need-cast-put-numbers
 cast-put-numbers c = search needs
