@@ -1,2 +1,3 @@
 pub mod Listed
 pub mod ListedLaws
+pub mod BuiltLaws

@@ -1,12 +1,11 @@
 -- What the work sheet of a text by a region list in bytes answers and writes. Assumes nothing.
 -- The page: "The work sheet takes a text, the grammar bytes, the marker and delimiter sets and a list, but no rule columns." and "For a work
 -- sheet: 1, 5, 3."
-use mathlib.Core.Bool.{Bool}
 use mathlib.Core.List.{List, [], _∷_}
 use Prim.Native.Nat.{ℕ}
 use lib.ListN.{length}
 use Rattle.common.specs.Entry.{flatten}
-use Rattle.common.specs.Refusals.{Outcome, given}
+use Rattle.common.specs.Refusals.{given}
 use Rattle.common.specs.Sets.{setOf}
 use Rattle.common.specs.declared.grammar.Grammar.{Grammar}
 use Rattle.feed.specs.declared.item.SheetItem.{SheetItem}

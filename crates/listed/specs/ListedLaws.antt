@@ -1,27 +1,27 @@
 -- Laws of the work sheet by a region list in bytes: that its promises leave one result, and the ways out of its functions. Assumes nothing.
-use mathlib.Core.Path.{_≡_, refl, sym, ap, subst, _∙_}
+use mathlib.Core.Path.{_≡_, refl, ap, subst, _∙_}
 use mathlib.Core.Bool.{Bool, true, false}
 use mathlib.Core.List.{List, [], _∷_}
 use Prim.Native.Nat.{ℕ, _/_, _≤_, _<_}
 use lib.Dec.{leb}
 use lib.ListN.{length}
 use Rattle.search.specs.Promise.{Gives}
-use Rattle.common.specs.Entry.{flatten, rows, wide}
+use Rattle.common.specs.Entry.{rows, wide}
 use Rattle.common.specs.Lists.{Wrote}
-use Rattle.common.specs.Refusals.{Outcome, given}
+use Rattle.common.specs.Refusals.{given}
 use Rattle.common.specs.Sets.{setOf}
 use Rattle.common.specs.declared.grammar.Grammar.{Grammar}
 use Rattle.cover.specs.Shape.{misshapen}
 use Rattle.feed.specs.Feeds.{freshFeed}
 use Rattle.feed.specs.declared.item.SheetItem.{SheetItem}
 use Rattle.feed.specs.declared.Feed.{Feed}
-use Rattle.sheet.specs.Sheet.{sheetOf, sheetJudged, sheetAnswer}
+use Rattle.sheet.specs.Sheet.{sheetOf, sheetAnswer}
 use Rattle.sheet.specs.Parts.{left}
 use Rattle.sheet.specs.SheetLaws.{started-left, judged-long, judged-misshapen, judged-on}
 use Rattle.cells.specs.Bytes.{cells}
 use Rattle.cells.specs.Reply.{Replied}
 use Rattle.cells.specs.ReplyLaws.{replied-unique, refused-by}
-use Rattle.cells.specs.Poured.{ListRuns, Poured}
+use Rattle.cells.specs.Poured.{ListRuns}
 use Rattle.cells.specs.PouredLaws.{poured-unique, poured-off, pour-full, pour-done}
 use Rattle.sheeting.specs.Sheeting.{itemBytes, SheetPoured}
 use Rattle.listed.specs.Listed.{listedItems, ListedSheet, ListedCount}
@@ -77,5 +77,5 @@ module _ (g : Grammar) (mb db l : List ℕ) (n : ℕ) (s : List ℕ) where
       unfolding sheetAnswer
       sheet-filled lent after v = rw (judged-on (cells l) n s _ short y e m) (subst (λ (x : List SheetItem). SheetPoured x lent after r) same-items v)
 
-      pub count-filled : (run run′ : List ℕ) → Replied (given (length (sheetOf g markers delims (cells l) n s) ∷ [])) run run′ r → ListedCount g mb db l n s run run′ r
-      count-filled run run′ v = rw (judged-on (cells l) n s _ short y e m) (subst (λ (x : List SheetItem). Replied (given (length x ∷ [])) run run′ r) same-items v)
+      pub count-replied : (run run′ : List ℕ) → Replied (given (length (sheetOf g markers delims (cells l) n s) ∷ [])) run run′ r → ListedCount g mb db l n s run run′ r
+      count-replied run run′ v = rw (judged-on (cells l) n s _ short y e m) (subst (λ (x : List SheetItem). Replied (given (length x ∷ [])) run run′ r) same-items v)

@@ -3,16 +3,14 @@
 use mathlib.Core.Path.{_≡_, refl, sym, ap, _∙_}
 use mathlib.Core.Bool.{Bool, true, false}
 use mathlib.Core.List.{List, [], _∷_, _++_}
-use mathlib.Core.Logic.{_⊎_, inl, inr}
 use Prim.Native.Nat.{ℕ, zero, suc, _+_, _/_, _≤_, _<_}
 use native.Mathlib.Omega.{arith}
 use lib.ListN.{length}
 use borrow.Author.Tests.{ltb-false}
-use Rattle.search.specs.SearchLaws.{decide}
 use Rattle.common.specs.Entry.{flatten, room, over, wide}
 use Rattle.common.specs.EntryLaws.{flatten-append}
 use Rattle.common.specs.Lists.{buildAnswer}
-use Rattle.common.specs.Refusals.{tooLong}
+use Rattle.common.specs.Refusals.{Outcome, refuse, tooLong}
 use Rattle.region.specs.Region.{Caused, InOrder, rowOf}
 use Rattle.region.specs.Regions.{regions}
 use Rattle.region.specs.Ahead.{regions-in-order}
@@ -46,19 +44,19 @@ pub room-back : (out : List ℕ) → length out / rowBytes ≡ room wide (cells 
 room-back out = omega (arith, length-cells out)
 
 -- ---- the entries
-short-of : (bad : Bool) (l : List Caused) (s : List ℕ) (before : ListRuns) → buildAnswer rowBytes bad l s (before .list) .number ≡ 0 → length s ≤ 4294967295
+refused-none : (n : ℕ) (b : Bool) (o : Outcome) → refuse (suc n) b o .number ≡ 0 → (b ≡ false) × (o .number ≡ 0)
+refused-none n true o e = absurd (omega (arith, e))
+refused-none n false o e = (refl, e)
+
+-- building that returns 0 has passed the tests of text and rules
+pub built-passed : (l : List Caused) (bad : Bool) (s : List ℕ) (before after : ListRuns) → BuiltAs regionBytes rowBytes bad l s before after 0 → (length s ≤ 4294967295) × (bad ≡ false)
 unfolding buildAnswer
-short-of bad l s before e = by (decide (tooLong s))
-  where
-    by : (tooLong s ≡ true) ⊎ (tooLong s ≡ false) → length s ≤ 4294967295
-    by (inl u) =
-        let z : _≡_ {A = ℕ} 1 0 = rw u at e in
-        absurd (omega arith)
-    by (inr u) = ltb-false 4294967295 (length s) u
+built-passed l bad s before after w =
+    let p = refused-none 0 (tooLong s) _ (reply-served (buildAnswer rowBytes bad l s (before .list)) (before .answer) (sym (w .reply .number)) .1) in
+    (ltb-false 4294967295 (length s) (p .0), refused-none 5 bad _ (p .1) .0)
 
 -- building into a list in bytes that returns 0 has left, read as numbers, the regions over the front of the run's numbers
 pub built-back : (g : Gram) (bad : Bool) (s : List ℕ) (before after : ListRuns) → BuiltAs regionBytes rowBytes bad (regions g s) s before after 0 → cells (after .list) ≡ over (flatten rowOf (regions g s)) (cells (before .list))
 built-back g bad s before after w =
-    let o = buildAnswer rowBytes bad (regions g s) s (before .list) in
-    let v = reply-served o (before .answer) (sym (w .reply .number)) in
-    ap cells (w .left ∙ rw (v .0)) ∙ regions-back g s (before .list) (short-of bad (regions g s) s before (v .1))
+    let v = reply-served (buildAnswer rowBytes bad (regions g s) s (before .list)) (before .answer) (sym (w .reply .number)) in
+    ap cells (w .left ∙ rw (v .0)) ∙ regions-back g s (before .list) (built-passed (regions g s) bad s before after w .0)

@@ -48,7 +48,7 @@ use Rattle.sheeting.specs.Sheeting.{itemBytes, ItemPut, sheetWith, Sheet
 use Rattle.sheeting.specs.declared.hiding.Hider.{Hider}
 use Rattle.sheeting.specs.declared.Sieve.{Sieve}
 use Rattle.sheeting.specs.declared.Sieved.{Sieved}
-use Rattle.region.specs.Region.{rowOf}
+use Rattle.region.specs.Region.{Caused, rowOf}
 
 -- ---- an item's bytes
 pub item-size : (i : SheetItem) → length (itemBytes i) ≡ 20
@@ -122,6 +122,10 @@ module _ (g : Gram) (markers delims : List Bool) (s : List ℕ) where
   pub ready-first : (w : Sieve) → SieveReady g markers delims s w → ReadyBy g markers delims s (replicate 256 0) w
   ready-first w r = record { ready = r; sound = sound-zeros g s (w .hider .next) }
 
+-- the rows of regions are read back from their numbers
+pub region-rows : (l : List Caused) → rows wide (length l) (flatten rowOf l) ≡ map rowOf l
+region-rows l = rw (← (append-nil (flatten rowOf l))) (rows-flatten rowOf wide row-wide l [])
+
 -- ---- the ways out of pouring a sheet
 module _ (g : Grammar) (z : Gram) (markers delims : List Bool) (s : List ℕ) (a : Feed) (short : length s ≤ 4294967295) (d : Gives (freshFeed g markers delims s) a) where
   w : Started g markers delims s a
@@ -134,8 +138,7 @@ module _ (g : Grammar) (z : Gram) (markers delims : List Bool) (s : List ℕ) (a
   sheet-left : left markers delims s (map rowOf (regions z s)) a ≡ sheetWith g markers delims (regions z s) s
   unfolding left sheetOf
   sheet-left =
-      let e : rows wide (length (regions z s)) (flatten rowOf (regions z s)) ≡ map rowOf (regions z s) = rw (← (append-nil (flatten rowOf (regions z s)))) (rows-flatten rowOf wide row-wide (regions z s) []) in
-      rw e (ap (outside (map rowOf (regions z s))) (w .same))
+      rw (region-rows (regions z s)) (ap (outside (map rowOf (regions z s))) (w .same))
 
   -- how many they are
   pub shown-counted : (k : ℕ) → Gives (length (leftBy z markers delims s (record { feed = a; hider = record { start = 0; stop = 0; next = 0 } }))) k → Gives (length (sheetWith g markers delims (regions z s) s)) k

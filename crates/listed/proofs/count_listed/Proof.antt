@@ -1,7 +1,7 @@
 -- `count_listed` meets its contract. Assumes nothing.
 use borrow.Author.Needs.{needs}
 use Rattle.sheet.specs.SheetLaws.{shape-told}
-use Rattle.listed.specs.ListedLaws.{count-long, count-misshapen, count-filled}
+use Rattle.listed.specs.ListedLaws.{count-long, count-misshapen, count-replied}
 use Rattle.listed.proofs.count_listed.Statement.{statement}
 use Rattle.listed.proofs.count_listed.Tie as tie
 
@@ -27,7 +27,7 @@ same-length : tie.Need-same-length
 same-length c = search needs
 
 returns-3 : tie.Need-returns-3
-returns-3 c = search count-filled
+returns-3 c = search count-replied
 
 pub count-listed-spec : {M : Type 1} → statement M
 count-listed-spec =
