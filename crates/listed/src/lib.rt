@@ -31,7 +31,7 @@ ghost use Rattle.common.specs.Refusals.{given};
 ghost use Rattle.cover.specs.Cursor.{Ended};
 ghost use Rattle.cover.specs.Shape.{misshapen};
 ghost use Rattle.feed.specs.Items.{testedPlace};
-ghost use Rattle.sheet.specs.Sheet.{sheetOf};
+ghost use Rattle.sheet.specs.Sheet.{sheetOf, sheetJudged};
 ghost use Rattle.sheet.specs.Parts.{SortedRows, Hid, left, Ready, TurnedBy};
 ghost use Rattle.cells.specs.Bytes.{cells};
 ghost use Rattle.cells.specs.Reply.{Replied};
@@ -252,6 +252,19 @@ fn tell_count(
     reply::values(&all, answer)
 }
 
+// The refusal that the text and the list decide: 1 the text is too long, 5 the list is misshapen; else 0.
+fn judge(text: &[u8], list: &[u8], count: usize) -> u32
+    ensures { λ r. ⌜ Gives (sheetJudged (cells (now (list .entry))) count (now (text .entry)) (given []) .number) r ⌝ }
+{
+    if text.len() > MAX_INPUT_LEN {
+        return 1;
+    }
+    if is_misshapen(list, count, text.len()) {
+        return 5;
+    }
+    0
+}
+
 // Writes the work sheet of a text: the items, by the accepted marker and delimiter bytes, whose marker or delimiter is in none of the first
 // `count` regions of a list in bytes. Item k goes to bytes 20k to 20k + 19 of `out`, and the answer is how many there are. A refusal (1 the
 // text is too long, 5 the list is misshapen, 3 too little room) changes nothing.
@@ -274,11 +287,9 @@ pub fn sheet_listed(
         (record { list = now (out .exit); answer = now (answer .exit) }) r
         ⌝ }
 {
-    if text.len() > MAX_INPUT_LEN {
-        return 1;
-    }
-    if is_misshapen(list, count, text.len()) {
-        return 5;
+    let refusal = judge(text, list, count);
+    if refusal != 0 {
+        return refusal;
     }
     let g = Grammar {
         eol,
@@ -309,11 +320,9 @@ pub fn count_listed(
         (now (list .entry)) count (now (text .entry)) (now (answer .entry)) (now (answer .exit)) r
         ⌝ }
 {
-    if text.len() > MAX_INPUT_LEN {
-        return 1;
-    }
-    if is_misshapen(list, count, text.len()) {
-        return 5;
+    let refusal = judge(text, list, count);
+    if refusal != 0 {
+        return refusal;
     }
     let g = Grammar {
         eol,
