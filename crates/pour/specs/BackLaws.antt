@@ -9,8 +9,8 @@ use lib.ListN.{length}
 use borrow.Author.Tests.{ltb-false}
 use Rattle.common.specs.Entry.{flatten, room, over, wide}
 use Rattle.common.specs.EntryLaws.{flatten-append}
-use Rattle.common.specs.Lists.{buildAnswer}
-use Rattle.common.specs.Refusals.{Outcome, refuse, tooLong}
+use Rattle.common.specs.Lists.{crowded, buildAnswer}
+use Rattle.common.specs.Refusals.{Outcome, given, refuse, tooLong}
 use Rattle.region.specs.Region.{Caused, InOrder, rowOf}
 use Rattle.region.specs.Regions.{regions}
 use Rattle.region.specs.Ahead.{regions-in-order}
@@ -48,12 +48,15 @@ refused-none : (n : ℕ) (b : Bool) (o : Outcome) → refuse (suc n) b o .number
 refused-none n true o e = absurd (omega (arith, e))
 refused-none n false o e = (refl, e)
 
--- building that returns 0 has passed the tests of text and rules
-pub built-passed : (l : List Caused) (bad : Bool) (s : List ℕ) (before after : ListRuns) → BuiltAs regionBytes rowBytes bad l s before after 0 → (length s ≤ 4294967295) × (bad ≡ false)
+-- building that returns 0 has passed every test, and answers how many regions there are
+pub built-passed : (l : List Caused) (bad : Bool) (s : List ℕ) (before after : ListRuns) → BuiltAs regionBytes rowBytes bad l s before after 0
+    → (length s ≤ 4294967295) × (bad ≡ false) × (buildAnswer rowBytes bad l s (before .list) ≡ given (length l ∷ []))
 unfolding buildAnswer
 built-passed l bad s before after w =
     let p = refused-none 0 (tooLong s) _ (reply-served (buildAnswer rowBytes bad l s (before .list)) (before .answer) (sym (w .reply .number)) .1) in
-    (ltb-false 4294967295 (length s) (p .0), refused-none 5 bad _ (p .1) .0)
+    let q = refused-none 5 bad _ (p .1) in
+    let r = refused-none 2 (crowded rowBytes l (before .list)) _ (q .1) in
+    (ltb-false 4294967295 (length s) (p .0), q .0, simp (p .0, q .0, r .0))
 
 -- building into a list in bytes that returns 0 has left, read as numbers, the regions over the front of the run's numbers
 pub built-back : (g : Gram) (bad : Bool) (s : List ℕ) (before after : ListRuns) → BuiltAs regionBytes rowBytes bad (regions g s) s before after 0 → cells (after .list) ≡ over (flatten rowOf (regions g s)) (cells (before .list))
