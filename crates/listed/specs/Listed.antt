@@ -1,6 +1,6 @@
 -- What the work sheet of a text by a region list in bytes answers and writes. Assumes nothing.
--- The page: "The work sheet takes a text, the grammar bytes, the marker and delimiter sets and a list, but no rule columns." and "For a work
--- sheet: 1, 5, 3."
+-- The page: "The work sheet takes a text, the grammar bytes, the marker and delimiter sets and a list, but no rule columns." and
+-- "For a work sheet: 1, 5, 3."
 use mathlib.Core.List.{List, [], _∷_}
 use Prim.Native.Nat.{ℕ}
 use lib.ListN.{length}
