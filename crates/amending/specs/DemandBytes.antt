@@ -8,12 +8,12 @@ use Prim.Native.Nat.{ℕ, _+_, _*_, _/_, _≤_}
 use native.Mathlib.Omega.{arith}
 use lib.Dec.{ltb}
 use lib.ListN.{length, length-map}
-use borrow.Author.Tests.{eq-eqb, eqb-true, not-false}
+use borrow.Author.Tests.{le-ltb, eq-eqb, eqb-true, not-false}
 use Rattle.search.specs.SearchLaws.{neither}
 use Rattle.common.specs.Entry.{flatten, over, wide}
 use Rattle.common.specs.EntryLaws.{flatten-map}
 use Rattle.common.specs.Lists.{crowded, buildAnswer}
-use Rattle.common.specs.Refusals.{Outcome, given, told, tooLong, differ}
+use Rattle.common.specs.Refusals.{Outcome, given, told, differ}
 use Rattle.common.specs.declared.grammar.Grammar.{Grammar}
 use Rattle.common.specs.declared.refusal.Answer.the-variants.{Value}
 use Rattle.region.specs.Region.{Listed, asListed}
@@ -28,10 +28,9 @@ use Rattle.cells.specs.ReplyLaws.{enough}
 use Rattle.cells.specs.BackLaws.{reply-served}
 use Rattle.cells.specs.Poured.{ListRuns, Poured}
 use Rattle.pour.specs.Building.{regionBytes, BuiltBytes}
-use Rattle.pour.specs.BackLaws.{room-back, built-back}
+use Rattle.pour.specs.BackLaws.{room-back, built-passed, built-back}
 use Rattle.amend.specs.Amend.{Edit}
 use Rattle.amend.specs.Amended.{listRegions, regionsIn, edited, amendedList, amendAnswer}
-use Rattle.amend.specs.JudgeLaws.{number-given, refuse-pass}
 use Rattle.amend.specs.RowLaws.{listed-length}
 use Rattle.amend.specs.AmendedLaws.{amended-regions-few}
 use Rattle.amend.specs.Theorem.{HoldsRegions, built-holds, Accepted, accepted-by, counted-by, same}
@@ -102,25 +101,15 @@ even-equal c h =
     )
 
 module _ (g : Grammar) (c : ColumnRuns) (s : List ℕ) (before after : ListRuns) (w : BuiltBytes g c s before after 0) where
-  -- what building in bytes has tested
-  passed : (tooLong s ≡ false) × (unevenColumns c ≡ false) × (crowded rowBytes (builtBy g (columnsIn c) s) (before .list) ≡ false)
-  unfolding buildAnswer
-  passed =
-      let o = buildAnswer rowBytes (unevenColumns c) (builtBy g (columnsIn c) s) s (before .list) in
-      let z : o ≡ given (o .values) = number-given o (reply-served o (before .answer) (sym (w .reply .number)) .1) in
-      let a = refuse-pass 0 (tooLong s) _ (o .values) z in
-      let b = refuse-pass 5 (unevenColumns c) _ (o .values) (a .1) in
-      let d = refuse-pass 2 (crowded rowBytes (builtBy g (columnsIn c) s) (before .list)) _ (o .values) (b .1) in
-      (a .0, b .0, d .0)
-
   -- building in bytes that returns 0 has, read as numbers, kept the promise of building
   pub built-numbers : Built g (columnsIn c) s (cells (before .list)) (cells (after .list)) (told (Value (length (builtBy g (columnsIn c) s))))
   unfolding builtAnswer builtList buildAnswer
   built-numbers =
-      let p = passed in
+      let p = built-passed (builtBy g (columnsIn c) s) (unevenColumns c) s before after w in
+      let short = le-ltb 4294967295 (length s) (p .0) in
       let even = even-equal c (p .1) in
       let fits : crowded wide (builtBy g (columnsIn c) s) (cells (before .list)) ≡ false = ap (λ (k : ℕ). ltb k (length (builtBy g (columnsIn c) s))) (sym (room-back (before .list))) ∙ p .2 in
-      record { answer = sym (simp (p .0, even, fits)); list = built-back (gramOf g (columnsIn c)) (unevenColumns c) s before after w ∙ simp (p .0, even, fits) }
+      record { answer = sym (simp (short, even, fits)); list = built-back (gramOf g (columnsIn c)) (unevenColumns c) s before after w ∙ simp (short, even, fits) }
 
 -- build the old text in bytes, and amend the list that was left: where this returns 0, it has kept the promise of building the edited text
 pub built-amended : (g : Grammar) (c : ColumnRuns) (old : List ℕ) (e : Edit) (blank built before after : ListRuns) → BuiltBytes g c old blank built 0
@@ -142,7 +131,7 @@ demand-three-bytes g c old e blank built before after r b w room long a =
     let o = amendAnswer g (columnsIn c) old (cells (built .list)) n e rowBytes (unevenColumns c) (before .list) in
     let h = built-numbers g c old blank built b in
     let w′ : Conditions g (columnsIn c) old (regionsIn n (cells (built .list))) e = subst (λ (x : List Listed). Conditions g (columnsIn c) old x e) (sym (built-holds h)) w in
-    let served : o ≡ given (k ∷ []) = amend-serves-by h w′ rowBytes (unevenColumns c) (before .list) (passed g c old blank built b .1) room in
+    let served : o ≡ given (k ∷ []) = amend-serves-by h w′ rowBytes (unevenColumns c) (before .list) (built-passed (builtBy g (columnsIn c) old) (unevenColumns c) old blank built b .1) room in
     let zero : r ≡ 0 = a .reply .number ∙ simp (served, enough (k ∷ []) (before .answer) (length (before .answer) / 4) (record { answer = refl }) (omega arith)) in
     (zero, built-amended g c old e blank built before after b (subst (λ (x : ℕ). AmendedBytes g c old (built .list) n e before after x) zero a))
 

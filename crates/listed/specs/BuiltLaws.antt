@@ -64,5 +64,5 @@ module _ (g : Grammar) (c : ColumnRuns) (s : List ℕ) (before built : ListRuns)
         let p = built-passed R (unevenColumns c) s before built w in
         let items = listedItems g markers delims (built .list) (length R) s in
         let on = judged-on (cells (built .list)) (length R) s (filledAnswer 20 items (lent .list)) (p .0) false refl (record { answer = sym shape-built }) in
-        build-good itemBytes 20 (unevenColumns c) (sheetWith g (setOf markers) (setOf delims) R s) s lent after r (p .0) (p .1)
+        build-good itemBytes 20 (unevenColumns c) (sheetWith g (setOf markers) (setOf delims) R s) s lent (unevenColumns c) after r (p .0) (p .1) (record { answer = refl })
         (subst (λ (x : List SheetItem). SheetPoured x lent after r) items-built (rw on at v))

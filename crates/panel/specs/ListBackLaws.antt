@@ -28,7 +28,7 @@ module _ (g : Gram) (bad : Bool) (s : List ℕ) (before after : ListRuns) (w : B
   pub built-count : cells (after .answer) ≡ over (1 ∷ length (regions g s) ∷ []) (cells (before .answer))
   built-count =
       let e = built-passed (regions g s) bad s before after w in
-      reply-back {o = given (length (regions g s) ∷ [])} (narrow (e .0)) (subst (λ (o : Outcome). Replied o (before .answer) (after .answer) 0) (e .2) (w .reply))
+      reply-back {o = given (length (regions g s) ∷ [])} (narrow (e .0)) (subst (λ (o : Outcome). Replied o (before .answer) (after .answer) 0) (e .3) (w .reply))
     where
       narrow : length s ≤ 4294967295 → Narrow (1 ∷ length (regions g s) ∷ [])
       narrow h zero j = omega arith

@@ -1,8 +1,11 @@
 // Lists in bytes: regions by their rules, and the work sheet; each written, or counted.
+use listed::count_listed;
+use listed::sheet_listed;
 use pour::building::build_columns;
 use pour::building::build_rules;
 use sheeting::sheet_columns;
 ghost use Rattle.pour.specs.Building.{BuiltBytes, BuiltRules, CountedBytes};
+ghost use Rattle.listed.specs.Listed.{ListedSheet, ListedCount};
 ghost use Rattle.sheeting.specs.Sheeting.{SheetBytes, SheetCounted};
 
 // Building by rules given as columns: fence bytes and minimums; symmetric bytes and counts; asymmetric openers, closers and counts. A
@@ -270,6 +273,76 @@ pub extern "C" fn rack_sheet_count(
         counts,
         markers,
         delims,
+        answer,
+    )
+}
+
+// The same sheet by a list of `count` regions in place of rules. A refusal (1 the text is too long, 5 the list is misshapen, 3 too little
+// room) changes nothing.
+#[no_mangle]
+pub extern "C" fn rack_sheet_listed(
+    text: &[u8],
+    eol: u8,
+    escape: u8,
+    sep: u8,
+    tab: u8,
+    markers: &[u8],
+    delims: &[u8],
+    list: &[u8],
+    count: u32,
+    out: &mut [u8],
+    answer: &mut [u8],
+) -> u32
+    ensures { λ r. ⌜
+        ListedSheet (record { eol = eol; escape = escape; sep = sep; tab = tab }) (now (markers .entry)) (now (delims .entry))
+        (now (list .entry)) count (now (text .entry)) (record { list = now (out .entry); answer = now (answer .entry) })
+        (record { list = now (out .exit); answer = now (answer .exit) }) r
+        ⌝ }
+{
+    sheet_listed(
+        text,
+        eol,
+        escape,
+        sep,
+        tab,
+        markers,
+        delims,
+        list,
+        count as usize,
+        out,
+        answer,
+    )
+}
+
+// How many items that sheet would have.
+#[no_mangle]
+pub extern "C" fn rack_sheet_listed_count(
+    text: &[u8],
+    eol: u8,
+    escape: u8,
+    sep: u8,
+    tab: u8,
+    markers: &[u8],
+    delims: &[u8],
+    list: &[u8],
+    count: u32,
+    answer: &mut [u8],
+) -> u32
+    ensures { λ r. ⌜
+        ListedCount (record { eol = eol; escape = escape; sep = sep; tab = tab }) (now (markers .entry)) (now (delims .entry))
+        (now (list .entry)) count (now (text .entry)) (now (answer .entry)) (now (answer .exit)) r
+        ⌝ }
+{
+    count_listed(
+        text,
+        eol,
+        escape,
+        sep,
+        tab,
+        markers,
+        delims,
+        list,
+        count as usize,
         answer,
     )
 }

@@ -50,13 +50,13 @@ refused-none n false o e = (refl, e)
 
 -- building that returns 0 has passed every test, and answers how many regions there are
 pub built-passed : (l : List Caused) (bad : Bool) (s : List ℕ) (before after : ListRuns) → BuiltAs regionBytes rowBytes bad l s before after 0
-    → (length s ≤ 4294967295) × (bad ≡ false) × (buildAnswer rowBytes bad l s (before .list) ≡ given (length l ∷ []))
+    → (length s ≤ 4294967295) × (bad ≡ false) × (crowded rowBytes l (before .list) ≡ false) × (buildAnswer rowBytes bad l s (before .list) ≡ given (length l ∷ []))
 unfolding buildAnswer
 built-passed l bad s before after w =
     let p = refused-none 0 (tooLong s) _ (reply-served (buildAnswer rowBytes bad l s (before .list)) (before .answer) (sym (w .reply .number)) .1) in
     let q = refused-none 5 bad _ (p .1) in
     let r = refused-none 2 (crowded rowBytes l (before .list)) _ (q .1) in
-    (ltb-false 4294967295 (length s) (p .0), q .0, simp (p .0, q .0, r .0))
+    (ltb-false 4294967295 (length s) (p .0), q .0, r .0, simp (p .0, q .0, r .0))
 
 -- building into a list in bytes that returns 0 has left, read as numbers, the regions over the front of the run's numbers
 pub built-back : (g : Gram) (bad : Bool) (s : List ℕ) (before after : ListRuns) → BuiltAs regionBytes rowBytes bad (regions g s) s before after 0 → cells (after .list) ≡ over (flatten rowOf (regions g s)) (cells (before .list))
