@@ -46,10 +46,10 @@ module _ (eol : ℕ) (s l : List ℕ) (n : ℕ) (e : Edit) (u m : Bool) where
       edit-same s e u k _ _ (refuse-same k 5 t5 _ _ (refuse-same k 9 m _ _ (refuse-same k 7 t7 (given []) o (λ z. absurd (not-given q (sym z))))))
 
   -- what is known where all seven are passed
-  pub passed : (o : Outcome) (v : List ℕ) → judged eol s l n e u m o ≡ given v → ((tooLong s || tooLong (e .text)) ≡ false) × (u ≡ false) × (miscut s e ≡ false) × (tooLong (edited e s) ≡ false) × (misshapen l n (length s) ≡ false) × (m ≡ false)
+  pub judged-passed : (o : Outcome) (v : List ℕ) → judged eol s l n e u m o ≡ given v → ((tooLong s || tooLong (e .text)) ≡ false) × (u ≡ false) × (miscut s e ≡ false) × (tooLong (edited e s) ≡ false) × (misshapen l n (length s) ≡ false) × (m ≡ false)
       × (offJoint eol s (regionsIn n l) (e .first) (e .second) ≡ false) × (o ≡ given v)
   unfolding judged
-  passed o v z =
+  judged-passed o v z =
       let a = edit-passed s e u _ v z in
       let f = refuse-pass 4 (misshapen l n (length s)) _ v (a .4) in
       let g = refuse-pass 8 m _ v (f .1) in
@@ -58,12 +58,12 @@ module _ (eol : ℕ) (s l : List ℕ) (n : ℕ) (e : Edit) (u m : Bool) where
 
   pub judged-on : judged eol s l n e u m (given []) ≡ given [] → (o : Outcome) → judged eol s l n e u m o ≡ o
   unfolding judged judgedEdit
-  judged-on fine o = let p = passed (given []) [] fine in simp (p .0, p .1, p .2, p .3, p .4, p .5, p .6)
+  judged-on fine o = let p = judged-passed (given []) [] fine in simp (p .0, p .1, p .2, p .3, p .4, p .5, p .6)
 
 pub ready-told : (eol : ℕ) (s l : List ℕ) (n first second : ℕ) (r : List ℕ) (u m : Bool) (v : Verdict) → v ≡ verdict.Fine → Judged eol s l n (edit first second r) u m v
     → CutsReady l n (record { first = first; second = second; len = length s }) r
 ready-told eol s l n first second r u m v e g =
-    let p = passed eol s l n (edit first second r) u m (given []) [] (sym (g .answer) ∙ ap toldVerdict e) in
+    let p = judged-passed eol s l n (edit first second r) u m (given []) [] (sym (g .answer) ∙ ap toldVerdict e) in
     let a = neither (tooLong s) (tooLong r) (p .0) in
     let b = neither (ltb second first) (past s second) (p .2) in
     let cuts : first ≤ second = ltb-false second first (b .0) in

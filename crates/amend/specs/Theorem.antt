@@ -31,7 +31,7 @@ use Rattle.amend.specs.Amended.{regionsIn, listRegions, edited, amendedR
 use Rattle.amend.specs.Starts.{unless-end}
 use Rattle.amend.specs.Edits.{relist-one}
 use Rattle.amend.specs.JudgeLaws.{number-given, refuse-pass}
-use Rattle.amend.specs.AmendedLaws.{passed}
+use Rattle.amend.specs.AmendedLaws.{judged-passed}
 use Rattle.region.specs.LoopLaws.{row-wide}
 use Rattle.amend.specs.Lists.{retag-order}
 use Rattle.amend.specs.Demand.{demand-columns}
@@ -114,7 +114,7 @@ pub accepted-by : (w : ℕ) (differing : Bool) (g : Grammar) (c : Columns) (s l 
 unfolding amendAnswer settledAnswer
 accepted-by w differing g c s l n e out k served =
     let v = k ∷ [] in
-    let p = passed (g .eol) s l n e differing (usesLineEnd g c) _ v (sym served) in
+    let p = judged-passed (g .eol) s l n e differing (usesLineEnd g c) _ v (sym served) in
     let p8 = refuse-pass 7 (leftOpen (g .eol) (listRegions (gramOf g c)) (length s) e) _ v (p .7) in
     let p3 = refuse-pass 2 (crowded w (amendedList g c s l n e) out) _ v (p8 .1) in
     let m = neither (ltb (e .second) (e .first)) (past s (e .second)) (p .2) in
@@ -133,7 +133,7 @@ unfolding amendAnswer settledAnswer
 counted-by w differing g c s l n e out h =
     let o = amendAnswer g c s l n e w differing out in
     let z : o ≡ given (o .values) = number-given o h in
-    let p = passed (g .eol) s l n e differing (usesLineEnd g c) _ (o .values) z in
+    let p = judged-passed (g .eol) s l n e differing (usesLineEnd g c) _ (o .values) z in
     let p8 = refuse-pass 7 (leftOpen (g .eol) (listRegions (gramOf g c)) (length s) e) _ (o .values) (p .7) in
     let p3 = refuse-pass 2 (crowded w (amendedList g c s l n e) out) _ (o .values) (p8 .1) in
     p3 .1 ∙ sym z

@@ -83,7 +83,7 @@ pub fn judge_edit(old: &[u8], first: usize, second: usize, text: &[u8], unequal:
     Verdict::Fine
 }
 
-// And those that the list, the rules and the bytes before the cuts decide.
+// These, and then those that the list, the rules and the bytes before the cuts decide.
 fn judge(
     old: &[u8],
     list: &[u32],

@@ -16,7 +16,7 @@ use Rattle.common.specs.Lists.{crowded, buildAnswer}
 use Rattle.common.specs.Refusals.{Outcome, given, told, differ}
 use Rattle.common.specs.declared.grammar.Grammar.{Grammar}
 use Rattle.common.specs.declared.refusal.Answer.the-variants.{Value}
-use Rattle.region.specs.Region.{Listed, asListed}
+use Rattle.region.specs.Region.{Caused, Listed, asListed}
 use Rattle.region.specs.Regions.{builtBy}
 use Rattle.rules.specs.Columns.{unequal, gramOf}
 use Rattle.context.specs.Build.{builtAnswer, builtList, Built}
@@ -39,6 +39,10 @@ use Rattle.amend.specs.Serves.{amend-serves-by}
 use Rattle.amending.specs.Amending.{listedBytes, AmendedBytes}
 
 -- ---- of a list that holds the old text's regions
+-- the regions of the edited text
+abbrev afresh : Grammar → ColumnRuns → List ℕ → Edit → List Caused
+afresh g c old e = builtBy g (columnsIn c) (edited e old)
+
 module _ (g : Grammar) (c : ColumnRuns) (old l : List ℕ) (n : ℕ) (e : Edit) (before after : ListRuns) (holds : HoldsRegions g (columnsIn c) old (cells l) n) (w : AmendedBytes g c old l n e before after 0) where
   counted : given (length (amendedList g (columnsIn c) old (cells l) n e) ∷ []) ≡ amendAnswer g (columnsIn c) old (cells l) n e rowBytes (unevenColumns c) (before .list)
   counted =
@@ -51,36 +55,36 @@ module _ (g : Grammar) (c : ColumnRuns) (old l : List ℕ) (n : ℕ) (e : Edit) 
   alike : amendedList g (columnsIn c) old (cells l) n e ≡ listRegions (gramOf g (columnsIn c)) (edited e old)
   alike = same g (columnsIn c) old (cells l) n e (tested .meets) holds
 
-  size : length (amendedList g (columnsIn c) old (cells l) n e) ≡ length (builtBy g (columnsIn c) (edited e old))
-  size = ap length alike ∙ length-map (builtBy g (columnsIn c) (edited e old)) asListed
+  size : length (amendedList g (columnsIn c) old (cells l) n e) ≡ length (afresh g c old e)
+  size = ap length alike ∙ length-map (afresh g c old e) asListed
 
-  bytes : flatten listedBytes (amendedList g (columnsIn c) old (cells l) n e) ≡ flatten regionBytes (builtBy g (columnsIn c) (edited e old))
-  bytes = ap (flatten listedBytes) alike ∙ flatten-map listedBytes asListed (builtBy g (columnsIn c) (edited e old))
+  bytes : flatten listedBytes (amendedList g (columnsIn c) old (cells l) n e) ≡ flatten regionBytes (afresh g c old e)
+  bytes = ap (flatten listedBytes) alike ∙ flatten-map listedBytes asListed (afresh g c old e)
 
-  built : buildAnswer rowBytes (unevenColumns c) (builtBy g (columnsIn c) (edited e old)) (edited e old) (before .list) ≡ given (length (builtBy g (columnsIn c) (edited e old)) ∷ [])
+  built : buildAnswer rowBytes (unevenColumns c) (afresh g c old e) (edited e old) (before .list) ≡ given (length (afresh g c old e) ∷ [])
   unfolding buildAnswer
   built =
-      let fits : crowded rowBytes (builtBy g (columnsIn c) (edited e old)) (before .list) ≡ false = ap (ltb (length (before .list) / rowBytes)) (sym size) ∙ tested .fits in
+      let fits : crowded rowBytes (afresh g c old e) (before .list) ≡ false = ap (ltb (length (before .list) / rowBytes)) (sym size) ∙ tested .fits in
       simp (tested .short, tested .equal, fits)
 
   -- the promise with its answer and its list told
-  served : Poured (given (length (builtBy g (columnsIn c) (edited e old)) ∷ [])) (flatten regionBytes (builtBy g (columnsIn c) (edited e old))) before after 0
+  served : Poured (given (length (afresh g c old e) ∷ [])) (flatten regionBytes (afresh g c old e)) before after 0
   served =
-      subst (λ (x : Outcome). Poured x (flatten regionBytes (builtBy g (columnsIn c) (edited e old))) before after 0) (sym counted ∙ ap (λ (k : ℕ). given (k ∷ [])) size)
+      subst (λ (x : Outcome). Poured x (flatten regionBytes (afresh g c old e)) before after 0) (sym counted ∙ ap (λ (k : ℕ). given (k ∷ [])) size)
       (subst (λ (z : List ℕ). Poured (amendAnswer g (columnsIn c) old (cells l) n e rowBytes (unevenColumns c) (before .list)) z before after 0) bytes w)
 
   -- an amendment that returns 0 has kept the promise of building the edited text
   pub amend-builds : BuiltBytes g c (edited e old) before after 0
-  amend-builds = subst (λ (x : Outcome). Poured x (flatten regionBytes (builtBy g (columnsIn c) (edited e old))) before after 0) (sym built) served
+  amend-builds = subst (λ (x : Outcome). Poured x (flatten regionBytes (afresh g c old e)) before after 0) (sym built) served
 
   -- it has left the bytes of the edited text's regions over the front of the list
   pub amended-list : after .list ≡ over (flatten regionBytes (builtBy g (columnsIn c) (edited e old))) (before .list)
-  amended-list = served .left ∙ rw (reply-served (given (length (builtBy g (columnsIn c) (edited e old)) ∷ [])) (before .answer) (sym (served .reply .number)) .0)
+  amended-list = served .left ∙ rw (reply-served (given (length (afresh g c old e) ∷ [])) (before .answer) (sym (served .reply .number)) .0)
 
   -- and their count in the answer run
   pub amended-count : after .answer ≡ over (written (length (builtBy g (columnsIn c) (edited e old)) ∷ [])) (before .answer)
   unfolding answered
-  amended-count = served .reply .list ∙ rw (reply-served (given (length (builtBy g (columnsIn c) (edited e old)) ∷ [])) (before .answer) (sym (served .reply .number)) .0)
+  amended-count = served .reply .list ∙ rw (reply-served (given (length (afresh g c old e) ∷ [])) (before .answer) (sym (served .reply .number)) .0)
 
 -- ---- of a list that building left
 -- columns that are even in bytes are equal in numbers

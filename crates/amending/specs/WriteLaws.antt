@@ -31,8 +31,8 @@ pub row-fits : (list : List ℕ) (i j : ℕ) → length list * 1 < 2 ^ 63 → i 
 row-fits list i j held h = record { fits = omega (arith, length-cells list) }
 
 -- a row of the replacement's own
-pub moving-puts : (flat : Listed → List ℕ) (g : Gram) (s dead : List ℕ) (by at : ℕ) (out₀ out : List ℕ) (m q : ℕ) (d : Next) (dead′ : List ℕ) → Moving flat rowBytes g s dead by at out₀ out m q → KeptNext g s dead q d dead′
+pub moving-puts-bytes : (flat : Listed → List ℕ) (g : Gram) (s dead : List ℕ) (by at : ℕ) (out₀ out : List ℕ) (m q : ℕ) (d : Next) (dead′ : List ℕ) → Moving flat rowBytes g s dead by at out₀ out m q → KeptNext g s dead q d dead′
     → (r : Told) (n : ℕ) → d ≡ step.Region r n → RowBytesFit m (r .start + by) (r .end + by) out
-moving-puts flat g s dead by at out₀ out m q d dead′ i kept r n e =
+moving-puts-bytes flat g s dead by at out₀ out m q d dead′ i kept r n e =
     let fits = moving-fits flat rowBytes g s dead by at out₀ out m q d dead′ i kept r n e in
     record { room = moving-room flat rowBytes g s dead by at out₀ out m q d dead′ i kept r n e; low = fits .0; high = fits .1 }

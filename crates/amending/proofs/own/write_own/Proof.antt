@@ -6,7 +6,7 @@ use Rattle.rules.specs.Rows.{gramBy}
 use Rattle.cells.specs.Bytes.{rowBytes}
 use Rattle.amend.specs.OwnLaws.{Moving, moving-first, moving-same, moving-end, moving-less, moving-again}
 use Rattle.amending.specs.Amending.{listedBytes}
-use Rattle.amending.specs.WriteLaws.{listed-long, moving-puts}
+use Rattle.amending.specs.WriteLaws.{listed-long, moving-puts-bytes}
 use Rattle.amending.proofs.own.write_own.Statement.{statement}
 use Rattle.amending.proofs.own.write_own.Tie as tie
 
@@ -35,7 +35,7 @@ enum-known-r : tie.Need-enum-known-r Inv-loop μ-loop
 enum-known-r c = search needs
 
 put-moved-requires : tie.Need-put-moved-requires Inv-loop μ-loop
-put-moved-requires c κs = search moving-puts
+put-moved-requires c κs = search moving-puts-bytes
 
 loop-less : tie.Need-loop-less Inv-loop μ-loop
 loop-less c = search moving-less
