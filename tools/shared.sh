@@ -1,0 +1,22 @@
+# What the tools in sh share. Each sets `tool`, its name, and `top`, the repository's folder, and then reads this file.
+
+# One line on standard error, and status 2.
+fail() {
+    printf '%s: %s\n' "$tool" "$1" >&2
+    exit 2
+}
+
+unknown() {
+    fail "unknown option $1; --help tells the options"
+}
+
+# The comment at a tool's head is its help.
+help() {
+    sed -n '2,/^[^#]/s/^# \{0,1\}//p' "$0"
+    exit 0
+}
+
+# Whether a file is there and no source of the crates is newer.
+current() {
+    [ -e "$1" ] && [ -z "$(find "$top/crates" "$top/crates.txt" -newer "$1" -print -quit)" ]
+}
