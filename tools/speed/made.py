@@ -1,6 +1,5 @@
-"""What the benchmark runs, and how it is made: the panel's archive, the same module for Arm, and the program over both sides."""
+"""What the benchmark runs, and how it is made: the panel's archives, and the program over both sides."""
 import hashlib
-import os
 import pathlib
 import platform
 import re
@@ -14,6 +13,8 @@ WORK = TOP / 'target/bench'
 
 IS_X86 = platform.machine() == 'x86_64'
 X86 = 'x86_64-unknown-linux-gnu'
+# Every x86-64, as tools/archive names it.
+PLAIN = 'x86_64'
 
 
 def fail(why):
@@ -34,51 +35,9 @@ def kit():
     return pathlib.Path(run([TOP / 'tools/kit'], 'the Rattle kit is missing').strip())
 
 
-def kit_that_keeps(module):
-    """A kit like the installed one, whose compiler keeps the module that it is given."""
-    real, made = kit().parents[2], WORK / 'kit'
-    inner = pathlib.Path('on') / platform.machine() / 'toolchain/bin'
-    own = inner, *inner.parents, inner / 'clang'
-    shutil.rmtree(made, ignore_errors=True)
-    for folder in (*reversed(inner.parents), inner):
-        (made / folder).mkdir(parents=True, exist_ok=True)
-        for entry in (real / folder).iterdir():
-            if folder / entry.name not in own:
-                (made / folder / entry.name).symlink_to(entry)
-    clang = made / inner / 'clang'
-    clang.write_text('#!/bin/sh\n'
-                     f'for word do case $word in *.bc) cp "$word" "{module}" ;; esac; done\n'
-                     f'exec "{real / inner / "clang"}" "$@"\n')
-    clang.chmod(0o755)
-    return made
-
-
-def archive_and_module():
-    """The panel's archive and the module that it was compiled from, made anew where they are older than their sources; on x86-64 no
-    module is needed."""
-    archive, module = TOP / 'target/staticlib/libpanel.a', WORK / 'panel.bc'
-    newest = max(f.stat().st_mtime for f in (TOP / 'crates').rglob('*') if f.is_file())
-    if any(not f.exists() or f.stat().st_mtime < newest for f in ([archive] if IS_X86 else [archive, module])):
-        print('Proving the panel, which takes some minutes the first time.', file=sys.stderr)
-        module.unlink(missing_ok=True)
-        more = {} if IS_X86 else {'RATTLE_HOME': str(kit_that_keeps(module))}
-        run(['rt', 'staticlib', 'panel'], 'the archive could not be made: `rt staticlib panel` says why', cwd=TOP,
-            env={**os.environ, **more})
-        archive.touch()
-    return archive, module
-
-
-def arm_object(module):
-    """The module compiled for Arm, without the lines and words in it that name x86-64."""
-    made = WORK / 'arm/panel.o'
-    made.parent.mkdir(parents=True, exist_ok=True)
-    clang, why = kit() / 'bin/clang', 'the module could not be compiled for Arm'
-    text = run([clang, f'--target={X86}', '-Xclang', '-disable-llvm-passes', '-S', '-emit-llvm', '-o', '-', '-xir', module], why)
-    text = re.sub(r'^target (datalayout|triple) = .*\n', '', text, flags=re.M)
-    text = re.sub(r' "(target-cpu|target-features|tune-cpu|probe-stack)"="[^"]*"', '', text)
-    run([clang, '--target=aarch64-unknown-linux-gnu', '-O3', '-fPIC', '-ffunction-sections', '-Wno-override-module', '-c',
-         '-o', made, '-xir', '-'], why, input=text)
-    return made
+def library(processor):
+    """The panel's archive for a processor, as tools/archive names it."""
+    return pathlib.Path(run([TOP / 'tools/archive', '--processor', processor], f'no library for {processor}').splitlines()[0])
 
 
 def counter():
@@ -104,21 +63,24 @@ class Rust:
         found = re.search(r'^version *= *"(\d+)\.(\d+)', (self.memchr / 'Cargo.toml').read_text(), re.M)
         return tuple(map(int, found.groups()))
 
-    def program(self, folder, ours, is_x86):
-        """The program over both sides, with ours linked in; made where anything that it is made of has changed."""
-        folder = WORK / folder
+    def program(self, processor, ours, is_x86=True):
+        """The program over both sides, the Rust compiled for that processor, with ours linked in; made where anything that it is
+        made of has changed."""
+        folder = WORK / processor
         made, stamp = folder / 'bench', folder / 'made_from'
         files = sorted(f for d in (self.source, self.memchr / 'src', SPEED / 'src') for f in d.rglob('*.rs'))
         sums = [hashlib.sha256(f.read_bytes()).hexdigest() for f in (*files, ours, pathlib.Path(__file__))]
         key = repr((sums, self.compiler))
         if not made.exists() or not stamp.exists() or stamp.read_text() != key:
             folder.mkdir(parents=True, exist_ok=True)
-            self.build(folder, ours, is_x86)
+            self.build(folder, processor, ours, is_x86)
             stamp.write_text(key)
         return made
 
-    def build(self, folder, ours, is_x86):
+    def build(self, folder, processor, ours, is_x86):
         flags = ['-Copt-level=3', '-Ccodegen-units=1', '--edition=2021', '-L', f'dependency={folder}']
+        if is_x86 and processor != PLAIN:
+            flags += [f'-Ctarget-cpu={processor}']
         if is_x86 and not IS_X86:
             flags += ['--target', X86, '-Clinker=x86_64-linux-gnu-gcc']
 
