@@ -100,19 +100,20 @@ HOSTILE = {
     'line ends': (b'', b'>\n<\n'),
 }
 DRAWN = {'prose': prose, 'dense': dense, 'captures': captures, 'quoted': quoted, 'parts': parts}
-NAMES = *DRAWN, 'documents'
 # Rust's release notes, in Markdown (package rustc-web), then Git's (package git).
 DOCUMENTS = '/usr/share/doc/rustc-web/changelog.gz', '/usr/share/doc/git/RelNotes/*.txt'
 
 
+def missing_documents():
+    """Those of the documents that this machine hasn't."""
+    return [pattern for pattern in DOCUMENTS if not glob.glob(pattern)]
+
+
 def documents():
-    """The documents one behind the other; a LookupError names a package's files that are missing."""
+    """The documents one behind the other."""
     text = b''
     for pattern in DOCUMENTS:
-        found = sorted(glob.glob(pattern))
-        if not found:
-            raise LookupError(pattern)
-        for path in found:
+        for path in sorted(glob.glob(pattern)):
             with (gzip.open if path.endswith('.gz') else open)(path, 'rb') as file:
                 text += file.read()
     return text
