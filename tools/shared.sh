@@ -16,6 +16,15 @@ help() {
     exit 0
 }
 
+# Two builds at once would write the same files. A build's own processes hold the lock too, until the last of them has ended.
+lock() {
+    exec 9>"$1"
+    command -v flock >/dev/null || return 0
+    flock -n 9 && return
+    echo 'Another build is under way; this one waits for it.' >&2
+    flock 9
+}
+
 # Whether a file is there and no source of the crates is newer.
 current() {
     [ -e "$1" ] && [ -z "$(find "$top/crates" "$top/crates.txt" -newer "$1" -print -quit)" ]
