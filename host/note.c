@@ -130,7 +130,10 @@ bool make_sheet(const struct note *note, struct list *sheet)
     /* By the house grammar each item has a line of two bytes and more: half of RACK_ITEMS_MAX will do. */
     if (!reserve(note, sheet, note->len / 2 + 1, RACK_ITEM))
         return false;
-    uint32_t refusal = rack_house_sheet(note->text, note->len, sheet->at, sheet->len, &sheet->count);
+    /* By the regions that were built: they are not sought a second time, and the sheet is the one of the rules (law `sheet-built`). */
+    const struct list *regions = &note->regions;
+    uint32_t refusal = rack_house_sheet_listed(note->text, note->len, regions->at, regions->len, regions->count, sheet->at, sheet->len,
+                                               &sheet->count);
     if (!refusal)
         return true;
     drop_list(sheet);

@@ -25,7 +25,7 @@ lock() {
     flock 9
 }
 
-# Whether a file is there and no source of the crates is newer.
+# Whether a file is there and no source of the crates is newer; an edit that must fail is none.
 current() {
-    [ -e "$1" ] && [ -z "$(find "$top/crates" "$top/crates.txt" -newer "$1" -print -quit)" ]
+    [ -e "$1" ] && [ -z "$(find "$top/crates" "$top/crates.txt" -name must-fail -prune -o -newer "$1" -print -quit)" ]
 }
