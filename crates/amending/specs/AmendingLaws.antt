@@ -8,7 +8,7 @@ use mir.Val.{Fits}
 use mir.Syntax.{w64}
 use lib.Dec.{ltb}
 use lib.ListN.{length}
-use borrow.Author.Tests.{le-leb, lt-leb, eq-eqb, ne-eqb}
+use borrow.Author.Tests.{le-leb, lt-leb}
 use Rattle.search.specs.Promise.{Gives}
 use Rattle.common.specs.Entry.{flatten}
 use Rattle.common.specs.Lists.{Wrote}
@@ -26,7 +26,7 @@ use Rattle.joint.specs.Joint.{openEnd, lineEndIsMark}
 use Rattle.cells.specs.Bytes.{cells, rowBytes}
 use Rattle.cells.specs.CellLaws.{length-cells}
 use Rattle.cells.specs.RuleLaws.{gram-folded}
-use Rattle.cells.specs.ByteRules.{ColumnRuns, inlineIn, uneven, unevenColumns, columnsIn}
+use Rattle.cells.specs.ByteRules.{ColumnRuns, inlineIn, unevenColumns, columnsIn}
 use Rattle.cells.specs.Reply.{Replied}
 use Rattle.cells.specs.Poured.{ListRuns, Poured, PouredAs}
 use Rattle.cells.specs.PouredLaws.{poured-unique, poured-off, pour-full, pour-done}

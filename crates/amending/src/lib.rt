@@ -26,8 +26,6 @@ use rows::copy_rows;
 use rows::starts_before;
 use rules::rows::Rows;
 use rules::search_bytes::Alphabet;
-ghost use lib.ListN.{length};
-ghost use Rattle.search.specs.Promise.{Gives};
 ghost use Rattle.common.specs.Lists.{Wrote};
 ghost use Rattle.rules.specs.Columns.{gramOf};
 ghost use Rattle.rules.specs.Rows.{gramBy};

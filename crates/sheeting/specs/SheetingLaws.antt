@@ -35,7 +35,7 @@ use Rattle.sheet.specs.declared.item.Seen.the-variants as seen
 use Rattle.feed.specs.declared.Head.the-variants as head
 use Rattle.feed.specs.declared.Feed.{Feed}
 use Rattle.feed.specs.declared.Taken.{Taken}
-use Rattle.cells.specs.Bytes.{four, cells}
+use Rattle.cells.specs.Bytes.{four}
 use Rattle.cells.specs.Reply.{LaidIf, Replied}
 use Rattle.cells.specs.ReplyLaws.{laid-there}
 use Rattle.cells.specs.Poured.{ListRuns}
