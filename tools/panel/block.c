@@ -24,7 +24,7 @@ static struct answer answer;
 
 struct question find_question(const char *name, struct words *words)
 {
-    const struct form *const groups[] = {leaf_forms, scanner_forms, context_forms, sheet_forms, reason_forms};
+    const struct form *const groups[] = {leaf_forms, scanner_forms, context_forms, sheet_forms, reason_forms, amend_forms};
     for (size_t i = 0; i < sizeof groups / sizeof *groups; i++)
         for (const struct form *form = groups[i]; form->name; form++)
             if (!strcmp(form->name, name)) {

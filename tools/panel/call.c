@@ -4,13 +4,14 @@
 
 bool thorough;
 struct tally tally;
+const char *entered;
 
-/* What is lent to be written: for the calls whose answers are taken, which stay while others are made to be refused, and for those. */
-enum use { TAKEN, REFUSED_ONLY, USES };
+/* What is lent to be written: for the calls whose answers are taken, which stay while others are made, and for those. */
+enum use { TAKEN, OTHER, USES };
 static struct slot work_slots[USES][SIDES], answer_slots[USES][SIDES];
 
 /* A call with its runs on one side. */
-struct entered {
+struct made {
     const struct call *call;
     struct slot *work, *answer;
     struct lent lent;
@@ -18,7 +19,7 @@ struct entered {
 };
 
 /* Lends a run of so many bytes with the state, or as much of it as there is room for; what is left holds marks. */
-static void lend_state(struct entered *e, enum side side, size_t len)
+static void lend_state(struct made *e, enum side side, size_t len)
 {
     struct run state = e->call->given;
     if (len == state.len) {
@@ -31,26 +32,28 @@ static void lend_state(struct entered *e, enum side side, size_t len)
 }
 
 /* Lends all runs, a state or list and the answer with so many bytes, and calls. */
-static void enter(struct entered *e, const struct call *call, enum use use, enum side side, size_t work_len, size_t answer_len)
+static void enter(struct made *e, const struct call *call, enum use use, enum side side, size_t work_len, size_t answer_len)
 {
     e->call = call;
     e->work = &work_slots[use][side];
     e->answer = &answer_slots[use][side];
     for (size_t i = 0; i < call->reads; i++)
         e->lent.read[i] = call->read[i]->at[side];
+    e->lent.count = call->count;
     if (call->work == A_LIST)
         e->lent.work = lend_marked(e->work, side, work_len);
     if (call->work == A_STATE)
         lend_state(e, side, work_len);
     if (call->has_answer)
         e->lent.answer = lend_marked(e->answer, side, answer_len);
+    entered = call->name;
     e->refusal = call->enter(call->of, &e->lent);
     tally.calls++;
     tally.refused += e->refusal != 0;
 }
 
 /* After a refusal all must be as it was. */
-static void check_refused(const struct entered *e)
+static void check_refused(const struct made *e)
 {
     const struct call *call = e->call;
     struct run work = e->lent.work;
@@ -63,10 +66,10 @@ static void check_refused(const struct entered *e)
         give_up("changed", "the answer run, by a refusal");
 }
 
-/* How many bytes a list's entries take. */
+/* How many bytes a list's rows take. */
 static size_t listed(const struct call *call, const struct outcome *outcome)
 {
-    return outcome->count ? (size_t)outcome->values[0] * call->entry : 0;
+    return call->work == A_LIST && outcome->count ? (size_t)outcome->values[0] * call->row : 0;
 }
 
 /* How many bytes an answer takes. */
@@ -76,7 +79,7 @@ static size_t answered(const struct outcome *outcome)
 }
 
 /* Reads the answer run, and checks that nothing behind the values is written. */
-static void read_answer(const struct entered *e, struct outcome *outcome)
+static void read_answer(const struct made *e, struct outcome *outcome)
 {
     struct run run = e->lent.answer;
     outcome->count = number_at(run.at);
@@ -90,10 +93,10 @@ static void read_answer(const struct entered *e, struct outcome *outcome)
 }
 
 /* One call, and all that is to be looked at behind it. */
-static void once(const struct call *call, enum side side, size_t work_len, size_t answer_len, struct outcome *outcome)
+static void once(const struct call *call, enum use use, enum side side, size_t work_len, size_t answer_len, struct outcome *outcome)
 {
-    struct entered e;
-    enter(&e, call, TAKEN, side, work_len, answer_len);
+    struct made e;
+    enter(&e, call, use, side, work_len, answer_len);
     outcome->refusal = e.refusal;
     outcome->count = 0;
     if (e.refusal) {
@@ -108,7 +111,7 @@ static void once(const struct call *call, enum side side, size_t work_len, size_
     if (call->work == A_STATE)
         return;
     if (listed(call, outcome) > work_len)
-        give_up("unlike", "more entries than there is room for");
+        give_up("unlike", "more rows than there is room for");
     if (!is_marked_from(e.work, e.lent.work, listed(call, outcome)))
         give_up("changed", "bytes behind the list");
     is_written(e.work, e.lent.work, listed(call, outcome));
@@ -118,8 +121,8 @@ static void once(const struct call *call, enum side side, size_t work_len, size_
 static void refused(const struct call *call, uint32_t refusal, size_t work_len, size_t answer_len)
 {
     for (int side = BEHIND; side < SIDES; side++) {
-        struct entered e;
-        enter(&e, call, REFUSED_ONLY, side, work_len, answer_len);
+        struct made e;
+        enter(&e, call, OTHER, side, work_len, answer_len);
         if (e.refusal != refusal)
             give_up("unlike", "a refusal that the page doesn't have, or none");
         check_refused(&e);
@@ -146,78 +149,143 @@ static void check_same(const struct call *call, const struct outcome *a, const s
         same = a->values[i] == b->values[i];
     if (!same)
         give_up("unlike", "another answer where the runs lie elsewhere");
-    if (call->work != NO_WORK && !a->refusal && !is_same(a->work.at, b->work.at, b->work.len))
+    size_t written = call->work == A_LIST ? listed(call, a) : call->given.len;
+    if (call->work != NO_WORK && !a->refusal && !is_same(a->work.at, b->work.at, written))
         give_up("unlike", "another state or list where the runs lie elsewhere");
 }
 
-/* Lists and answers that are a byte too short. */
-static void too_short(const struct call *call, const struct outcome *full)
+/* The length of the work run where a list has so many bytes; a state's is its own. */
+static size_t work_room(const struct call *call, size_t list)
 {
-    size_t list = listed(call, full), work = call->work == A_LIST ? list : call->given.len;
-    if (call->has_answer)
-        refused(call, 3, work, answered(full) - 1);
-    if (call->work == A_LIST && list)
-        refused(call, 3, list - 1, answered(full));
+    return call->work == A_LIST ? list : call->given.len;
 }
 
-/* Columns or lists of another length. */
-static void reshaped(const struct call *call)
+/* Lists and answers that are too short. */
+static void too_short(const struct call *call, const struct outcome *full, bool by_more)
 {
-    for (size_t i = call->has_text; i < call->reads - call->sets; i++) {
-        size_t len = call->read[i]->run.len + (size_t)call->reshape;
-        if (call->reshape < 0 && !call->read[i]->run.len)
-            continue;
-        struct placed placed = keep_sealed((struct run){memset(keep(len), 1, len), len});
-        struct call other = *call;
-        other.read[i] = &placed;
-        refused_first(&other, call->reshaped, call->given.len);
+    size_t list = listed(call, full), answer = call->has_answer ? answered(full) : 0;
+    for (size_t less = 1; less <= answer; less += by_more ? 1 : answer)
+        refused(call, 3, work_room(call, list), answer - less);
+    const size_t lesses[] = {1, NUMBER, call->row, list};
+    for (size_t i = 0; list && i < (by_more ? sizeof lesses / sizeof *lesses : 1); i++)
+        refused(call, 3, list - lesses[i], answer);
+}
+
+/* Lists and answers that are just long enough, and a part of a row longer, or of a number. */
+static void odd_rooms(const struct call *call, const struct outcome *full)
+{
+    size_t list = listed(call, full), answer = call->has_answer ? answered(full) : 0;
+    size_t longest = call->work == A_LIST ? call->row : NUMBER;
+    for (size_t more = 0; more < longest; more++) {
+        struct outcome got;
+        once(call, OTHER, more % SIDES, work_room(call, list + more), answer + more % NUMBER, &got);
+        check_same(call, full, &got);
+    }
+}
+
+/* Of two numbers that would refuse a call, 0 being none, the one that is tried first. */
+static uint32_t tried_first(const struct call *call, uint32_t a, uint32_t b)
+{
+    for (const char *digit = call->order; *digit; digit++)
+        if (a == (uint32_t)(*digit - '0') || b == (uint32_t)(*digit - '0'))
+            return (uint32_t)(*digit - '0');
+    return a ? a : b;
+}
+
+/* A call with another run in the place of one that it reads. */
+static struct call with_run(const struct call *call, size_t i, struct run run)
+{
+    struct call other = *call;
+    struct placed *placed = keep(sizeof *placed);
+    *placed = keep_sealed(run);
+    other.read[i] = placed;
+    return other;
+}
+
+/* Columns that are a byte longer. */
+static void columns_differ(const struct call *call, uint32_t refusal)
+{
+    for (size_t i = call->columns; i < call->columns_end; i++) {
+        size_t len = call->read[i]->run.len + 1;
+        struct call other = with_run(call, i, (struct run){memset(keep(len), 1, len), len});
+        refused_first(&other, tried_first(call, 6, refusal), call->given.len);
+    }
+}
+
+/* Counts over a list's room, some of which have few low bits; and lists that are shorter than what is stated. */
+static void counts_over(const struct call *call, uint32_t refusal)
+{
+    struct run list = call->read[call->list]->run;
+    uint32_t room = (uint32_t)(list.len / REGION), number = tried_first(call, 5, refusal);
+    const uint32_t counts[] = {room + 1, room + (UINT32_C(1) << 29), UINT32_C(1) << 31, UINT32_MAX};
+    struct call other = with_run(call, call->list, list);
+    for (size_t i = 0; i < sizeof counts / sizeof *counts; i++) {
+        other.count = counts[i];
+        refused_first(&other, number, call->given.len);
+    }
+    for (size_t less = 1; less <= REGION && call->count == room && room; less++) {
+        other = with_run(call, call->list, (struct run){list.at, list.len - less});
+        refused_first(&other, number, call->given.len);
     }
 }
 
 /* States of another length, and with a cell over its limit. */
-static void misfits(const struct call *call)
+static void misfits(const struct call *call, uint32_t refusal)
 {
     size_t len = call->given.len;
-    refused_first(call, 2, len - 1);
-    refused_first(call, 2, len + 1);
+    uint32_t number = tried_first(call, 2, refusal);
+    refused_first(call, number, len - 1);
+    refused_first(call, number, len + 1);
     for (size_t k = 0; k < call->limited; k++) {
         struct call other = *call;
         if (call->limits[k] == UINT32_MAX)
             continue;
         other.given.at = memcpy(keep(len), call->given.at, len);
         put_number(other.given.at + k * NUMBER, call->limits[k] + 1);
-        refused_first(&other, 2, len);
+        refused_first(&other, number, len);
     }
 }
 
-static void in_wrong_shapes(const struct call *call)
+/* A call that was refused by this number, or by none, in wrong shapes. */
+static void in_wrong_shapes(const struct call *call, uint32_t refusal)
 {
-    if (call->reshape)
-        reshaped(call);
+    columns_differ(call, refusal);
+    if (call->has_list)
+        counts_over(call, refusal);
     if (call->work == A_STATE)
-        misfits(call);
+        misfits(call, refusal);
 }
 
 /* Whether rooms are made too short: always by itself, and for one call in eight of a block, which has many alike. */
-static bool is_shortened(void)
+static bool is_shortened(unsigned turn)
 {
-    static unsigned turn;
-    return thorough || ++turn % 8 == 0;
+    return thorough || turn % 8 == 0;
+}
+
+/* By turns none, and each part of a row that a room may have beside its rows. */
+static size_t odd(unsigned turn, size_t row, size_t room)
+{
+    return turn % (row - room % row);
 }
 
 void run_call(const struct call *call, struct outcome *outcome)
 {
+    static unsigned turn;
     struct outcome first;
-    once(call, BEHIND, call->given.len, ample(call), &first);
-    size_t tight = call->work == A_LIST && !first.refusal ? listed(call, &first) : call->given.len;
-    if (!call->is_huge) {
-        if (!first.refusal && is_shortened())
-            too_short(call, &first);
+    size_t row = call->work == A_LIST ? call->row : 1;
+    turn++;
+    once(call, TAKEN, BEHIND, call->given.len + odd(turn, row, call->given.len), ample(call), &first);
+    if (!call->is_huge && !first.refusal && is_shortened(turn)) {
+        too_short(call, &first, thorough);
         if (thorough)
-            in_wrong_shapes(call);
+            odd_rooms(call, &first);
     }
+    if (thorough && !call->is_again)
+        in_wrong_shapes(call, first.refusal);
     /* Where it was refused it is refused without room too, 3 being tried last. */
-    once(call, BEFORE, tight, first.refusal ? 0 : answered(&first), outcome);
+    size_t tight = call->work == A_LIST && !first.refusal ? listed(call, &first) : call->given.len;
+    size_t list = tight + odd(turn / 2 * (turn % 2), row, tight);
+    once(call, TAKEN, BEFORE, list, first.refusal ? 0 : answered(&first) + odd(turn / 2 * (turn % 2), NUMBER, 0), outcome);
     check_same(call, &first, outcome);
 }
 

@@ -1,10 +1,13 @@
 /* One call of the panel, made in several ways that must agree.
  *
  * Each time every lent run is flush against an inaccessible page: first the page behind it, then the page before it. The first time
- * there is room to spare, the second time none. Between them rooms are a byte too short, which must be refused with 3. After each call
- * every byte of a state, list or answer that wasn't to be written must be as it was, and some behind it; after a text's last call the
- * text; after a request all memory about what is written. Rules and sets, and long texts, lie where nothing can be written. A question
- * that is asked by itself is asked in wrong shapes too. */
+ * there is room to spare, the second time none, or less than a row; rooms are odd by turns. A list that is read has a part of a row
+ * behind it the first time, and the second time rows behind its stated count that would change the answer. Between them rooms are too
+ * short, by a byte or by more, which must be refused with 3. After each call every byte of a state, list or answer that wasn't to be
+ * written must be as it was, and some behind it; after a text's last call the text; after a request all memory about what is written.
+ * Rules and sets, and long texts, lie where nothing can be written. A question that is asked by itself is asked in wrong shapes too,
+ * with ample room and with none: columns that differ, counts over the room, lists cut short, states that don't fit. Where it was
+ * refused before, the number is the one that the entry tries first. */
 #ifndef CALL_H
 #define CALL_H
 
@@ -13,9 +16,10 @@
 
 enum { MOST_READ = 10, MOST_VALUES = 12, NUMBER = 4, REGION = 8, ITEM = 20 };
 
-/* The runs as they are lent. */
+/* The runs as they are lent, and how many regions a list that is read is said to have. */
 struct lent {
     struct run read[MOST_READ];
+    uint32_t count;
     struct run work;
     struct run answer;
 };
@@ -24,23 +28,28 @@ struct lent {
 enum work { NO_WORK, A_STATE, A_LIST };
 
 struct call {
+    /* The entry's name, and the digits of its refusals in the order in which they are tried, 3 for the answer run aside. */
+    const char *name, *order;
     /* Calls the entry; `of` is what it takes beside the runs. */
     uint32_t (*enter)(const void *of, const struct lent *lent);
     const void *of;
-    /* Whether the text is huge; the runs that are only read, the text first where there is one; how many sets are the last of them. */
-    bool is_huge, has_text;
-    size_t reads, sets;
+    /* Whether a text is huge; whether much the same was asked before, in wrong shapes too; the runs that are only read. */
+    bool is_huge, is_again;
+    size_t reads;
     const struct placed *read[MOST_READ];
-    /* How many bytes longer (or, less than 0, shorter) one of those between is made to be refused, and by which number; 0: no way. */
-    int reshape;
-    uint32_t reshaped;
+    /* Which of these are columns: from the first of them up to, but without, the end. */
+    size_t columns, columns_end;
+    /* Which is a list, where there is one, and its stated count. */
+    bool has_list;
+    size_t list;
+    uint32_t count;
     enum work work;
     /* Whether there is an answer run, and how many values it has at the most. */
     bool has_answer;
     size_t most_values;
-    /* The state, or a list's room, and how many bytes an entry of it takes. */
+    /* The state, or a list's room, and how many bytes a row of it takes. */
     struct run given;
-    size_t entry;
+    size_t row;
     /* What the first cells of a state may hold, and how many these are. */
     const uint32_t *limits;
     size_t limited;
@@ -61,6 +70,9 @@ extern bool thorough;
 extern struct tally {
     uint64_t calls, refused;
 } tally;
+
+/* The entry that was called last. */
+extern const char *entered;
 
 void run_call(const struct call *call, struct outcome *outcome);
 

@@ -1,5 +1,5 @@
 /* Building, by columns and by rule records, and the cursor. */
-#include "question.h"
+#include "list.h"
 
 #include <stdlib.h>
 #include <string.h>
@@ -24,25 +24,46 @@ static uint32_t enter_build_rules(const void *of, const struct lent *l)
                             l->work.at, l->work.len, l->answer.at, l->answer.len);
 }
 
-/* Builds by columns or by records into a list of so many bytes. */
-static void build(const struct question *q, const struct text *text, size_t room, bool records, struct outcome *got)
+static uint32_t enter_build_count(const void *of, const struct lent *l)
 {
-    struct call call = call_of(q, text);
-    const struct placed *const columns[] = {&q->fences, &q->mins, &q->symmetric, &q->times, &q->openers, &q->closers, &q->counts};
-    const struct placed *const rules[] = {&q->rules, &q->symmetric, &q->times, &q->openers, &q->closers, &q->counts};
-    memcpy(call.read + 1, records ? rules : columns, records ? sizeof rules : sizeof columns);
-    call.reads += (records ? sizeof rules : sizeof columns) / sizeof *rules;
-    call.enter = records ? enter_build_rules : enter_build;
-    call.reshape = 1;
-    call.reshaped = 6;
-    call.work = A_LIST;
-    call.entry = REGION;
-    call.given.len = room;
+    const struct question *q = of;
+    const struct run *r = l->read;
+    return rack_build_count(r[0].at, r[0].len, q->eol, q->escape, q->sep, q->tab, r[1].at, r[1].len, r[2].at, r[2].len,
+                            r[3].at, r[3].len, r[4].at, r[4].len, r[5].at, r[5].len, r[6].at, r[6].len, r[7].at, r[7].len,
+                            l->answer.at, l->answer.len);
+}
+
+static const struct entry by_columns = {"rack_build", "163", enter_build}, by_records = {"rack_build_rules", "163", enter_build_rules},
+                          counted = {"rack_build_count", "16", enter_build_count};
+
+/* Builds by columns into a list of so many bytes. */
+static void build(const struct question *q, const struct text *text, size_t room, struct outcome *got)
+{
+    struct call call = call_of(by_columns, q, text);
+    read_rules(&call, q);
+    write_list(&call, REGION, room);
     run_call(&call, got);
 }
 
+/* The same by records. */
+static void build_rules(const struct question *q, const struct text *text, size_t room, struct outcome *got)
+{
+    const struct placed *const rules[] = {&q->rules, &q->symmetric, &q->times, &q->openers, &q->closers, &q->counts};
+    struct call call = call_of(by_records, q, text);
+    read_columns(&call, rules, sizeof rules / sizeof *rules);
+    write_list(&call, REGION, room);
+    run_call(&call, got);
+}
+
+static void check_build_count(const struct question *q, const struct text *text, const struct outcome *built)
+{
+    struct call call = call_of(counted, q, text);
+    read_rules(&call, q);
+    check_count(&call, built);
+}
+
 /* Regions lie apart, so that at most every second byte begins one. */
-static size_t room_for(const struct text *text)
+size_t room_for_regions(const struct text *text)
 {
     return (text->size == HUGE ? HUGE_ROOM : text->bytes.run.len / 2 + 1) * REGION;
 }
@@ -64,22 +85,23 @@ static struct run copied(const struct outcome *got)
 /* The regions into a list of so many bytes, built in both ways, which must agree: a copy that stays until the next call. */
 static struct run built(const struct question *q, const struct text *text, size_t room, uint32_t *refusal)
 {
-    struct outcome by_columns, by_records;
-    build(q, text, room, false, &by_columns);
-    struct run regions = copied(&by_columns);
-    build(q, text, room, true, &by_records);
-    if (by_records.refusal != by_columns.refusal ||
-        (!by_records.refusal && by_records.values[0] * REGION != regions.len) ||
-        (regions.len && memcmp(by_records.work.at, regions.at, regions.len)))
+    struct outcome first, second;
+    build(q, text, room, &first);
+    struct run regions = copied(&first);
+    build_rules(q, text, room, &second);
+    if (second.refusal != first.refusal || (!second.refusal && second.values[0] * REGION != regions.len) ||
+        (regions.len && memcmp(second.work.at, regions.at, regions.len)))
         give_up("unlike", "regions by columns and by records");
-    *refusal = by_columns.refusal;
+    if (first.refusal != 3)
+        check_build_count(q, text, &first);
+    *refusal = first.refusal;
     return regions;
 }
 
 static void ask_build(const struct question *q, const struct text *text, size_t place, struct answer *a)
 {
     uint32_t refusal;
-    struct run regions = built(q, text, room_for(text), &refusal);
+    struct run regions = built(q, text, room_for_regions(text), &refusal);
     (void)place;
     if (refusal) {
         refuse(a, refusal);
@@ -109,9 +131,8 @@ static void ask_into(const struct question *q, const struct text *text, size_t p
         put(a, i * NUMBER < regions.len ? number_at(regions.at + i * NUMBER) : 1000 + q->cells - i);
 }
 
-/* A query: the list, the index, the place. */
+/* A query: the index and the place. */
 struct query {
-    const struct placed *list;
     uint32_t index;
     size_t place;
 };
@@ -119,24 +140,33 @@ struct query {
 static uint32_t enter_covering_end(const void *of, const struct lent *l)
 {
     const struct query *query = of;
-    return rack_covering_end(l->read[0].at, l->read[0].len, (uint32_t)(query->list->run.len / REGION), query->index, query->place,
-                             l->answer.at, l->answer.len);
+    return rack_covering_end(l->read[0].at, l->read[0].len, l->count, query->index, query->place, l->answer.at, l->answer.len);
 }
 
-static void query(const struct query *query, struct outcome *got)
+/* Asks about a list, all of whose regions are stated, for the first time or again. */
+static void query(const struct placed *list, struct query query, bool is_again, struct outcome *got)
 {
-    struct call call = {.enter = enter_covering_end, .of = query, .read = {query->list}, .reads = 1, .has_answer = true,
-                        .most_values = 2, .reshape = -1, .reshaped = 5};
+    struct call call = {.name = "rack_covering_end", .order = "5", .enter = enter_covering_end, .of = &query, .is_again = is_again,
+                        .has_answer = true, .most_values = 2};
+    read_list(&call, list, (uint32_t)(list->run.len / REGION));
     run_call(&call, got);
     if (got->refusal || !got->count || got->count > 2)
         give_up("unlike", "a query has an index, and an end or none");
+}
+
+/* A query about a list that is given. */
+static void query_given(const struct question *q, struct outcome *got)
+{
+    struct placed list = lent_list(q->list, q->count, UINT32_MAX);
+    query(&list, (struct query){q->index, q->place}, false, got);
+    check_list(&list);
 }
 
 static void ask_covering_end(const struct question *q, const struct text *text, size_t place, struct answer *a)
 {
     struct outcome got;
     (void)text, (void)place;
-    query(&(struct query){&q->list, q->index, q->place}, &got);
+    query_given(q, &got);
     clear(a, got.count == 2 ? SOME : NONE);
     if (got.count == 2)
         put_alone(a, got.values[1]);
@@ -147,7 +177,7 @@ static void ask_is_covered(const struct question *q, const struct text *text, si
 {
     struct outcome got;
     (void)text, (void)place;
-    query(&(struct query){&q->list, q->index, q->place}, &got);
+    query_given(q, &got);
     clear(a, SOME);
     put_alone(a, got.count == 2);
     put_alone(a, got.values[0]);
@@ -157,39 +187,38 @@ static void ask_is_covered(const struct question *q, const struct text *text, si
 static uint32_t put_query(const struct placed *list, uint32_t index, size_t place, struct answer *a)
 {
     struct outcome got;
-    query(&(struct query){list, index, place}, &got);
+    query(list, (struct query){index, place}, a->len, &got);
     put(a, got.count == 2 ? got.values[1] : 0);
     put(a, got.values[0]);
     return got.values[0];
 }
 
-bool regions_of(const struct question *q, const struct text *text, struct placed *regions, struct answer *a)
+bool regions_of(const struct question *q, const struct text *text, struct run *regions, struct answer *a)
 {
-    static struct rooms rooms;
     struct outcome got;
-    build(q, text, room_for(text), true, &got);
+    build_rules(q, text, room_for_regions(text), &got);
     if (got.refusal)
         refuse(a, got.refusal);
     else
-        *regions = place_run(&rooms, copied(&got));
+        *regions = copied(&got);
     return !got.refusal;
 }
 
 static void ask_cover(const struct question *q, const struct text *text, size_t place, struct answer *a)
 {
-    struct placed regions;
+    struct run regions;
     uint32_t index = 0;
     (void)place;
     if (!regions_of(q, text, &regions, a))
         return;
+    struct placed list = lent_list(regions, (uint32_t)(regions.len / REGION), text->bytes.run.len);
     clear(a, ALL);
     begin(a, LIST, 2);
     for (size_t at = 0; at <= text->bytes.run.len; at++)
-        index = put_query(&regions, index, at, a);
+        index = put_query(&list, index, at, a);
     for (size_t at = text->bytes.run.len + 1; at--;)
-        index = put_query(&regions, index, at, a);
-    if (!is_as_placed(&regions))
-        give_up("changed", "the cursor's list");
+        index = put_query(&list, index, at, a);
+    check_list(&list);
 }
 
 static void read_into(struct words *words, struct question *q)
@@ -200,8 +229,7 @@ static void read_into(struct words *words, struct question *q)
 
 static void read_query(struct words *words, struct question *q)
 {
-    struct numbers list = next_list(words, "regions are START:END", 2);
-    q->list = column_of_numbers(list, 0, 1);
+    read_regions(words, q);
     q->index = (uint32_t)next_number(words, "the index is a number", UINT32_MAX);
     q->place = next_number(words, "the place is a number", SIZE_MAX);
 }

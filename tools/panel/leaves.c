@@ -42,6 +42,10 @@ static uint32_t enter_search_bytes(const void *of, const struct lent *l)
                              l->answer.at, l->answer.len);
 }
 
+static const struct entry line_end = {"rack_find_line_end", "12", enter_find_line_end},
+                          escapes = {"rack_count_escape", "12", enter_count_escape},
+                          in_paragraph = {"rack_next_in_paragraph", "162", enter_next_in_paragraph};
+
 /* One value, or none. */
 static void tell_value(const struct call *call, struct answer *a)
 {
@@ -58,32 +62,21 @@ static void tell_value(const struct call *call, struct answer *a)
 
 static void ask_find_line_end(const struct question *q, const struct text *text, size_t place, struct answer *a)
 {
-    struct at at = {q, place};
-    struct call call = call_of(q, text);
-    call.enter = enter_find_line_end;
-    call.of = &at;
+    struct call call = call_of(line_end, &(struct at){q, place}, text);
     tell_value(&call, a);
 }
 
 static void ask_count_escape(const struct question *q, const struct text *text, size_t place, struct answer *a)
 {
-    struct at at = {q, place};
-    struct call call = call_of(q, text);
-    call.enter = enter_count_escape;
-    call.of = &at;
+    struct call call = call_of(escapes, &(struct at){q, place}, text);
     tell_value(&call, a);
 }
 
 static void ask_next_in_paragraph(const struct question *q, const struct text *text, size_t place, struct answer *a)
 {
-    struct at at = {q, place};
-    struct call call = call_of(q, text);
-    call.enter = enter_next_in_paragraph;
-    call.of = &at;
-    call.read[call.reads++] = &q->fences;
-    call.read[call.reads++] = &q->mins;
-    call.reshape = 1;
-    call.reshaped = 6;
+    const struct placed *const fences[] = {&q->fences, &q->mins};
+    struct call call = call_of(in_paragraph, &(struct at){q, place}, text);
+    read_columns(&call, fences, 2);
     tell_value(&call, a);
 }
 
@@ -97,7 +90,8 @@ static void put_values(struct answer *a, const struct outcome *got, size_t from)
 
 static void ask_probe_matcher(const struct question *q, const struct text *text, size_t place, struct answer *a)
 {
-    struct call call = {.enter = enter_probe_matcher, .read = {&q->accepted}, .reads = 1, .has_answer = true, .most_values = 5};
+    struct call call = {.name = "rack_probe_matcher", .order = "", .enter = enter_probe_matcher, .read = {&q->accepted}, .reads = 1,
+                        .has_answer = true, .most_values = 5};
     struct outcome got;
     (void)text, (void)place;
     run_call(&call, &got);
@@ -111,8 +105,8 @@ static void ask_probe_matcher(const struct question *q, const struct text *text,
 
 static void ask_build_needles(const struct question *q, const struct text *text, size_t place, struct answer *a)
 {
-    struct call call = {.enter = enter_search_bytes, .read = {&q->fences, &q->symmetric, &q->openers}, .reads = 3, .has_answer = true,
-                        .most_values = 12};
+    struct call call = {.name = "rack_search_bytes", .order = "", .enter = enter_search_bytes,
+                        .read = {&q->fences, &q->symmetric, &q->openers}, .reads = 3, .has_answer = true, .most_values = 12};
     struct outcome got;
     (void)text, (void)place;
     run_call(&call, &got);

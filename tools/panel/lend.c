@@ -110,23 +110,30 @@ void give_back(struct slot *slot)
     *slot = (struct slot){0};
 }
 
-struct placed place_run(struct rooms *rooms, struct run run)
+struct placed place_longer(struct rooms *rooms, struct run run, const size_t lens[SIDES])
 {
     struct placed placed = {.run = run};
     for (int side = BEHIND; side < SIDES; side++) {
         struct slot *slot = &rooms->side[side];
-        if (slot->size < run.len + BESIDE)
-            fit(slot, run.len);
-        placed.at[side] = flush_run(slot, side, run.len);
-        copy_bytes(placed.at[side].at, run.at, run.len);
+        if (slot->size < lens[side] + BESIDE)
+            fit(slot, lens[side]);
+        placed.at[side] = flush_run(slot, side, lens[side]);
+        copy_bytes(placed.at[side].at, run.at, lens[side]);
     }
     return placed;
 }
 
+struct placed place_run(struct rooms *rooms, struct run run)
+{
+    return place_longer(rooms, run, (size_t[SIDES]){run.len, run.len});
+}
+
 bool is_as_placed(const struct placed *placed)
 {
-    size_t len = placed->run.len;
-    return is_same(placed->run.at, placed->at[BEHIND].at, len) && is_same(placed->run.at, placed->at[BEFORE].at, len);
+    bool is_same_still = true;
+    for (int side = BEHIND; side < SIDES; side++)
+        is_same_still = is_same_still && is_same(placed->run.at, placed->at[side].at, placed->at[side].len);
+    return is_same_still;
 }
 
 struct run lend_sealed(enum side side, uint8_t byte, size_t times, struct run tail)

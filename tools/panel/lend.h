@@ -58,7 +58,8 @@ enum side { BEHIND, BEFORE, SIDES };
 
 enum { PAGE = 4096 };
 
-/* Bytes that are only read, and where they lie to be lent. */
+/* Bytes that are only read, and where they lie to be lent: on a side there may be more than the run itself, which then stands behind
+ * the run's own bytes too. */
 struct placed {
     struct run run;
     struct run at[SIDES];
@@ -131,6 +132,8 @@ struct rooms {
     struct slot side[SIDES];
 };
 struct placed place_run(struct rooms *rooms, struct run run);
+/* The same with other lengths on the two sides. */
+struct placed place_longer(struct rooms *rooms, struct run run, const size_t lens[SIDES]);
 bool is_as_placed(const struct placed *placed);
 
 /* A run in memory of its own that can only be read: so many times a byte, then the tail. Zero bytes take no memory. */

@@ -8,7 +8,7 @@
  *   unknown NAME     the panel has no entry for this question
  *   counts …         to `counts`: calls made, calls refused, questions asked, questions refused
  *
- * Behind `changed`, `unlike` and `fault` stand the text and the place that were asked about. */
+ * Behind `changed`, `unlike` and `fault` stand the entry that was called last, and the text and the place that were asked about. */
 #define _DEFAULT_SOURCE
 #include "block.h"
 
@@ -21,9 +21,11 @@
 
 static sigjmp_buf next_request;
 
-/* The text and place that were asked about. */
+/* The entry, the text and the place that were asked about. */
 static void print_asking(void)
 {
+    if (asking.text)
+        printf(" (%s)", entered);
     struct run run = asking.text ? asking.text->bytes.run : (struct run){0};
     if (!asking.text || asking.text->size == HUGE)
         return;

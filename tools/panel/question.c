@@ -1,12 +1,17 @@
 #include "question.h"
 
-struct placed column_of_numbers(struct numbers list, size_t first, size_t columns)
+struct run bytes_of_numbers(struct numbers list, size_t first, size_t columns)
 {
     size_t count = list.len / columns;
     struct run run = {keep(count * NUMBER), count * NUMBER};
     for (size_t i = 0; i < count; i++)
         put_number(run.at + i * NUMBER, (uint32_t)list.at[first + i * columns]);
-    return keep_sealed(run);
+    return run;
+}
+
+struct placed column_of_numbers(struct numbers list, size_t first, size_t columns)
+{
+    return keep_sealed(bytes_of_numbers(list, first, columns));
 }
 
 struct placed column_of_bytes(struct numbers list, size_t first, size_t columns)
@@ -19,6 +24,12 @@ struct placed column_of_bytes(struct numbers list, size_t first, size_t columns)
         run.at[i] = (uint8_t)list.at[first + i * columns];
     }
     return keep_sealed(run);
+}
+
+void read_regions(struct words *words, struct question *q)
+{
+    q->list = bytes_of_numbers(next_list(words, "regions are START:END", 2), 0, 1);
+    q->count = (uint32_t)(q->list.len / REGION);
 }
 
 void read_fences(struct words *words, struct question *q)
@@ -53,4 +64,18 @@ void read_grammar(struct words *words, struct question *q)
     read_fences(words, q);
     read_symmetric(words, q);
     read_asymmetric(words, q);
+}
+
+void read_rules(struct call *call, const struct question *q)
+{
+    const struct placed *const columns[] = {&q->fences, &q->mins, &q->symmetric, &q->times, &q->openers, &q->closers, &q->counts};
+    read_columns(call, columns, sizeof columns / sizeof *columns);
+}
+
+void check_count(const struct call *call, const struct outcome *listed)
+{
+    struct outcome got;
+    run_call(call, &got);
+    if (got.refusal != listed->refusal || (!got.refusal && got.values[0] != listed->values[0]))
+        give_up("unlike", "another count than the list has rows, or another refusal");
 }

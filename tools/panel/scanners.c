@@ -13,8 +13,7 @@ struct scanner {
     size_t cells, pos;
     const uint32_t *limits;
     size_t limited;
-    uint32_t (*fresh)(const void *of, const struct lent *lent);
-    uint32_t (*step)(const void *of, const struct lent *lent);
+    struct entry fresh, step;
     bool has_set;
     /* Which of an entry's values the Rust tells first, second and so on. */
     size_t order[4], told;
@@ -125,16 +124,17 @@ static const uint32_t item_limits[] = {255, 255, 255, UINT32_MAX, 255, 255, 255,
 /* Its other cells may hold any number, which may be one that the scanner refuses. */
 static const uint32_t cont_limits[] = {255, 255, 255, 255};
 
-static const struct scanner fence = {6, 5, fence_limits, 6, fresh_fence, step_fence, false, {0, 1}, 2, put_fence};
-static const struct scanner marker = {9, 3, item_limits, 9, fresh_marker, step_marker, true, {2, 0, 1}, 3, put_item};
-static const struct scanner numbered = {9, 3, item_limits, 9, fresh_numbered, step_numbered, true, {3, 2, 0, 1}, 4, put_item};
-static const struct scanner cont = {MOST_CELLS, 5, cont_limits, 4, fresh_cont, step_cont, false, {0, 1}, 2, put_cont};
+static const struct scanner fence = {6, 5, fence_limits, 6, {"rack_fence_new", "2", fresh_fence}, {"rack_fence_step", "12", step_fence}, false, {0, 1}, 2, put_fence};
+static const struct scanner marker = {9, 3, item_limits, 9, {"rack_marker_new", "2", fresh_marker}, {"rack_marker_step", "12", step_marker}, true, {2, 0, 1}, 3, put_item};
+static const struct scanner numbered = {9, 3, item_limits, 9, {"rack_numbered_new", "2", fresh_numbered}, {"rack_numbered_step", "12", step_numbered}, true, {3, 2, 0, 1}, 4, put_item};
+static const struct scanner cont = {MOST_CELLS, 5, cont_limits, 4, {"rack_cont_new", "2", fresh_cont}, {"rack_cont_step", "12", step_cont}, false, {0, 1}, 2, put_cont};
 
 /* The fresh state, written over a state of other cells. */
 static void make_fresh(const struct scanner *s, const struct question *q, uint8_t *state)
 {
     struct run given = {state, s->cells * NUMBER};
-    struct call call = {.enter = s->fresh, .of = q, .read = {&q->accepted}, .reads = s->has_set, .work = A_STATE, .given = given};
+    struct call call = {.name = s->fresh.name, .order = s->fresh.order, .enter = s->fresh.enter, .of = q, .read = {&q->accepted},
+                        .reads = s->has_set, .work = A_STATE, .given = given};
     struct outcome got;
     memset(state, 77, given.len);
     run_call(&call, &got);
@@ -146,8 +146,7 @@ static void make_fresh(const struct scanner *s, const struct question *q, uint8_
 /* One step of a state, which is then the next one. */
 static void make_step(const struct scanner *s, const struct question *q, const struct text *text, uint8_t *state, struct outcome *got)
 {
-    struct call call = call_of(q, text);
-    call.enter = s->step;
+    struct call call = call_of(s->step, q, text);
     if (s->has_set)
         call.read[call.reads++] = &q->accepted;
     call.most_values = s->told;

@@ -51,12 +51,22 @@ struct piece {
 };
 static struct piece *pieces;
 
-struct placed keep_sealed(struct run run)
+static struct placed kept_sealed(uint8_t byte, size_t times, struct run tail)
 {
     struct piece *piece = keep(sizeof *piece);
-    *piece = (struct piece){pieces, sealed(0, 0, run)};
+    *piece = (struct piece){pieces, sealed(byte, times, tail)};
     pieces = piece;
     return piece->placed;
+}
+
+struct placed keep_sealed(struct run run)
+{
+    return kept_sealed(0, 0, run);
+}
+
+struct text keep_text(struct text_word word)
+{
+    return (struct text){kept_sealed(word.byte, word.times, word.tail), word.times ? HUGE : LONG};
 }
 
 void give_back_sealed(void)

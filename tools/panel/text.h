@@ -22,8 +22,9 @@ struct text text_of_word(struct text_word word);
 void check_text(const struct text *text);
 void release(struct text *text);
 
-/* Bytes that lie where nothing can be written, until the request is answered. */
+/* Bytes, and texts, that lie where nothing can be written, until the request is answered. */
 struct placed keep_sealed(struct run run);
+struct text keep_text(struct text_word word);
 void give_back_sealed(void);
 
 #endif

@@ -135,6 +135,15 @@ static struct run hexed(const char *word)
     return run;
 }
 
+struct run next_part(char **rest)
+{
+    char *part = *rest, *stroke = strchr(part, '/');
+    if (stroke)
+        *stroke++ = 0;
+    *rest = stroke;
+    return hexed(part);
+}
+
 struct text_word next_text(struct words *words)
 {
     char *word = next_word(words, "a text is missing");

@@ -37,5 +37,7 @@ struct numbers next_list(struct words *words, const char *what, size_t columns);
 /* A list of bytes. */
 struct run next_bytes(struct words *words, const char *what);
 struct text_word next_text(struct words *words);
+/* The text up to the next stroke of a word; `*rest` is then behind the stroke, or null. */
+struct run next_part(char **rest);
 
 #endif

@@ -14,6 +14,8 @@ pub enum Head {
     State,
     /// The Rust panicked.
     Panic,
+    /// The page refuses, by the number that follows.
+    Refused,
 }
 
 pub enum Word {
@@ -61,11 +63,15 @@ impl Answer {
         Self::new(Head::All, vec![Word::List(found)])
     }
 
-    /// 0 for a panic, 2 for none, else 1; then the numbers of the words, a list's after its
+    pub fn refused(refusal: u64) -> Self {
+        Self::new(Head::Refused, vec![Word::Tuple(vec![refusal])])
+    }
+
+    /// 0 for a panic and a refusal, 2 for none, else 1; then the numbers of the words, a list's after its
     /// length. A text and accepted bytes add nothing: they aren't answered, but asked.
     pub fn numbers(&self) -> Vec<u64> {
         let mut numbers = vec![match self.head {
-            Head::Panic => 0,
+            Head::Panic | Head::Refused => 0,
             Head::None => 2,
             Head::Some | Head::All | Head::State => 1,
         }];
@@ -97,6 +103,7 @@ impl fmt::Display for Answer {
             Head::All => "all",
             Head::State => "state",
             Head::Panic => "panic",
+            Head::Refused => "refused",
         })?;
         self.words.iter().try_for_each(|word| write!(f, " {word}"))
     }

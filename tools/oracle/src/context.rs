@@ -126,7 +126,7 @@ pub fn question(name: &str, words: &mut Words) -> Result<Option<Question>, Strin
 
 /// The grammar bytes and the rules.
 pub struct Grammar {
-    eol: u8,
+    pub eol: u8,
     escape: u8,
     sep: u8,
     tab: u8,
@@ -160,6 +160,14 @@ impl Grammar {
         let (fences, sym, asym) = (&self.fences, &self.sym, &self.asym);
         let context = ParseContext::build(text, eol, escape, sep, tab, fences, sym, asym, 0);
         context.spans().to_vec()
+    }
+
+    /// "the escape, a symmetric byte or an asymmetric opener is the line-end byte"
+    pub fn has_line_end_mark(&self) -> bool {
+        let is_line_end = |&byte: &u8| byte == self.eol;
+        let symmetric = self.sym.iter().map(|(byte, _)| byte);
+        let openers = self.asym.iter().map(|(opener, ..)| opener);
+        is_line_end(&self.escape) || symmetric.chain(openers).any(is_line_end)
     }
 
     /// A region with what made it, by the tests that `build` makes in turn: where a fence opens the

@@ -1,6 +1,7 @@
 //! What `spans` prints for a text by the house grammar: the lists are the Rust's own; the lines, and the
 //! work sheet, which the Rust has not, are the page's (document 01, and document 02's request 2).
 
+use crate::amend::is_misshapen;
 use crate::answer::{Answer, Head, Word};
 use crate::question::{of_text, Question};
 use crate::words::Words;
@@ -34,6 +35,9 @@ pub fn question(name: &str, words: &mut Words) -> Result<Option<Question>, Strin
             let (eol, sep, tab) = (words.byte("eol")?, words.byte("sep")?, words.byte("tab")?);
             let (markers, delimiters) = (words.bytes("markers")?, words.bytes("delimiters")?);
             of_text(move |text| {
+                if is_misshapen(&regions, text.len()) {
+                    return Answer::refused(5);
+                }
                 let items = sheet(text, [eol, sep, tab], &markers, &delimiters, &regions);
                 Answer::all(items.iter().map(Item::five).collect())
             })

@@ -3,6 +3,7 @@
 //! One request on each line of standard input, one line of answer on standard output.
 //! `README.md` beside this folder lists the requests.
 
+mod amend;
 mod answer;
 mod block;
 mod context;
@@ -82,6 +83,7 @@ fn find(name: &str, words: &mut Words) -> Result<Question, String> {
         context::question,
         listing::question,
         reasons::question,
+        amend::question,
     ];
     for group in groups {
         if let Some(question) = group(name, words)? {

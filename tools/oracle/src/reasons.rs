@@ -1,6 +1,7 @@
 //! Why each line is not on the work sheet of the house grammar. The Rust has no explanation: what is on the sheet and
 //! what is hidden is told by its items and regions; what a line without an item lacks, by document 02.
 
+use crate::amend::is_misshapen;
 use crate::answer::Answer;
 use crate::context::Grammar;
 use crate::listing::{hider, items, sheet, Item, DELIMITERS, EOL, MARKERS, SEP, TAB};
@@ -16,9 +17,11 @@ pub fn question(name: &str, words: &mut Words) -> Result<Option<Question>, Strin
         }
         "reasons" => {
             let count: usize = words.number("count")?;
-            let mut regions = words.spans("regions")?;
-            regions.truncate(count);
-            of_text(move |text| Answer::all(reasons(text, &regions)))
+            let regions = words.spans("regions")?;
+            of_text(move |text| match regions.get(..count) {
+                Some(stated) if !is_misshapen(stated, text.len()) => Answer::all(reasons(text, stated)),
+                _ => Answer::refused(5),
+            })
         }
         _ => return Ok(None),
     }))

@@ -60,6 +60,11 @@ impl<'a> Words<'a> {
         }
     }
 
+    /// Texts in hexadecimal digits, parted by strokes.
+    pub fn texts(&mut self, what: &str) -> Result<Vec<Vec<u8>>, String> {
+        self.word(what)?.split('/').map(hexed).collect()
+    }
+
     /// A list whose entries are read by `entry` from their parts.
     fn list<T>(
         &mut self,

@@ -1,0 +1,51 @@
+#include "list.h"
+
+#include <stdlib.h>
+
+/* So many bytes that stay until the next time, the first of them these. */
+static struct run copied(struct run first, size_t len)
+{
+    static struct run copy;
+    if (copy.len < len)
+        copy = (struct run){realloc(copy.at, len), len};
+    if (!copy.at)
+        give_up("error", "no memory");
+    if (first.len)
+        memcpy(copy.at, first.at, first.len);
+    return (struct run){copy.at, len};
+}
+
+/* The row behind all regions, and marks in the place of a further row. */
+static void put_more(struct run all, size_t from, size_t length, bool hides)
+{
+    uint32_t end = from ? number_at(all.at + from - NUMBER) : 0;
+    bool has_rest = hides && end < length && length <= UINT32_MAX;
+    put_number(all.at + from, has_rest ? end : 0);
+    put_number(all.at + from + NUMBER, has_rest ? (uint32_t)length : UINT32_MAX);
+    memset(all.at + from + REGION, 1, all.len - from - REGION);
+}
+
+struct placed lent_list(struct run regions, uint32_t count, size_t length)
+{
+    static struct rooms rooms;
+    static unsigned turn;
+    size_t odd = ++turn % REGION;
+    struct run all = copied(regions, regions.len + 2 * REGION);
+    put_more(all, regions.len, length, turn / REGION % 2);
+    size_t more = count <= regions.len / REGION ? REGION : 0;
+    return place_longer(&rooms, (struct run){all.at, regions.len}, (size_t[SIDES]){regions.len + odd, regions.len + more + odd});
+}
+
+void check_list(const struct placed *list)
+{
+    if (!is_as_placed(list))
+        give_up("changed", "a list that is read");
+}
+
+void read_list(struct call *call, const struct placed *list, uint32_t count)
+{
+    call->has_list = true;
+    call->list = call->reads;
+    call->count = count;
+    call->read[call->reads++] = list;
+}
