@@ -3,8 +3,8 @@
 #include <string.h>
 
 bool thorough;
-struct tally tally;
-const char *entered;
+struct tally tallies[MOST_ENTRIES + 1];
+const struct tally *entered;
 
 /* What is lent to be written: for the calls whose answers are taken, which stay while others are made, and for those. */
 enum use { TAKEN, OTHER, USES };
@@ -31,6 +31,18 @@ static void lend_state(struct made *e, enum side side, size_t len)
     copy_bytes(e->lent.work.at, state.at, len < state.len ? len : state.len);
 }
 
+/* Where an entry's calls are counted. */
+static struct tally *tally_of(const char *name)
+{
+    struct tally *tally = tallies;
+    while (tally->name != name && tally->name)
+        tally++;
+    if (tally == tallies + MOST_ENTRIES)
+        give_up("error", "more entries than are counted");
+    tally->name = name;
+    return tally;
+}
+
 /* Lends all runs, a state or list and the answer with so many bytes, and calls. */
 static void enter(struct made *e, const struct call *call, enum use use, enum side side, size_t work_len, size_t answer_len)
 {
@@ -46,10 +58,11 @@ static void enter(struct made *e, const struct call *call, enum use use, enum si
         lend_state(e, side, work_len);
     if (call->has_answer)
         e->lent.answer = lend_marked(e->answer, side, answer_len);
-    entered = call->name;
+    struct tally *tally = tally_of(call->name);
+    entered = tally;
     e->refusal = call->enter(call->of, &e->lent);
-    tally.calls++;
-    tally.refused += e->refusal != 0;
+    tally->calls++;
+    tally->refused += e->refusal != 0;
 }
 
 /* After a refusal all must be as it was. */

@@ -66,13 +66,16 @@ struct outcome {
 /* Whether a question is asked in wrong shapes too. */
 extern bool thorough;
 
-/* How many calls were made, and how many of them were refused. */
-extern struct tally {
+/* The entries that were called, each with how many calls were made and how many of them refused; ended by one without a name. */
+enum { MOST_ENTRIES = 32 };
+struct tally {
+    const char *name;
     uint64_t calls, refused;
-} tally;
+};
+extern struct tally tallies[MOST_ENTRIES + 1];
 
 /* The entry that was called last. */
-extern const char *entered;
+extern const struct tally *entered;
 
 void run_call(const struct call *call, struct outcome *outcome);
 

@@ -6,7 +6,7 @@
  *   unlike WHY       two ways of asking give different answers, or an answer has another form than the entry's
  *   fault WHY        the entry touched memory that wasn't lent
  *   unknown NAME     the panel has no entry for this question
- *   counts …         to `counts`: calls made, calls refused, questions asked, questions refused
+ *   counts …         to `counts`: questions asked, questions refused, and for each entry that was called NAME:CALLS:REFUSED
  *
  * Behind `changed`, `unlike` and `fault` stand the entry that was called last, and the text and the place that were asked about. */
 #define _DEFAULT_SOURCE
@@ -25,7 +25,7 @@ static sigjmp_buf next_request;
 static void print_asking(void)
 {
     if (asking.text)
-        printf(" (%s)", entered);
+        printf(" (%s)", entered ? entered->name : "no entry");
     struct run run = asking.text ? asking.text->bytes.run : (struct run){0};
     if (!asking.text || asking.text->size == HUGE)
         return;
@@ -88,6 +88,14 @@ static void answer_one(const char *name, struct words *words, bool as_numbers)
     release(&text);
 }
 
+static void print_counts(void)
+{
+    printf("counts %" PRIu64 " %" PRIu64, questions.asked, questions.refused);
+    for (const struct tally *tally = tallies; tally->name; tally++)
+        printf(" %s:%" PRIu64 ":%" PRIu64, tally->name, tally->calls, tally->refused);
+    putchar('\n');
+}
+
 static void respond(struct words words)
 {
     const char *name = next_word(&words, "a request is missing");
@@ -100,8 +108,7 @@ static void respond(struct words words)
     else if (!strcmp(name, "numbers"))
         answer_one(next_word(&words, "a request is missing"), &words, true);
     else if (!strcmp(name, "counts"))
-        printf("counts %" PRIu64 " %" PRIu64 " %" PRIu64 " %" PRIu64 "\n", tally.calls, tally.refused, questions.asked,
-               questions.refused);
+        print_counts();
     else
         answer_one(name, &words, false);
 }
