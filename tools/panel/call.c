@@ -1,5 +1,6 @@
 #include "call.h"
 
+#include <stdio.h>
 #include <string.h>
 
 bool thorough;
@@ -136,8 +137,11 @@ static void refused(const struct call *call, uint32_t refusal, size_t work_len, 
     for (int side = BEHIND; side < SIDES; side++) {
         struct made e;
         enter(&e, call, OTHER, side, work_len, answer_len);
-        if (e.refusal != refusal)
-            give_up("unlike", "a refusal that the page doesn't have, or none");
+        if (e.refusal != refusal) {
+            char why[80];
+            snprintf(why, sizeof why, "a wrong shape or room gives %u in place of the refusal %u", (unsigned)e.refusal, (unsigned)refusal);
+            give_up("unlike", why);
+        }
         check_refused(&e);
     }
 }
@@ -161,7 +165,7 @@ static void check_same(const struct call *call, const struct outcome *a, const s
     for (size_t i = 0; same && i < a->count; i++)
         same = a->values[i] == b->values[i];
     if (!same)
-        give_up("unlike", "another answer where the runs lie elsewhere");
+        give_up("unlike", "another answer where the runs lie elsewhere, or rows stand behind a count");
     size_t written = call->work == A_LIST ? listed(call, a) : call->given.len;
     if (call->work != NO_WORK && !a->refusal && !is_same(a->work.at, b->work.at, written))
         give_up("unlike", "another state or list where the runs lie elsewhere");
@@ -269,16 +273,21 @@ static void in_wrong_shapes(const struct call *call, uint32_t refusal)
         misfits(call, refusal);
 }
 
-/* Whether rooms are made too short: always by itself, and for one call in eight of a block, which has many alike. */
-static bool is_shortened(unsigned turn)
-{
-    return thorough || turn % 8 == 0;
-}
-
 /* By turns none, and each part of a row that a room may have beside its rows. */
 static size_t odd(unsigned turn, size_t row, size_t room)
 {
     return turn % (row - room % row);
+}
+
+/* A call that was served in rooms that are too short, and in odd ones: always by itself, and for one call in eight of many alike. */
+static void in_other_rooms(const struct call *call, const struct outcome *full, unsigned turn)
+{
+    bool by_itself = thorough && !call->is_again;
+    if (call->is_huge || full->refusal || (!by_itself && turn % 8))
+        return;
+    too_short(call, full, by_itself);
+    if (by_itself)
+        odd_rooms(call, full);
 }
 
 void run_call(const struct call *call, struct outcome *outcome)
@@ -288,11 +297,7 @@ void run_call(const struct call *call, struct outcome *outcome)
     size_t row = call->work == A_LIST ? call->row : 1;
     turn++;
     once(call, TAKEN, BEHIND, call->given.len + odd(turn, row, call->given.len), ample(call), &first);
-    if (!call->is_huge && !first.refusal && is_shortened(turn)) {
-        too_short(call, &first, thorough);
-        if (thorough)
-            odd_rooms(call, &first);
-    }
+    in_other_rooms(call, &first, turn);
     if (thorough && !call->is_again)
         in_wrong_shapes(call, first.refusal);
     /* Where it was refused it is refused without room too, 3 being tried last. */

@@ -33,7 +33,7 @@ struct call {
     /* Calls the entry; `of` is what it takes beside the runs. */
     uint32_t (*enter)(const void *of, const struct lent *lent);
     const void *of;
-    /* Whether a text is huge; whether much the same was asked before, in wrong shapes too; the runs that are only read. */
+    /* Whether a text is huge; whether the call is one of many alike, the first of which is asked in all ways; the runs that are only read. */
     bool is_huge, is_again;
     size_t reads;
     const struct placed *read[MOST_READ];

@@ -144,9 +144,11 @@ static void make_fresh(const struct scanner *s, const struct question *q, uint8_
 }
 
 /* One step of a state, which is then the next one. */
-static void make_step(const struct scanner *s, const struct question *q, const struct text *text, uint8_t *state, struct outcome *got)
+static void make_step(const struct scanner *s, const struct question *q, const struct text *text, uint8_t *state, bool is_again,
+                      struct outcome *got)
 {
     struct call call = call_of(s->step, q, text);
+    call.is_again = is_again;
     if (s->has_set)
         call.read[call.reads++] = &q->accepted;
     call.most_values = s->told;
@@ -185,7 +187,7 @@ static void ask_step(const struct question *q, const struct text *text, size_t p
     struct outcome got;
     memcpy(state, q->state, s->cells * NUMBER);
     put_number(state + s->pos * NUMBER, (uint32_t)place);
-    make_step(s, q, text, state, &got);
+    make_step(s, q, text, state, false, &got);
     if (got.refusal) {
         refuse(a, got.refusal);
         return;
@@ -209,7 +211,7 @@ static void ask_run(const struct question *q, const struct text *text, size_t pl
     /* Each item and each frame has a byte of the text of its own. */
     for (size_t most = text->bytes.run.len + 1; most; most--) {
         struct outcome got;
-        make_step(s, q, text, state, &got);
+        make_step(s, q, text, state, a->len, &got);
         if (got.refusal) {
             refuse(a, got.refusal);
             return;

@@ -51,10 +51,10 @@ def questions(lengths):
 
 
 def by_counts(lengths):
-    """"The opening run must be exactly the count"; a count has 32 bits."""
-    for count, n in product((1, *lengths, 2**32 - 1), lengths):
+    """"The opening run must be exactly the count"; a count has 32 bits, so that one and a power of two is not one."""
+    for count, n in product((1, *lengths, 2**16 + 1, 2**24 + 1, 2**32 - 1), lengths):
         pairs = 10, 92, 32, 9, (), ((96, count),), ((60, 62, count),)
-        yield context.R, pairs, b'`' * n + b'a' + b'`' * min(count, 70_000) + b'`a`'
+        yield context.R, pairs, b'`' * n + b'a' + b'`' * (count if count in lengths else 1) + b' `a`'
         yield context.R, pairs, b'<' * n + b'a>' + b'<a>'
 
 
