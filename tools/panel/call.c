@@ -113,6 +113,7 @@ static void once(const struct call *call, enum use use, enum side side, size_t w
     enter(&e, call, use, side, work_len, answer_len);
     outcome->refusal = e.refusal;
     outcome->count = 0;
+    outcome->work = (struct run){0};
     if (e.refusal) {
         check_refused(&e);
         return;
@@ -274,13 +275,13 @@ static void in_wrong_shapes(const struct call *call, uint32_t refusal)
 }
 
 /* By turns none, and each part of a row that a room may have beside its rows. */
-static size_t odd(unsigned turn, size_t row, size_t room)
+static size_t odd(uint64_t turn, size_t row, size_t room)
 {
     return turn % (row - room % row);
 }
 
 /* A call that was served in rooms that are too short, and in odd ones: always by itself, and for one call in eight of many alike. */
-static void in_other_rooms(const struct call *call, const struct outcome *full, unsigned turn)
+static void in_other_rooms(const struct call *call, const struct outcome *full, uint64_t turn)
 {
     bool by_itself = thorough && !call->is_again;
     if (call->is_huge || full->refusal || (!by_itself && turn % 8))
@@ -292,18 +293,17 @@ static void in_other_rooms(const struct call *call, const struct outcome *full, 
 
 void run_call(const struct call *call, struct outcome *outcome)
 {
-    static unsigned turn;
     struct outcome first;
+    uint64_t turn = ++tally_of(call->name)->turns, odd_turn = turn % 2 ? turn / 2 : 0;
     size_t row = call->work == A_LIST ? call->row : 1;
-    turn++;
     once(call, TAKEN, BEHIND, call->given.len + odd(turn, row, call->given.len), ample(call), &first);
     in_other_rooms(call, &first, turn);
     if (thorough && !call->is_again)
         in_wrong_shapes(call, first.refusal);
     /* Where it was refused it is refused without room too, 3 being tried last. */
     size_t tight = call->work == A_LIST && !first.refusal ? listed(call, &first) : call->given.len;
-    size_t list = tight + odd(turn / 2 * (turn % 2), row, tight);
-    once(call, TAKEN, BEFORE, list, first.refusal ? 0 : answered(&first) + odd(turn / 2 * (turn % 2), NUMBER, 0), outcome);
+    size_t answer = first.refusal ? 0 : answered(&first) + odd(odd_turn, NUMBER, 0);
+    once(call, TAKEN, BEFORE, tight + odd(odd_turn, row, tight), answer, outcome);
     check_same(call, &first, outcome);
 }
 

@@ -66,11 +66,12 @@ struct outcome {
 /* Whether a question is asked in wrong shapes too. */
 extern bool thorough;
 
-/* The entries that were called, each with how many calls were made and how many of them refused; ended by one without a name. */
+/* The entries that were called, each with how many calls were made, how many of them refused, and how often one was made in several
+ * ways; ended by one without a name. */
 enum { MOST_ENTRIES = 32 };
 struct tally {
     const char *name;
-    uint64_t calls, refused;
+    uint64_t calls, refused, turns;
 };
 extern struct tally tallies[MOST_ENTRIES + 1];
 

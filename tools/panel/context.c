@@ -1,7 +1,6 @@
 /* Building, by columns and by rule records, and the cursor. */
 #include "list.h"
 
-#include <stdlib.h>
 #include <string.h>
 
 #include "../../include/rack.h"
@@ -69,17 +68,11 @@ size_t room_for_regions(const struct text *text)
 }
 
 /* The regions that a call left, as a copy that stays until the next one. */
-static struct run copied(const struct outcome *got)
+static struct run regions_left(const struct outcome *got)
 {
-    static struct run copy;
+    static struct run room;
     size_t len = got->refusal ? 0 : (size_t)got->values[0] * REGION;
-    if (copy.len < len)
-        copy = (struct run){realloc(copy.at, len), len};
-    if (len && !copy.at)
-        give_up("error", "no memory");
-    if (len)
-        memcpy(copy.at, got->work.at, len);
-    return (struct run){copy.at, len};
+    return copied(&room, (struct run){got->work.at, len}, len);
 }
 
 /* The regions into a list of so many bytes, built in both ways, which must agree: a copy that stays until the next call. */
@@ -87,7 +80,7 @@ static struct run built(const struct question *q, const struct text *text, size_
 {
     struct outcome first, second;
     build(q, text, room, &first);
-    struct run regions = copied(&first);
+    struct run regions = regions_left(&first);
     build_rules(q, text, room, &second);
     if (second.refusal != first.refusal || (!second.refusal && second.values[0] * REGION != regions.len) ||
         (regions.len && memcmp(second.work.at, regions.at, regions.len)))
@@ -200,7 +193,7 @@ bool regions_of(const struct question *q, const struct text *text, struct run *r
     if (got.refusal)
         refuse(a, got.refusal);
     else
-        *regions = copied(&got);
+        *regions = regions_left(&got);
     return !got.refusal;
 }
 

@@ -2,17 +2,15 @@
 
 #include <stdlib.h>
 
-/* So many bytes that stay until the next time, the first of them these. */
-static struct run copied(struct run first, size_t len)
+struct run copied(struct run *room, struct run first, size_t len)
 {
-    static struct run copy;
-    if (copy.len < len)
-        copy = (struct run){realloc(copy.at, len), len};
-    if (!copy.at)
+    if (room->len < len)
+        *room = (struct run){realloc(room->at, len), len};
+    if (len && !room->at)
         give_up("error", "no memory");
     if (first.len)
-        memcpy(copy.at, first.at, first.len);
-    return (struct run){copy.at, len};
+        memcpy(room->at, first.at, first.len);
+    return (struct run){room->at, len};
 }
 
 /* The row behind all regions, and marks in the place of a further row. */
@@ -28,9 +26,10 @@ static void put_more(struct run all, size_t from, size_t length, bool hides)
 struct placed lent_list(struct run regions, uint32_t count, size_t length)
 {
     static struct rooms rooms;
+    static struct run room;
     static unsigned turn;
     size_t odd = ++turn % REGION;
-    struct run all = copied(regions, regions.len + 2 * REGION);
+    struct run all = copied(&room, regions, regions.len + 2 * REGION);
     put_more(all, regions.len, length, turn / REGION % 2);
     size_t more = count <= regions.len / REGION ? REGION : 0;
     return place_longer(&rooms, (struct run){all.at, regions.len}, (size_t[SIDES]){regions.len + odd, regions.len + more + odd});

@@ -14,7 +14,7 @@ def texts(lengths):
     """Texts that are asked about by the house grammar, and places of them."""
     for n in lengths:
         for text, place in one_run(n):
-            yield text, (0, place, n, len(text))
+            yield text, sorted({0, place, n, len(text)})
         for less in (0, 1):
             yield from fenced(n, n - less)
     for n, mark in product(DIGITS, (b'. a', b') a', b'.a', b' a')):
