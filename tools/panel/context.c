@@ -84,7 +84,7 @@ static struct run built(const struct question *q, const struct text *text, size_
     build_rules(q, text, room, &second);
     if (second.refusal != first.refusal || (!second.refusal && second.values[0] * REGION != regions.len) ||
         (regions.len && memcmp(second.work.at, regions.at, regions.len)))
-        give_up("unlike", "regions by columns and by records");
+        give_up("unlike", "regions by rack_build and by rack_build_rules");
     if (first.refusal != 3)
         check_build_count(q, text, &first);
     *refusal = first.refusal;

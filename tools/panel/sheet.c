@@ -108,7 +108,7 @@ static void check_same_sheet(const struct answer *a, const struct answer *b)
     for (size_t i = 0; same && i < a->len; i++)
         same = a->numbers[i] == b->numbers[i];
     if (!same)
-        give_up("unlike", "the sheet by rules and by a list");
+        give_up("unlike", "the sheet by rack_sheet and by rack_sheet_listed");
 }
 
 /* The sheet by rules, and by the list that the same rules give. */
