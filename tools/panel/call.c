@@ -59,9 +59,9 @@ static void enter(struct made *e, const struct call *call, enum use use, enum si
         lend_state(e, side, work_len);
     if (call->has_answer)
         e->lent.answer = lend_marked(e->answer, side, answer_len);
-    struct tally *tally = tally_of(call->name);
+    struct tally *tally = tally_of(call->entry.name);
     entered = tally;
-    e->refusal = call->enter(call->of, &e->lent);
+    e->refusal = call->entry.enter(call->of, &e->lent);
     tally->calls++;
     tally->refused += e->refusal != 0;
 }
@@ -204,7 +204,7 @@ static void odd_rooms(const struct call *call, const struct outcome *full)
 /* Of two numbers that would refuse a call, 0 being none, the one that is tried first. */
 static uint32_t tried_first(const struct call *call, uint32_t a, uint32_t b)
 {
-    for (const char *digit = call->order; *digit; digit++)
+    for (const char *digit = call->entry.order; *digit; digit++)
         if (a == (uint32_t)(*digit - '0') || b == (uint32_t)(*digit - '0'))
             return (uint32_t)(*digit - '0');
     return a ? a : b;
@@ -294,7 +294,7 @@ static void in_other_rooms(const struct call *call, const struct outcome *full, 
 void run_call(const struct call *call, struct outcome *outcome)
 {
     struct outcome first;
-    uint64_t turn = ++tally_of(call->name)->turns, odd_turn = turn % 2 ? turn / 2 : 0;
+    uint64_t turn = ++tally_of(call->entry.name)->turns, odd_turn = turn % 2 ? turn / 2 : 0;
     size_t row = call->work == A_LIST ? call->row : 1;
     once(call, TAKEN, BEHIND, call->given.len + odd(turn, row, call->given.len), ample(call), &first);
     in_other_rooms(call, &first, turn);

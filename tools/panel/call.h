@@ -27,11 +27,15 @@ struct lent {
 /* What is written beside the answer run: nothing, a state, whose bytes are given, or a list. */
 enum work { NO_WORK, A_STATE, A_LIST };
 
-struct call {
-    /* The entry's name, and the digits of its refusals in the order in which they are tried, 3 for the answer run aside. */
+/* An entry: its name, the digits of its refusals in the order in which they are tried, 3 for the answer run aside, and what calls it. */
+struct entry {
     const char *name, *order;
-    /* Calls the entry; `of` is what it takes beside the runs. */
     uint32_t (*enter)(const void *of, const struct lent *lent);
+};
+
+struct call {
+    /* The entry, and what it takes beside the runs. */
+    struct entry entry;
     const void *of;
     /* Whether a text is huge; whether the call is one of many alike, the first of which is asked in all ways; the runs that are only read. */
     bool is_huge, is_again;

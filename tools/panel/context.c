@@ -139,8 +139,8 @@ static uint32_t enter_covering_end(const void *of, const struct lent *l)
 /* Asks about a list, all of whose regions are stated, for the first time or again. */
 static void query(const struct placed *list, struct query query, bool is_again, struct outcome *got)
 {
-    struct call call = {.name = "rack_covering_end", .order = "5", .enter = enter_covering_end, .of = &query, .is_again = is_again,
-                        .has_answer = true, .most_values = 2};
+    struct call call = {.entry = {"rack_covering_end", "5", enter_covering_end}, .of = &query, .is_again = is_again, .has_answer = true,
+                        .most_values = 2};
     read_list(&call, list, (uint32_t)(list->run.len / REGION));
     run_call(&call, got);
     if (got->refusal || !got->count || got->count > 2)

@@ -90,8 +90,8 @@ static void put_values(struct answer *a, const struct outcome *got, size_t from)
 
 static void ask_probe_matcher(const struct question *q, const struct text *text, size_t place, struct answer *a)
 {
-    struct call call = {.name = "rack_probe_matcher", .order = "", .enter = enter_probe_matcher, .read = {&q->accepted}, .reads = 1,
-                        .has_answer = true, .most_values = 5};
+    struct call call = {.entry = {"rack_probe_matcher", "", enter_probe_matcher}, .read = {&q->accepted}, .reads = 1, .has_answer = true,
+                        .most_values = 5};
     struct outcome got;
     (void)text, (void)place;
     run_call(&call, &got);
@@ -105,8 +105,8 @@ static void ask_probe_matcher(const struct question *q, const struct text *text,
 
 static void ask_build_needles(const struct question *q, const struct text *text, size_t place, struct answer *a)
 {
-    struct call call = {.name = "rack_search_bytes", .order = "", .enter = enter_search_bytes,
-                        .read = {&q->fences, &q->symmetric, &q->openers}, .reads = 3, .has_answer = true, .most_values = 12};
+    struct call call = {.entry = {"rack_search_bytes", "", enter_search_bytes}, .read = {&q->fences, &q->symmetric, &q->openers},
+                        .reads = 3, .has_answer = true, .most_values = 12};
     struct outcome got;
     (void)text, (void)place;
     run_call(&call, &got);

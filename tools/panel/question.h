@@ -70,17 +70,11 @@ bool regions_of(const struct question *q, const struct text *text, struct run *r
 /* Room for the regions of a text, in bytes. */
 size_t room_for_regions(const struct text *text);
 
-/* An entry: its name, its refusals in order, and what calls it. */
-struct entry {
-    const char *name, *order;
-    uint32_t (*enter)(const void *of, const struct lent *lent);
-};
-
 /* A call that reads this text first, and answers one value. */
 static inline struct call call_of(struct entry entry, const void *of, const struct text *text)
 {
-    return (struct call){.name = entry.name, .order = entry.order, .enter = entry.enter, .of = of, .is_huge = text->size == HUGE,
-                         .read = {&text->bytes}, .reads = 1, .has_answer = true, .most_values = 1};
+    return (struct call){.entry = entry, .of = of, .is_huge = text->size == HUGE, .read = {&text->bytes}, .reads = 1, .has_answer = true,
+                         .most_values = 1};
 }
 
 /* The call reads these columns next. */

@@ -124,17 +124,20 @@ static const uint32_t item_limits[] = {255, 255, 255, UINT32_MAX, 255, 255, 255,
 /* Its other cells may hold any number, which may be one that the scanner refuses. */
 static const uint32_t cont_limits[] = {255, 255, 255, 255};
 
-static const struct scanner fence = {6, 5, fence_limits, 6, {"rack_fence_new", "2", fresh_fence}, {"rack_fence_step", "12", step_fence}, false, {0, 1}, 2, put_fence};
-static const struct scanner marker = {9, 3, item_limits, 9, {"rack_marker_new", "2", fresh_marker}, {"rack_marker_step", "12", step_marker}, true, {2, 0, 1}, 3, put_item};
-static const struct scanner numbered = {9, 3, item_limits, 9, {"rack_numbered_new", "2", fresh_numbered}, {"rack_numbered_step", "12", step_numbered}, true, {3, 2, 0, 1}, 4, put_item};
-static const struct scanner cont = {MOST_CELLS, 5, cont_limits, 4, {"rack_cont_new", "2", fresh_cont}, {"rack_cont_step", "12", step_cont}, false, {0, 1}, 2, put_cont};
+static const struct scanner fence = {6, 5, fence_limits, 6,
+    {"rack_fence_new", "2", fresh_fence}, {"rack_fence_step", "12", step_fence}, false, {0, 1}, 2, put_fence};
+static const struct scanner marker = {9, 3, item_limits, 9,
+    {"rack_marker_new", "2", fresh_marker}, {"rack_marker_step", "12", step_marker}, true, {2, 0, 1}, 3, put_item};
+static const struct scanner numbered = {9, 3, item_limits, 9,
+    {"rack_numbered_new", "2", fresh_numbered}, {"rack_numbered_step", "12", step_numbered}, true, {3, 2, 0, 1}, 4, put_item};
+static const struct scanner cont = {MOST_CELLS, 5, cont_limits, 4,
+    {"rack_cont_new", "2", fresh_cont}, {"rack_cont_step", "12", step_cont}, false, {0, 1}, 2, put_cont};
 
 /* The fresh state, written over a state of other cells. */
 static void make_fresh(const struct scanner *s, const struct question *q, uint8_t *state)
 {
     struct run given = {state, s->cells * NUMBER};
-    struct call call = {.name = s->fresh.name, .order = s->fresh.order, .enter = s->fresh.enter, .of = q, .read = {&q->accepted},
-                        .reads = s->has_set, .work = A_STATE, .given = given};
+    struct call call = {.entry = s->fresh, .of = q, .read = {&q->accepted}, .reads = s->has_set, .work = A_STATE, .given = given};
     struct outcome got;
     memset(state, 77, given.len);
     run_call(&call, &got);

@@ -1,10 +1,10 @@
 """Amendments, for `tools/compare`: grammars, replacements, and edits that are drawn. None is stored: the program `amends` makes its own."""
 from . import context
-from .ask import hexed
+from .ask import commas, hexed
 
 # line end, tilde, less, greater, backtick
 FEW = b'\n~<>`'
-# The page's example P11, and its places: behind an empty line, within a fence, at the end.
+# The page's example P11.
 NOTE = b'`a`\n\n~~~\nb\n~~~\n\n<c>'
 
 
@@ -45,7 +45,7 @@ def of_built(text, *of):
 
 def of_given(regions, text, *of):
     """The same by a list that is given."""
-    return 'amend', ','.join(f'{start}:{end}' for start, end in regions) or '-', *edit(*of), hexed(text)
+    return 'amend', commas(regions), *edit(*of), hexed(text)
 
 
 def joints(text, eol):
