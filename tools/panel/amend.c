@@ -40,7 +40,7 @@ static void amend(const struct edit *edit, const struct text *old, const struct 
 static void put_regions(const struct outcome *got, struct answer *a)
 {
     for (size_t i = 0; i < (size_t)got->values[0] * REGION; i += NUMBER)
-        put(a, number_at(got->work.at + i));
+        put(a, rack_number(got->work.at + i));
 }
 
 /* One amendment of a text by these regions. */

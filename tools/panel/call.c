@@ -96,11 +96,11 @@ static size_t answered(const struct outcome *outcome)
 static void read_answer(const struct made *e, struct outcome *outcome)
 {
     struct run run = e->lent.answer;
-    outcome->count = number_at(run.at);
+    outcome->count = rack_number(run.at);
     if (outcome->count > e->call->most_values || answered(outcome) > run.len)
         give_up("unlike", "more values than any entry has");
     for (size_t i = 0; i < outcome->count; i++)
-        outcome->values[i] = number_at(run.at + (i + 1) * NUMBER);
+        outcome->values[i] = rack_number(run.at + (i + 1) * NUMBER);
     if (!is_marked_from(e->answer, run, answered(outcome)))
         give_up("changed", "bytes behind the answer");
     is_written(e->answer, run, answered(outcome));
@@ -259,7 +259,7 @@ static void misfits(const struct call *call, uint32_t refusal)
         if (call->limits[k] == UINT32_MAX)
             continue;
         other.given.at = memcpy(keep(len), call->given.at, len);
-        put_number(other.given.at + k * NUMBER, call->limits[k] + 1);
+        rack_put_number(other.given.at + k * NUMBER, call->limits[k] + 1);
         refused_first(&other, number, len);
     }
 }

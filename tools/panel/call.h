@@ -11,6 +11,7 @@
 #ifndef CALL_H
 #define CALL_H
 
+#include "../../include/rack.h"
 #include "lend.h"
 #include "text.h"
 
@@ -88,18 +89,5 @@ void run_call(const struct call *call, struct outcome *outcome);
 void check_slots(void);
 /* After a request that was given up: what it left must not be laid to the next one. */
 void give_back_slots(void);
-
-static inline uint32_t number_at(const uint8_t *at)
-{
-    return (uint32_t)at[0] | (uint32_t)at[1] << 8 | (uint32_t)at[2] << 16 | (uint32_t)at[3] << 24;
-}
-
-static inline void put_number(uint8_t *at, uint32_t n)
-{
-    at[0] = (uint8_t)n;
-    at[1] = (uint8_t)(n >> 8);
-    at[2] = (uint8_t)(n >> 16);
-    at[3] = (uint8_t)(n >> 24);
-}
 
 #endif

@@ -103,7 +103,7 @@ static void ask_build(const struct question *q, const struct text *text, size_t 
     clear(a, ALL);
     begin(a, LIST, 2);
     for (size_t i = 0; i < regions.len; i += NUMBER)
-        put(a, number_at(regions.at + i));
+        put(a, rack_number(regions.at + i));
 }
 
 /* Into so many cells; those that nothing is written to hold what the oracle's held. */
@@ -121,7 +121,7 @@ static void ask_into(const struct question *q, const struct text *text, size_t p
     put_alone(a, refusal);
     begin(a, LIST, 1);
     for (size_t i = 0; i < q->cells; i++)
-        put(a, i * NUMBER < regions.len ? number_at(regions.at + i * NUMBER) : 1000 + q->cells - i);
+        put(a, i * NUMBER < regions.len ? rack_number(regions.at + i * NUMBER) : 1000 + q->cells - i);
 }
 
 /* A query: the index and the place. */

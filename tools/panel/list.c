@@ -16,10 +16,10 @@ struct run copied(struct run *room, struct run first, size_t len)
 /* The row behind all regions, and marks in the place of a further row. */
 static void put_more(struct run all, size_t from, size_t length, bool hides)
 {
-    uint32_t end = from ? number_at(all.at + from - NUMBER) : 0;
+    uint32_t end = from ? rack_number(all.at + from - NUMBER) : 0;
     bool has_rest = hides && end < length && length <= UINT32_MAX;
-    put_number(all.at + from, has_rest ? end : 0);
-    put_number(all.at + from + NUMBER, has_rest ? (uint32_t)length : UINT32_MAX);
+    rack_put_number(all.at + from, has_rest ? end : 0);
+    rack_put_number(all.at + from + NUMBER, has_rest ? (uint32_t)length : UINT32_MAX);
     memset(all.at + from + REGION, 1, all.len - from - REGION);
 }
 

@@ -5,7 +5,7 @@ struct run bytes_of_numbers(struct numbers list, size_t first, size_t columns)
     size_t count = list.len / columns;
     struct run run = {keep(count * NUMBER), count * NUMBER};
     for (size_t i = 0; i < count; i++)
-        put_number(run.at + i * NUMBER, (uint32_t)list.at[first + i * columns]);
+        rack_put_number(run.at + i * NUMBER, (uint32_t)list.at[first + i * columns]);
     return run;
 }
 

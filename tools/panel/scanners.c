@@ -77,7 +77,7 @@ static void put_array(struct answer *a, enum kind kind, size_t columns, const ui
     if (a->room - a->len < len)
         make_room(a, len);
     for (size_t k = 0; k < len; k++)
-        a->numbers[a->len + k] = number_at(state + (from + k) * NUMBER);
+        a->numbers[a->len + k] = rack_number(state + (from + k) * NUMBER);
     a->len += len;
     a->words[a->words_len - 1].len = len;
 }
@@ -189,7 +189,7 @@ static void ask_step(const struct question *q, const struct text *text, size_t p
     uint8_t state[MOST_CELLS * NUMBER];
     struct outcome got;
     memcpy(state, q->state, s->cells * NUMBER);
-    put_number(state + s->pos * NUMBER, (uint32_t)place);
+    rack_put_number(state + s->pos * NUMBER, (uint32_t)place);
     make_step(s, q, text, state, false, &got);
     if (got.refusal) {
         refuse(a, got.refusal);
@@ -237,7 +237,7 @@ static void read_blanks(struct words *words, struct question *q)
 static void make_state(struct question *q, const uint32_t *cells, size_t count)
 {
     for (size_t k = 0; k < count; k++)
-        put_number(q->state + k * NUMBER, cells[k]);
+        rack_put_number(q->state + k * NUMBER, cells[k]);
 }
 
 static void read_fence(struct words *words, struct question *q)
@@ -286,12 +286,12 @@ static void read_cells(struct words *words, const char *what, size_t columns, st
     if (list.len > size)
         give_up("error", what);
     for (size_t i = 0; i < list.len; i++)
-        put_number(q->state + (first + i) * NUMBER, (uint32_t)list.at[i]);
+        rack_put_number(q->state + (first + i) * NUMBER, (uint32_t)list.at[i]);
 }
 
 static void read_cell(struct words *words, const char *what, struct question *q, size_t cell)
 {
-    put_number(q->state + cell * NUMBER, (uint32_t)next_number(words, what, UINT32_MAX));
+    rack_put_number(q->state + cell * NUMBER, (uint32_t)next_number(words, what, UINT32_MAX));
 }
 
 static void read_cont_step(struct words *words, struct question *q)

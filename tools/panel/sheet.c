@@ -75,7 +75,7 @@ static void put_items(const struct outcome *got, struct answer *a)
     clear(a, ALL);
     begin(a, LIST, ITEM / NUMBER);
     for (size_t i = 0; i < (size_t)got->values[0] * ITEM; i += NUMBER)
-        put(a, number_at(got->work.at + i));
+        put(a, rack_number(got->work.at + i));
 }
 
 /* Puts the sheet by rules, with its count. */
