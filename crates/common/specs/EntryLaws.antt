@@ -84,6 +84,11 @@ pub holds-shaped : (from len : ℕ) (l : List (List ℕ)) → Shaped from len l 
 holds-shaped from len [] h = refl
 holds-shaped from len (r ∷ l) h = rw (le-leb from (startOf r) (h .0), lt-ltb (startOf r) (stopOf r) (h .1), le-leb (stopOf r) len (h .2), holds-shaped (stopOf r) len l (h .3))
 
+-- rows in order are no more than the places up to the last
+pub shaped-few : (from len : ℕ) (l : List (List ℕ)) → from ≤ len → Shaped from len l → from + length l ≤ len
+shaped-few from len [] h s = omega arith
+shaped-few from len (r ∷ l) h s = omega (arith, shaped-few (stopOf r) len l (s .2) (s .3), s .0, s .1)
+
 pub fails-shaped : (from len : ℕ) (l : List (List ℕ)) → (Shaped from len l → ⊥) → false ≡ shaped from len l
 fails-shaped from len l n = by (shaped from len l) refl
   where

@@ -4,6 +4,7 @@ use mathlib.Core.Path.{_≡_}
 use mathlib.Core.Bool.{Bool}
 use mathlib.Core.List.{List, [], _∷_}
 use Prim.Native.Nat.{ℕ, _+_, _*_}
+use lib.Dec.{ltb}
 use lib.ListN.{length}
 use Rattle.common.specs.Entry.{flatten, over, overfull, putAt}
 use Rattle.common.specs.Refusals.{Outcome, given, refuse, leaves, tooLong}
@@ -35,6 +36,12 @@ filledAnswer w l out = refuse 3 (crowded w l out) (given (length l ∷ []))
 abbrev pub filledList : {A : Type 0} → (A → List ℕ) → ℕ → List A → List ℕ → List ℕ
 filledList flat w l out = filledBy (filledAnswer w l out) (flatten flat l) out
 
+-- ---- a text's bytes, written where there is room for all of them
+-- "Output is written only when all of it fits": 3, else how many bytes
+abbrev pub textAnswer : List ℕ → List ℕ → Outcome
+textAnswer b out = refuse 3 (ltb (length out) (length b)) (given (length b ∷ []))
+
+-- ---- what is refused before
 -- "For building: 1, 6, 3.": the first two, which a text and rules whose columns may differ decide, else what follows
 abbrev pub ruled : Bool → List ℕ → Outcome → Outcome
 ruled differing s o = refuse 1 (tooLong s) (refuse 6 differing o)

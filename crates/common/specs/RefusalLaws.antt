@@ -9,7 +9,7 @@ use borrow.Author.Tests.{lt-ltb, le-ltb, eq-eqb, ne-eqb}
 use Rattle.search.specs.Promise.{Gives, gives-unique}
 use Rattle.common.specs.Refusals.{Outcome, given, refused, refuse, numberOf, refusalOf, read, unlessNone, told, toldFound, spanBack, toldSpan}
 use Rattle.common.specs.declared.refusal.Refusal.{Refusal}
-use Rattle.common.specs.declared.refusal.Refusal.the-variants.{TextTooLong, PlaceOutside, NoRoom, CutsOutOfOrder, ListMisshapen, ColumnsDiffer, NotAtJoint, ReplacementOpen, LineEndMark}
+use Rattle.common.specs.declared.refusal.Refusal.the-variants.{TextTooLong, PlaceOutside, NoRoom, CutsOutOfOrder, ListMisshapen, ColumnsDiffer, NotAtJoint, ReplacementOpen, LineEndMark, NotRecords}
 use Rattle.common.specs.declared.refusal.Answer.{Answer}
 use Rattle.common.specs.declared.refusal.Answer.the-variants as answer
 use Rattle.common.specs.declared.refusal.Found.{Found}
@@ -48,6 +48,7 @@ number-is ColumnsDiffer = (refl, refl)
 number-is NotAtJoint = (refl, refl)
 number-is ReplacementOpen = (refl, refl)
 number-is LineEndMark = (refl, refl)
+number-is NotRecords = (refl, refl)
 
 pub number-some : (r : Refusal) → eqb (numberOf r) 0 ≡ false
 number-some r = number-is r .1

@@ -6,7 +6,7 @@ use Prim.Native.Nat.{ℕ}
 use lib.Dec.{eqb, ltb}
 use lib.ListN.{length, getD}
 use Rattle.common.specs.declared.refusal.Refusal.{Refusal}
-use Rattle.common.specs.declared.refusal.Refusal.the-variants.{TextTooLong, PlaceOutside, NoRoom, CutsOutOfOrder, ListMisshapen, ColumnsDiffer, NotAtJoint, ReplacementOpen, LineEndMark}
+use Rattle.common.specs.declared.refusal.Refusal.the-variants.{TextTooLong, PlaceOutside, NoRoom, CutsOutOfOrder, ListMisshapen, ColumnsDiffer, NotAtJoint, ReplacementOpen, LineEndMark, NotRecords}
 use Rattle.common.specs.declared.refusal.Answer.{Answer}
 use Rattle.common.specs.declared.refusal.Answer.the-variants as answer
 use Rattle.common.specs.declared.refusal.Found.{Found}
@@ -26,6 +26,7 @@ numberOf ColumnsDiffer = 6
 numberOf NotAtJoint = 7
 numberOf ReplacementOpen = 8
 numberOf LineEndMark = 9
+numberOf NotRecords = 10
 
 -- what the page says of an answer
 pub record Outcome : Type 0 where
@@ -77,7 +78,7 @@ toldSpan (spanned.Refused r) = refused (numberOf r)
 -- the refusal of a number
 unfoldable pub refusalOf : ℕ → Refusal
 refusalOf n =
-    getD (TextTooLong ∷ TextTooLong ∷ PlaceOutside ∷ NoRoom ∷ CutsOutOfOrder ∷ ListMisshapen ∷ ColumnsDiffer ∷ NotAtJoint ∷ ReplacementOpen ∷ LineEndMark ∷ []) n LineEndMark
+    getD (TextTooLong ∷ TextTooLong ∷ PlaceOutside ∷ NoRoom ∷ CutsOutOfOrder ∷ ListMisshapen ∷ ColumnsDiffer ∷ NotAtJoint ∷ ReplacementOpen ∷ LineEndMark ∷ NotRecords ∷ []) n NotRecords
 
 -- served by its values, or refused by its number
 unfoldable pub read : {A : Type 0} → (List ℕ → A) → (Refusal → A) → Outcome → A

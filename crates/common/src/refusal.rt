@@ -13,6 +13,7 @@ pub enum Refusal {
     NotAtJoint,
     ReplacementOpen,
     LineEndMark,
+    NotRecords,
 }
 
 // A number, or a refusal.
@@ -43,6 +44,7 @@ impl Refusal {
             Refusal::NotAtJoint => 7,
             Refusal::ReplacementOpen => 8,
             Refusal::LineEndMark => 9,
+            Refusal::NotRecords => 10,
         }
     }
 }
