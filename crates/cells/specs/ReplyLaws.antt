@@ -12,6 +12,7 @@ use Rattle.search.specs.Promise.{Gives}
 use Rattle.search.specs.SearchLaws.{decide}
 use Rattle.common.specs.Entry.{flatten}
 use Rattle.common.specs.EntryLaws.{flatten-append, put-append, put-over}
+use Rattle.common.specs.Lists.{RowPut}
 use Rattle.common.specs.Refusals.{Outcome, given, refused, numberOf, told, toldFound}
 use Rattle.common.specs.RefusalLaws.{number-some}
 use Rattle.common.specs.declared.refusal.Refusal.{Refusal}
@@ -19,7 +20,7 @@ use Rattle.common.specs.declared.refusal.Answer.{Answer}
 use Rattle.common.specs.declared.refusal.Answer.the-variants as answer
 use Rattle.common.specs.declared.refusal.Found.{Found}
 use Rattle.common.specs.declared.refusal.Found.the-variants as found
-use Rattle.cells.specs.Bytes.{four}
+use Rattle.cells.specs.Bytes.{four, rowBytes}
 use Rattle.cells.specs.ByteLaws.{length-four}
 use Rattle.cells.specs.Reply.{LaidAt, LaidIf, written, short, fitted, answered, Replied}
 
@@ -54,6 +55,10 @@ module _ (from : ℕ) (l out : List ℕ) (y : Bool) (g : Gives (ltb (length out)
 -- where there is room, they are laid
 pub laid-there : (k : ℕ) (l out out′ : List ℕ) → k + length l ≤ length out → LaidIf k l out out′ → LaidAt k l out out′
 laid-there k l out out′ h d = record { list = d .list ∙ simp (le-ltb (length out) (k + length l) h) }
+
+-- a region in a row of `rowBytes`
+pub laid-region : (n start end : ℕ) (out out′ : List ℕ) → n * rowBytes + rowBytes ≤ length out → LaidIf (n * rowBytes) (flatten four (start ∷ end ∷ [])) out out′ → RowPut (flatten four (start ∷ end ∷ [])) n out out′ (n + 1)
+laid-region n start end out out′ h d = record { next = refl; list = laid-there (n * rowBytes) (flatten four (start ∷ end ∷ [])) out out′ h d .list }
 
 -- two results for the same arguments are one
 pub laid-unique : {k : ℕ} {l out out′ out″ : List ℕ} → LaidIf k l out out′ → LaidIf k l out out″ → out′ ≡ out″

@@ -2,7 +2,7 @@
 use mathlib.Core.Path.{_≡_, refl, sym, ap, subst, _∙_}
 use mathlib.Core.Bool.{true, cond}
 use mathlib.Core.List.{List, [], _∷_}
-use Prim.Native.Nat.{ℕ, _+_, _-_, _*_, _/_, _≤_, _<_, min}
+use Prim.Native.Nat.{ℕ, _-_, _/_, _<_, min}
 use native.Mathlib.Omega.{arith}
 use lib.Dec.{ltb, leb}
 use lib.ListN.{length, take, drop}
@@ -15,7 +15,6 @@ use Rattle.common.specs.declared.grammar.Grammar.{Grammar}
 use Rattle.region.specs.Region.{Caused}
 use Rattle.rules.specs.Grammar.{Gram}
 use Rattle.region.specs.Regions.{regions, builtBy}
-use Rattle.common.specs.Lists.{RowPut}
 use Rattle.rules.specs.Columns.{alphabetOf}
 use Rattle.rules.specs.Rows.{gramBy, Folded}
 use Rattle.rules.specs.Records.{keptBytes, keptMins, AllGathered}
@@ -24,17 +23,12 @@ use Rattle.region.specs.Ahead.{regions-few}
 use Rattle.region.specs.IndexLaws.{gathered-count, gathered-flat}
 use Rattle.rules.specs.declared.search_bytes.Alphabet.{Alphabet}
 use Rattle.rules.specs.declared.records.Gathered.{Gathered}
-use Rattle.cells.specs.Bytes.{four, cells, rowBytes}
-use Rattle.cells.specs.Reply.{LaidIf, Replied, fitted}
+use Rattle.cells.specs.Bytes.{cells, rowBytes}
+use Rattle.cells.specs.Reply.{Replied, fitted}
 use Rattle.cells.specs.Poured.{ListRuns, PouredAs}
 use Rattle.pour.specs.Building.{regionBytes, PouredBy}
 use Rattle.cells.specs.ByteRules.{inlineIn, InlineRuns, ColumnRuns, RuleRuns, columnsIn, fenceRulesOf, ruleColumnsIn}
 use Rattle.cells.specs.RuleLaws.{gram-folded}
-use Rattle.cells.specs.ReplyLaws.{laid-there}
-
--- a region in a row of `rowBytes`
-pub laid-region : (n start end : ℕ) (out out′ : List ℕ) → n * rowBytes + rowBytes ≤ length out → LaidIf (n * rowBytes) (flatten four (start ∷ end ∷ [])) out out′ → RowPut (flatten four (start ∷ end ∷ [])) n out out′ (n + 1)
-laid-region n start end out out′ h d = record { next = refl; list = laid-there (n * rowBytes) (flatten four (start ∷ end ∷ [])) out out′ h d .list }
 
 pub row-bytes : (r : Caused) → length (regionBytes r) ≡ rowBytes
 row-bytes r = refl

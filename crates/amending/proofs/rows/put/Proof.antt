@@ -1,5 +1,5 @@
 -- `put` meets its contract. Assumes nothing.
-use Rattle.pour.specs.PourLaws.{laid-region}
+use Rattle.cells.specs.ReplyLaws.{laid-region}
 use borrow.Author.Needs.{needs}
 use Rattle.amending.proofs.rows.put.Statement.{statement}
 use Rattle.amending.proofs.rows.put.Tie as tie

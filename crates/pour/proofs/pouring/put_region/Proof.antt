@@ -1,5 +1,5 @@
 -- `put_region` meets its contract. Assumes nothing.
-use Rattle.pour.specs.PourLaws.{laid-region}
+use Rattle.cells.specs.ReplyLaws.{laid-region}
 use borrow.Author.Needs.{needs}
 use Rattle.pour.proofs.pouring.put_region.Statement.{statement}
 use Rattle.pour.proofs.pouring.put_region.Tie as tie
