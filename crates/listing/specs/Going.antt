@@ -14,7 +14,7 @@ use Rattle.fence.specs.Fence as fence
 use Rattle.fence.specs.declared.FenceIter.{FenceIter}
 use Rattle.cont.specs.Cont as cont
 use Rattle.cont.specs.declared.ContIter.{ContIter}
-use Rattle.listing.specs.Put.{Room}
+use Rattle.listing.specs.Room.{Room}
 use Rattle.listing.specs.Lines.{lines}
 use Rattle.listing.specs.Listing.{fenceLinesOf, frameLines}
 

@@ -12,7 +12,8 @@ use Rattle.common.specs.Refusals.{Outcome, refuse}
 use Rattle.common.specs.Items.{stepFor}
 use Rattle.common.specs.Turn.{Step, yields, ends, thenDrain, drain}
 use Rattle.listing.specs.Lines.{line, lines}
-use Rattle.listing.specs.Put.{Laid, LaidWithin, Room}
+use Rattle.put.specs.Put.{Laid, LaidWithin}
+use Rattle.listing.specs.Room.{Room}
 use Rattle.listing.specs.Going.{mapStep, valueStep, Reads, Yields, Going}
 
 -- lines of what is made of each thing

@@ -12,7 +12,8 @@ use Rattle.common.specs.Entry.{rows, putAt, wide}
 use Rattle.common.specs.EntryLaws.{length-put, put-append}
 use Rattle.sheet.specs.Sheet.{five}
 use Rattle.listing.specs.Lines.{line, lines}
-use Rattle.listing.specs.Put.{Laid, LaidWithin, Room}
+use Rattle.put.specs.Put.{Laid, LaidWithin}
+use Rattle.listing.specs.Room.{Room}
 use Rattle.listing.specs.GoingLaws.{lines-map}
 use Rattle.listing.specs.Listing.{houseRegions, regionLines, rowFields, houseSheet, sheetLines}
 use Rattle.listing.specs.Held.{RegionsIn, heldLines, ItemsIn, filedLines}

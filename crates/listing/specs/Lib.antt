@@ -1,7 +1,7 @@
 pub mod Lines
 pub mod Listing
 pub mod Parts
-pub mod Put
+pub mod Room
 pub mod PutLaws
 pub mod PartLaws
 pub mod Going

@@ -18,7 +18,8 @@ use Rattle.common.specs.RefusalLaws.{answer-unique}
 use Rattle.common.specs.declared.refusal.Answer.{Answer}
 use Rattle.common.specs.declared.refusal.Answer.the-variants.{Value}
 use Rattle.listing.specs.Lines.{line}
-use Rattle.listing.specs.Put.{Laid, LaidWithin, Room}
+use Rattle.put.specs.Put.{Laid, LaidWithin}
+use Rattle.listing.specs.Room.{Room}
 use Rattle.listing.specs.PartLaws.{entry-parts, part-first, part-second, part-both}
 use Rattle.listing.specs.Listing.{entries, printed, listingAnswer, listingRun, Printed}
 use Rattle.listing.specs.Parts.{laterLines}

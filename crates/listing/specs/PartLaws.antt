@@ -6,7 +6,8 @@ use native.Mathlib.Omega.{arith}
 use lib.ListN.{length, length-append}
 use Rattle.common.specs.EntryLaws.{put-append}
 use Rattle.listing.specs.Listing.{regionLines, entries}
-use Rattle.listing.specs.Put.{Laid, Room}
+use Rattle.put.specs.Put.{Laid}
+use Rattle.listing.specs.Room.{Room}
 use Rattle.listing.specs.Parts.{Parts, bothLines, laterLines}
 
 pub both-parts : (first second : List ℕ → List ℕ) → Parts (bothLines first second) first second

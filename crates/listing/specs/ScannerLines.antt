@@ -19,7 +19,7 @@ use Rattle.cont.specs.Frames.{frames}
 use Rattle.cont.specs.Cont as cont
 use Rattle.cont.specs.Run as contRun
 use Rattle.cont.specs.declared.ContIter.{ContIter}
-use Rattle.listing.specs.Put.{Room}
+use Rattle.listing.specs.Room.{Room}
 use Rattle.listing.specs.Listing.{houseFence, fenceLinesOf, frameLines, itemLinesOf}
 use Rattle.listing.specs.Going.{mapStep, Reads, ItemsGoing, FencesGoing, FramesGoing}
 use Rattle.listing.specs.GoingLaws.{lines-map, going-first, reads-refuse, yields-values}

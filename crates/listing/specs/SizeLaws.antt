@@ -35,7 +35,7 @@ use Rattle.feed.specs.Items.{marked, counted, markItemsFrom, numberedItemsFrom,
 use Rattle.sheet.specs.Sheet.{sheetOf}
 use Rattle.feed.specs.declared.item.SheetItem.{SheetItem}
 use Rattle.listing.specs.Lines.{field, fields, line, lines}
-use Rattle.listing.specs.Put.{Room}
+use Rattle.listing.specs.Room.{Room}
 use Rattle.common.specs.Sets.{houseMarkers, houseDelims}
 use Rattle.listing.specs.Listing.{houseGram, houseFence, houseFraming, houseRegions, regionLines, fenceFields, fenceLinesOf, frameLines, itemLinesOf, markerLines, numberedLines, sheetRow, houseSheet, sheetLines, entries, printed}
 use Rattle.listing.specs.FoundLaws.{few-regions, few-shown}

@@ -2,7 +2,7 @@
 //
 // One way through the code counts and writes: what lies past the run's end is passed over but counted. So a run that may be too small is
 // asked for its listing's size first, and nothing is written where it is.
-mod put; // bytes, numbers and lines
+mod put_line; // lines
 mod scans; // the lines of the scanners
 mod tables; // the lines of the region list and of the work sheet
 
@@ -10,7 +10,7 @@ use common::grammar::Grammar;
 use common::refusal::Answer;
 use common::refusal::Refusal;
 use common::sets::class_set;
-use put::put_one;
+use put_line::put_one;
 use scans::put_scans;
 use tables::REGION_ROOM;
 use tables::find_regions;
@@ -21,7 +21,8 @@ ghost use Prim.Native.Nat.{_≤_};
 ghost use lib.ListN.{length};
 ghost use Rattle.search.specs.Promise.{Gives};
 ghost use Rattle.common.specs.Refusals.{told};
-ghost use Rattle.listing.specs.Put.{Laid, Room};
+ghost use Rattle.put.specs.Put.{Laid};
+ghost use Rattle.listing.specs.Room.{Room};
 ghost use Rattle.listing.specs.Held.{RegionsIn};
 ghost use Rattle.common.specs.Sets.{houseMarkers, houseDelims};
 ghost use Rattle.listing.specs.Listing.{entries, printed, Printed};

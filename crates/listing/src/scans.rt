@@ -1,7 +1,7 @@
 // The lines of the scanners: each is stepped from a fresh state until nothing comes.
-use crate::put::put_four;
-use crate::put::put_three;
-use crate::put::put_two;
+use crate::put_line::put_four;
+use crate::put_line::put_three;
+use crate::put_line::put_two;
 use block_marker::BlockMarkerIter;
 use block_marker::MarkerFound;
 use block_numbered::BlockNumberedIter;
@@ -13,7 +13,8 @@ use fence::FenceIter;
 ghost use mathlib.Core.Path.{_≡_};
 ghost use Prim.Native.Nat.{_≤_};
 ghost use lib.ListN.{length};
-ghost use Rattle.listing.specs.Put.{Laid, Room};
+ghost use Rattle.put.specs.Put.{Laid};
+ghost use Rattle.listing.specs.Room.{Room};
 ghost use Rattle.common.specs.Sets.{houseMarkers, houseDelims};
 ghost use Rattle.listing.specs.Listing.{fenceLinesOf, frameLines, markerLines, numberedLines};
 ghost use Rattle.listing.specs.Parts.{fenceLines, spanLines, itemLines, scanLines};

@@ -1,7 +1,7 @@
 // The lines of the region list and of the work sheet, which are made as runs of numbers first.
-use crate::put::put_four;
-use crate::put::put_three;
-use crate::put::put_two;
+use crate::put_line::put_four;
+use crate::put_line::put_three;
+use crate::put_line::put_two;
 use common::grammar::Grammar;
 use common::list::END;
 use common::list::WIDE;
@@ -13,7 +13,8 @@ ghost use mathlib.Core.List.{[], _∷_};
 ghost use Prim.Native.Nat.{_≤_, _*_};
 ghost use lib.ListN.{length};
 ghost use Rattle.listing.specs.Lines.{line};
-ghost use Rattle.listing.specs.Put.{LaidWithin, Laid, Room};
+ghost use Rattle.put.specs.Put.{LaidWithin, Laid};
+ghost use Rattle.listing.specs.Room.{Room};
 ghost use Rattle.common.specs.Sets.{houseMarkers, houseDelims};
 ghost use Rattle.listing.specs.Listing.{rowFields, sheetLines};
 ghost use Rattle.listing.specs.Held.{RegionsIn, heldLines, ItemsIn, filedLines};

@@ -1,8 +1,8 @@
 -- `put_head` meets its contract. Assumes nothing.
 use Rattle.listing.specs.PutLaws.{head-put}
 use borrow.Author.Needs.{needs}
-use Rattle.listing.proofs.put.put_head.Statement.{statement}
-use Rattle.listing.proofs.put.put_head.Tie as tie
+use Rattle.listing.proofs.put_line.put_head.Statement.{statement}
+use Rattle.listing.proofs.put_line.put_head.Tie as tie
 
 put-byte-requires : tie.Need-put-byte-requires
 put-byte-requires c κs = search needs

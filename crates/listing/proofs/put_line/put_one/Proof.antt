@@ -1,8 +1,8 @@
 -- `put_one` meets its contract. Assumes nothing.
 use Rattle.listing.specs.PutLaws.{one-put}
 use borrow.Author.Needs.{needs}
-use Rattle.listing.proofs.put.put_one.Statement.{statement}
-use Rattle.listing.proofs.put.put_one.Tie as tie
+use Rattle.listing.proofs.put_line.put_one.Statement.{statement}
+use Rattle.listing.proofs.put_line.put_one.Tie as tie
 
 put-byte-requires : tie.Need-put-byte-requires
 put-byte-requires c κs = search needs

@@ -1,8 +1,8 @@
 -- `put_three` meets its contract. Assumes nothing.
 use Rattle.listing.specs.PutLaws.{three-put}
 use borrow.Author.Needs.{needs}
-use Rattle.listing.proofs.put.put_three.Statement.{statement}
-use Rattle.listing.proofs.put.put_three.Tie as tie
+use Rattle.listing.proofs.put_line.put_three.Statement.{statement}
+use Rattle.listing.proofs.put_line.put_three.Tie as tie
 
 put-head-three-requires : tie.Need-put-head-three-requires
 put-head-three-requires c κs = search needs

@@ -6,7 +6,12 @@ use Prim.Native.Nat.{ℕ, _+_, _≤_}
 use lib.ListN.{length}
 use Rattle.common.specs.Entry.{putAt}
 
--- the bytes b at the places from n on, as far as the run reaches, and the place behind all of them
+-- the bytes b at the places from n on, as far as the run reaches, and how many they are
+pub record Put (b : List ℕ) (n : ℕ) (out out′ : List ℕ) (r : ℕ) : Type 0 where
+  pub size : r ≡ length b
+  pub list : out′ ≡ putAt n b out
+
+-- the same with the place behind all of them
 pub record Laid (b : List ℕ) (n : ℕ) (out out′ : List ℕ) (r : ℕ) : Type 0 where
   pub next : r ≡ n + length b
   pub list : out′ ≡ putAt n b out
@@ -15,7 +20,3 @@ pub record Laid (b : List ℕ) (n : ℕ) (out out′ : List ℕ) (r : ℕ) : Typ
 pub record LaidWithin (most : ℕ) (b : List ℕ) (n : ℕ) (out out′ : List ℕ) (r : ℕ) : Type 0 where
   pub laid : Laid b n out out′ r
   pub short : r ≤ n + most
-
--- a place from which on the bytes b end at or before 1,000,000
-pub record Room (n : ℕ) (b : List ℕ) : Type 0 where
-  pub fits : n + length b ≤ 1000000

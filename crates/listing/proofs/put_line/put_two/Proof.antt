@@ -1,8 +1,8 @@
 -- `put_two` meets its contract. Assumes nothing.
 use Rattle.listing.specs.PutLaws.{two-put}
 use borrow.Author.Needs.{needs}
-use Rattle.listing.proofs.put.put_two.Statement.{statement}
-use Rattle.listing.proofs.put.put_two.Tie as tie
+use Rattle.listing.proofs.put_line.put_two.Statement.{statement}
+use Rattle.listing.proofs.put_line.put_two.Tie as tie
 
 put-head-requires : tie.Need-put-head-requires
 put-head-requires c κs = search needs

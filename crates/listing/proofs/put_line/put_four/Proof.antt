@@ -1,8 +1,8 @@
 -- `put_four` meets its contract. Assumes nothing.
 use Rattle.listing.specs.PutLaws.{four-put}
 use borrow.Author.Needs.{needs}
-use Rattle.listing.proofs.put.put_four.Statement.{statement}
-use Rattle.listing.proofs.put.put_four.Tie as tie
+use Rattle.listing.proofs.put_line.put_four.Statement.{statement}
+use Rattle.listing.proofs.put_line.put_four.Tie as tie
 
 put-head-three-requires : tie.Need-put-head-three-requires
 put-head-three-requires c κs = search needs

@@ -1,8 +1,8 @@
 -- `put_head_three` meets its contract. Assumes nothing.
 use Rattle.listing.specs.PutLaws.{head-three-put}
 use borrow.Author.Needs.{needs}
-use Rattle.listing.proofs.put.put_head_three.Statement.{statement}
-use Rattle.listing.proofs.put.put_head_three.Tie as tie
+use Rattle.listing.proofs.put_line.put_head_three.Statement.{statement}
+use Rattle.listing.proofs.put_line.put_head_three.Tie as tie
 
 put-head-requires : tie.Need-put-head-requires
 put-head-requires c κs = search needs

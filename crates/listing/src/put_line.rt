@@ -1,42 +1,32 @@
-// Bytes, numbers and lines, put at a place of a run. What lies past the run's end is passed over but counted: so that the same code
-// counts and writes. A listing ends at or before place 1,000,000 and its lines are short, so that no place is too large for a sum.
-use decimal::digits_of;
+// Lines, put at a place of a run. What lies past the run's end is passed over but counted: so that the same code counts and writes. A
+// listing ends at or before place 1,000,000 and its lines are short, so that no place is too large for a sum.
+use put::put_bytes;
+use put::put_number;
 ghost use mathlib.Core.List.{[], _∷_};
 ghost use Prim.Native.Nat.{_≤_};
 ghost use Rattle.decimal.specs.Decimal.{decimal};
 ghost use Rattle.listing.specs.Lines.{field, fields, line};
-ghost use Rattle.listing.specs.Put.{LaidWithin};
+ghost use Rattle.put.specs.Put.{LaidWithin};
 
 const TAB: u8 = 9;
 
 const EOL: u8 = 10;
 
-// Puts one byte at place `n`, and answers the next place.
+// One byte at place `n`, and the next place.
 fn put_byte(out: &mut [u8], n: usize, b: u8) -> usize
-    requires { ⌜ n ≤ 1000100 ⌝ }
+    requires { ⌜ n ≤ 1000000000000000000 ⌝ }
     ensures { λ r. ⌜ LaidWithin 1 (b ∷ []) n (now (out .entry)) (now (out .exit)) r ⌝ }
 {
-    if n < out.len() {
-        out[n] = b;
-        return n + 1;
-    }
-    n + 1
+    let piece = [b];
+    n + put_bytes(out, n, &piece)
 }
 
-// A number in decimal.
-fn put_number(out: &mut [u8], n: usize, x: u32) -> usize
-    requires { ⌜ n ≤ 1000090 ⌝ }
+// A number's digits, and the next place.
+fn put_digits(out: &mut [u8], n: usize, x: u32) -> usize
+    requires { ⌜ n ≤ 1000000000000000000 ⌝ }
     ensures { λ r. ⌜ LaidWithin 10 (decimal x) n (now (out .entry)) (now (out .exit)) r ⌝ }
 {
-    let digits = digits_of(x);
-    let bytes = digits.bytes;
-    let mut k = n;
-    let mut i = 0;
-    while i < digits.count {
-        k = put_byte(out, k, bytes[i]);
-        i += 1;
-    }
-    k
+    n + put_number(out, n, x)
 }
 
 // A tab and a number.
@@ -45,7 +35,7 @@ fn put_field(out: &mut [u8], n: usize, x: u32) -> usize
     ensures { λ r. ⌜ LaidWithin 11 (field x) n (now (out .entry)) (now (out .exit)) r ⌝ }
 {
     let k = put_byte(out, n, TAB);
-    put_number(out, k, x)
+    put_digits(out, k, x)
 }
 
 // A line's letter and its first two fields.
