@@ -34,18 +34,21 @@ static bool grow(struct note *note, size_t room)
     return true;
 }
 
-/* Reads a file to its end, to memory that has `room` bytes at first. One byte over the limit is enough to refuse it. */
-static bool read_all(struct note *note, int file, size_t room)
+/* Reads a file to its end, to memory that has `room` bytes at first. One byte over the limit is enough to refuse it; and a text that is
+ * hopeless is read no further than the memory that it has, so that an endless one ends. */
+static bool read_all(struct note *note, int file, size_t room, struct reading how)
 {
     if (!grow(note, room))
         return false;
-    while (note->len <= RACK_TEXT_MAX) {
+    while (note->len <= how.most) {
         ssize_t got = read(file, note->text + note->len, room - note->len);
         if (!got)
             return true;
         if (got < 0 && errno != EINTR)
             return say_error(note);
         note->len += got < 0 ? 0 : (size_t)got;
+        if (note->len == room && how.is_hopeless && how.is_hopeless(note))
+            return true;
         if (note->len == room && !grow(note, room *= 2))
             return false;
     }
@@ -53,47 +56,53 @@ static bool read_all(struct note *note, int file, size_t room)
 }
 
 /* A file is read and not mapped: what is proved holds of a text that stays, and an editor may write to a mapped file meanwhile. */
-static bool read_file(struct note *note, int file)
+static bool read_file(struct note *note, int file, struct reading how)
 {
     struct stat is;
     if (file < 0 || fstat(file, &is))
         return say_error(note);
     if (S_ISDIR(is.st_mode)) {
-        say(note->name, "it is a folder; name the notes in it");
+        say(note->name, "it is a folder; name a file in it");
         return false;
     }
     if (!S_ISREG(is.st_mode))
-        return read_all(note, file, 65536);
-    if ((uintmax_t)is.st_size > RACK_TEXT_MAX)
+        return read_all(note, file, 65536, how);
+    if ((uintmax_t)is.st_size > how.most)
         return say_refused(note, RACK_TEXT_TOO_LONG);
-    return read_all(note, file, (size_t)is.st_size + 1);
+    return read_all(note, file, (size_t)is.st_size + 1, how);
 }
 
-static bool read_named(struct note *note)
+static bool read_named(struct note *note, struct reading how)
 {
     int file = open(note->name, O_RDONLY);
-    bool is_read = read_file(note, file);
+    bool is_read = read_file(note, file, how);
     if (file >= 0)
         close(file);
     return is_read;
 }
 
 /* A person who typed no name is told what is waited for. */
-static bool read_input(struct note *note)
+static bool read_input(struct note *note, struct reading how)
 {
     if (isatty(STDIN_FILENO))
-        say(note->name, "type the note, and then Ctrl-D; rack --help tells of other ways");
-    return read_file(note, STDIN_FILENO);
+        say(note->name, "type the text, and then Ctrl-D; rack --help tells of other ways");
+    return read_file(note, STDIN_FILENO, how);
+}
+
+bool open_text(struct note *note, const char *name, struct reading how)
+{
+    *note = (struct note){.name = name ? name : "standard input"};
+    return name ? read_named(note, how) : read_input(note, how);
 }
 
 /* ---- lists */
 
-/* Room that is surely enough. It is reserved and not used: memory is taken where something is written. */
-static bool reserve(const struct note *note, struct list *list, size_t entries, size_t size)
+/* It is reserved and not used: memory is taken where something is written. */
+bool reserve(const struct note *note, struct list *list, size_t entries, size_t size)
 {
     void *at = mmap(NULL, entries * size, PROT_READ | PROT_WRITE, MAP_PRIVATE | MAP_ANONYMOUS | MAP_NORESERVE, -1, 0);
     if (at == MAP_FAILED) {
-        say(note->name, "there is no memory for its lists; cut the note into smaller ones");
+        say(note->name, "there is no memory for its lists; cut it into smaller ones");
         return false;
     }
     *list = (struct list){at, entries * size, 0};
@@ -142,8 +151,7 @@ bool make_sheet(const struct note *note, struct list *sheet)
 
 bool open_note(struct note *note, const char *name)
 {
-    *note = (struct note){.name = name ? name : "standard input"};
-    if ((name ? read_named(note) : read_input(note)) && build(note))
+    if (open_text(note, name, A_NOTE) && build(note))
         return true;
     close_note(note);
     return false;

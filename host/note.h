@@ -24,6 +24,20 @@ struct note {
 bool open_note(struct note *note, const char *name);
 void close_note(struct note *note);
 
+/* How a text is read: up to so many bytes; and, where it comes without a known length, until it is hopeless, if that is asked. */
+struct reading {
+    size_t most;
+    bool (*is_hopeless)(const struct note *text);
+};
+#define A_NOTE ((struct reading){RACK_TEXT_MAX, NULL})
+
+/* Reads a text and builds nothing; a null name is standard input's. Where it can't be read it says why and answers false. In either case it is
+ * to be closed. */
+bool open_text(struct note *note, const char *name, struct reading how);
+
+/* Room that is surely enough, to be dropped by the caller. Where there is none it says so and answers false. */
+bool reserve(const struct note *note, struct list *list, size_t entries, size_t size);
+
 /* The work sheet, to be dropped by the caller. Where it can't be made it says why and answers false. */
 bool make_sheet(const struct note *note, struct list *sheet);
 void drop_list(struct list *list);

@@ -8,10 +8,11 @@
  * Each number of a list, of a count column, of a state and of an answer is four bytes, low byte first (`rack_number`,
  * `rack_put_number`).
  *
- * An entry returns 0, or the number of its refusal (`enum rack_refusal`). On 0 it has written to the answer run how many values there
- * are, and then the values, four bytes each; bytes behind them are as they were. RACK_ANSWER(n) bytes are enough for n values; a run
- * that is longer does no harm. On a refusal no byte of any lent run is changed. The refusals of an entry are tried in the order in
- * which its comment names them; 3 for an answer run that is too short is always the last.
+ * An entry returns 0, or the number of its refusal (`enum rack_refusal`; `rack_json_read` with a place beside it). On 0 it has
+ * written to the answer run how many values there are, and then the values, four bytes each; bytes behind them are as they were.
+ * RACK_ANSWER(n) bytes are enough for n values; a run that is longer does no harm. On a refusal no byte of any lent run is changed.
+ * The refusals of an entry are tried in the order in which its comment names them; 3 for an answer run that is too short is always
+ * the last.
  *
  * What each entry promises is proved: docs/PROMISES.md. */
 #ifndef RACK_H
@@ -22,9 +23,9 @@
 
 /* The second number counts the change requests that have landed, the third what was mended since. */
 #define RACK_VERSION_MAJOR 0
-#define RACK_VERSION_MINOR 3
-#define RACK_VERSION_PATCH 1
-#define RACK_VERSION "0.3.1"
+#define RACK_VERSION_MINOR 4
+#define RACK_VERSION_PATCH 0
+#define RACK_VERSION "0.4.0"
 
 enum rack_refusal {
     RACK_SERVED = 0,
@@ -39,7 +40,8 @@ enum rack_refusal {
     RACK_NOT_AT_JOINT = 7,      /* a cut is not at a joint (the second may be the text's end) */
     RACK_REPLACEMENT_OPEN = 8,  /* old text follows a replacement that isn't empty, and that doesn't end in two line ends or has,
                                    built alone, a region reaching its end */
-    RACK_LINE_END_MARK = 9      /* the escape, a symmetric byte or an asymmetric opener is the line-end byte (amendment only) */
+    RACK_LINE_END_MARK = 9,     /* the escape, a symmetric byte or an asymmetric opener is the line-end byte (amendment only) */
+    RACK_NOT_RECORDS = 10       /* a file is not of the form that records have; the place tells where (rack_json_read only) */
 };
 
 /* Sizes in bytes: of a number, a region in a list, an item of a work sheet, the scanners' states. */
@@ -63,14 +65,18 @@ enum {
 #define RACK_MARKER_ANSWER RACK_ANSWER(3)   /* rack_marker_step */
 #define RACK_NUMBERED_ANSWER RACK_ANSWER(4) /* rack_numbered_step */
 #define RACK_EXPLAIN_ANSWER RACK_ANSWER(4)  /* rack_explain */
+#define RACK_JSON_ANSWER RACK_ANSWER(2)     /* rack_json_write; rack_json_read has RACK_ONE_ANSWER */
 
 /* The longest text, and room that is always enough, in regions or items, for a text of `len` bytes: there are at most half as many
  * regions as bytes and one more (law `regions-few`), and at most as many items as bytes (law `left-few`). An amended list has at most
- * the old list's regions and the replacement's own. */
+ * the old list's regions and the replacement's own. A list's file of JSON has at most 38 bytes for each region and two more (law
+ * `layout-few`), and any such file at least 20 for each region (law `records-few`). */
 #define RACK_TEXT_MAX ((size_t)4294967295u)
 #define RACK_REGIONS_MAX(len) ((size_t)(len) / 2 + 1)
 #define RACK_ITEMS_MAX(len) ((size_t)(len))
 #define RACK_AMENDED_MAX(count, replacement_len) ((size_t)(count) + RACK_REGIONS_MAX(replacement_len))
+#define RACK_JSON_MAX(count) ((size_t)(count) * 38 + 2)
+#define RACK_RECORDS_MAX(file_len) ((size_t)(file_len) / 20 + 1)
 
 /* The kinds of an item, and the reasons of an explanation. */
 enum { RACK_MARKER = 0, RACK_NUMBERED = 1 };
@@ -264,6 +270,27 @@ uint32_t rack_sheet_listed_count(const uint8_t *text, size_t text_len, uint8_t e
 uint32_t rack_explain(const uint8_t *text, size_t text_len, const uint8_t *list, size_t list_len, uint32_t count, size_t line,
                       uint8_t *answer, size_t answer_len);
 
+/* ---- records for other tools */
+
+/* The first `count` regions of a list as a file of JSON (RFC 8259), in one layout: [{"start":0,"end":3},{"start":5,"end":9}], no white
+ * space and no line end behind it. The list need not be built, but must be sorted, apart, and have no empty region. Two values: the
+ * file's length, its low 32 bits and its high ones. Bytes of `out` behind the file are as they were. Refusals 5, 3. */
+uint32_t rack_json_write(const uint8_t *list, size_t list_len, uint32_t count,
+                         uint8_t *out, size_t out_len, uint8_t *answer, size_t answer_len);
+
+/* A refusal, or 0; and behind 10 the place, else 0. */
+struct rack_placed {
+    uint32_t refusal;
+    size_t place;
+};
+
+/* A file's regions, read into a list as `rack_build` writes one: an array of objects with the members "start" and "end" in either order,
+ * white space as the RFC has it, numbers as plain unsigned integers to 4,294,967,295 without leading zeros, no escapes in names, nothing
+ * else. The place of 10 is that of the first byte that can't continue such a file, whatever its regions; the length of a file that breaks
+ * off. A file of any length is read. One value: how many regions there are. Refusals 10, 5, 3. */
+struct rack_placed rack_json_read(const uint8_t *file, size_t file_len,
+                                  uint8_t *list, size_t list_len, uint8_t *answer, size_t answer_len);
+
 #ifdef __cplusplus
 }
 #endif
@@ -387,6 +414,26 @@ static inline uint32_t rack_house_amend(const uint8_t *old, size_t old_len, cons
     return rack_one(rack_amend(rack_run(old), old_len, rack_run(list), list_len, listed, first, second, rack_run(text), text_len,
                                RACK_HOUSE_BYTES, RACK_HOUSE_RULES, out ? out : none, out_len, answer, sizeof answer),
                     answer, count);
+}
+
+/* A list's file of JSON, and its length. Refusals 5, 3. */
+static inline uint32_t rack_records_write(const uint8_t *list, size_t list_len, uint32_t listed, uint8_t *out, size_t out_len, size_t *size)
+{
+    uint8_t answer[RACK_JSON_ANSWER], none[1];
+    uint32_t refusal = rack_json_write(rack_run(list), list_len, listed, out ? out : none, out_len, answer, sizeof answer);
+    if (refusal == RACK_SERVED)
+        *size = (size_t)(rack_number(answer + RACK_NUMBER) | (uint64_t)rack_number(answer + 2 * RACK_NUMBER) << 32);
+    return refusal;
+}
+
+/* Such a file's regions. Refusals 10, 5, 3. */
+static inline struct rack_placed rack_records_read(const uint8_t *file, size_t file_len, uint8_t *out, size_t out_len, uint32_t *count)
+{
+    uint8_t answer[RACK_ONE_ANSWER], none[1];
+    struct rack_placed read = rack_json_read(rack_run(file), file_len, out ? out : none, out_len, answer, sizeof answer);
+    if (read.refusal == RACK_SERVED)
+        *count = rack_number(answer + RACK_NUMBER);
+    return read;
 }
 
 /* Why a line isn't on the sheet (`enum rack_reason`); of a line that is hidden also the region's number, and the region. On a refusal

@@ -6,5 +6,6 @@ mod covered; // the cursor
 mod explained; // why a line is not on the sheet
 mod leaves; // the leaves of common.rs, and the bytes searched for
 mod lists; // building, and the work sheet
+mod records; // files of JSON
 mod scanners; // the scanners
 mod states; // states as byte runs
