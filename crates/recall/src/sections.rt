@@ -1,6 +1,7 @@
 // The sections whose questions have a text: the forms of these, and which section asks what.
 use crate::covers;
 use crate::explains;
+use crate::files;
 use crate::page;
 use crate::regions;
 use crate::sheets;
@@ -34,6 +35,12 @@ pub(crate) fn form(section: u32, letter: u8) -> Form {
             b'b' => Form::new(0, 0, 0, BEYOND),
             _ => Form::unknown(),
         },
+        11 => match letter {
+            b'r' => Form::new(1, 1, 2, WHOLE),
+            b'm' => Form::new(1, 2, 0, WHOLE),
+            b'w' => Form::new(2, 2, 1, WHOLE).free(0),
+            _ => Form::unknown(),
+        },
         _ => Form::unknown(),
     }
 }
@@ -55,6 +62,7 @@ pub(crate) fn ask(
         7 => covers::ask(question.letter, asked, question.list(asked, 0), reply),
         8 => sheets::ask(question, asked, bytes, text, reply),
         10 => explains::ask(question, asked, text, place, reply),
+        11 => files::ask(question, asked, bytes, text, reply),
         _ => reply,
     }
 }
