@@ -26,12 +26,12 @@ SETS = runs(b'-*+', b'.)')
 
 
 def filled(entry, *words, size, room):
-    """What an entry writes to a list of so many entries, `size` bytes each. The answer has two values at the most, the first of them the count."""
-    out, answer = ctypes.create_string_buffer(size * room), ctypes.create_string_buffer(12)
+    """What an entry writes to a list of so many entries, `size` bytes each."""
+    out, answer = ctypes.create_string_buffer(size * room), ctypes.create_string_buffer(8)
     refusal = entry(*words, out, ctypes.c_size_t(len(out)), answer, ctypes.c_size_t(len(answer)))
     if refusal:
         sys.exit(f'refused: {refusal}')
-    _, count, _ = struct.unpack('<3I', answer.raw)
+    _, count = struct.unpack('<II', answer.raw)
     return out.raw[:size * count]
 
 

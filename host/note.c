@@ -1,7 +1,6 @@
 #define _DEFAULT_SOURCE
 #include "note.h"
 
-#include "rules.h"
 #include "say.h"
 
 #include <errno.h>
@@ -131,7 +130,7 @@ static bool build(struct note *note)
     struct list *list = &note->regions;
     if (!reserve(note, list, RACK_REGIONS_MAX(note->len), RACK_REGION))
         return false;
-    uint32_t refusal = build_by(note->rules, note, list);
+    uint32_t refusal = rack_house_build(note->text, note->len, list->at, list->len, &list->count);
     return !refusal || say_refused(note, refusal);
 }
 
@@ -150,11 +149,9 @@ bool make_sheet(const struct note *note, struct list *sheet)
     return say_refused(note, refusal);
 }
 
-bool open_note(struct note *note, const char *name, const struct rules *rules)
+bool open_note(struct note *note, const char *name)
 {
-    bool is_read = open_text(note, name, A_NOTE);
-    note->rules = rules;
-    if (is_read && build(note))
+    if (open_text(note, name, A_NOTE) && build(note))
         return true;
     close_note(note);
     return false;
@@ -185,21 +182,6 @@ size_t next_line(const struct note *note, size_t place)
 {
     size_t end = line_end(note, place);
     return end < note->len ? end + 1 : end;
-}
-
-size_t run_end(const struct note *note, size_t at)
-{
-    uint8_t byte = note->text[at];
-    while (at < note->len && note->text[at] == byte)
-        at++;
-    return at;
-}
-
-size_t blanks_end(const struct note *note, size_t at)
-{
-    while (at < note->len && (note->text[at] == ' ' || note->text[at] == '\t'))
-        at++;
-    return at;
 }
 
 uint64_t line_at(struct counter *counter, size_t place)

@@ -13,19 +13,15 @@ struct list {
     uint32_t count;
 };
 
-/* What its regions are made by (rules.h). */
-struct rules;
-
 struct note {
     const char *name;
     uint8_t *text;
     size_t len;
-    const struct rules *rules;
     struct list regions;
 };
 
-/* Reads a note and builds its regions by rules; a null name is standard input's. Where that can't be done it says why and answers false. */
-bool open_note(struct note *note, const char *name, const struct rules *rules);
+/* Reads a note and builds its regions; a null name is standard input's. Where that can't be done it says why and answers false. */
+bool open_note(struct note *note, const char *name);
 void close_note(struct note *note);
 
 /* How a text is read: up to so many bytes; and, where it comes without a known length, until it is hopeless, if that is asked. */
@@ -53,10 +49,6 @@ bool say_refused(const struct note *note, uint32_t refusal);
 size_t line_start(const struct note *note, size_t place);
 size_t line_end(const struct note *note, size_t place);
 size_t next_line(const struct note *note, size_t place);
-
-/* Where the run of equal bytes ends that stands at a place; where the blanks and tabs end that may stand there. */
-size_t run_end(const struct note *note, size_t at);
-size_t blanks_end(const struct note *note, size_t at);
 
 /* Counts lines: up to `at` so many line ends stand. Places that are asked about must rise, so that the note is walked once. */
 struct counter {

@@ -1,8 +1,6 @@
-/* rack: prints the work sheets of notes, by the house grammar and by fences and pairs of a site's own, with the proved entries of the panel
- * (include/rack.h). */
+/* rack: prints the work sheets of notes, by the house grammar, with the proved entries of the panel (include/rack.h). */
 #include "note.h"
 #include "records.h"
-#include "rules.h"
 #include "say.h"
 #include "warn.h"
 #include "why.h"
@@ -19,8 +17,6 @@ struct options {
     bool regions, raw, why, one; /* --why of one line */
     bool strict, quiet, json;
     const char *records; /* the file of --from-json */
-    struct rules rules;
-    bool rules_input; /* whether they were read from standard input */
     uint64_t line;
     char **names;
     int count;
@@ -131,7 +127,7 @@ static int print_notes(const struct options *options)
     bool is_first = true;
     for (int i = 0; i < options->count; i++) {
         struct note note;
-        if (!open_note(&note, named(options->names[i]), &options->rules)) {
+        if (!open_note(&note, named(options->names[i]))) {
             status = FAILED;
             continue;
         }
@@ -202,9 +198,9 @@ static int print_file(const struct options *options)
 /* ---- the command */
 
 static const char USAGE[] =
-    "usage: rack [RULES] [--regions] [--raw] [--strict] [--quiet] [NOTE ...]\n"
-    "       rack [RULES] --why [LINE] [--strict] [--quiet] [NOTE ...]\n"
-    "       rack [RULES] --json [--strict] [--quiet] [NOTE]\n"
+    "usage: rack [--regions] [--raw] [--strict] [--quiet] [NOTE ...]\n"
+    "       rack --why [LINE] [--strict] [--quiet] [NOTE ...]\n"
+    "       rack --json [--strict] [--quiet] [NOTE]\n"
     "       rack --from-json FILE [--raw] [NOTE]\n"
     "\n"
     "Prints the work sheets of notes: the items that stand in no fence and in no inline pair. Each has a line: its line\n"
@@ -219,29 +215,17 @@ static const char USAGE[] =
     "  --json       the regions as a file of JSON: [{\"start\":0,\"end\":12}]\n"
     "  --from-json  the regions of such a file, which is checked: their places, and with a NOTE their lines; no sheet. Without a\n"
     "               NOTE none is read; a FILE that is - is standard input\n"
-    "  --strict     exit status 1 where anything is warned of; 2, and no sheet, where a mark would be ignored\n"
+    "  --strict     exit status 1 where anything is warned of\n"
     "  -q, --quiet  no warnings\n"
     "  -h, --help   this\n"
     "  --version    the version\n"
     "  --           what follows is a note's name\n"
     "\n"
-    "RULES are fences and pairs of your own, which are added to the house's:\n"
-    "\n"
-    "  --fence C:N  a fence begins with a line of N or more of the mark C, 1 to 255, and no further one\n"
-    "  --pair C     a pair stands between two marks C; C:N, between N and N of them\n"
-    "  --pair OC    a pair stands between the mark O and the mark C; OC:N, between N of O and one C\n"
-    "  --only       without the house's: --fence '`:3' --fence '~:3' --pair '`' --pair '<>'\n"
-    "  --rules FILE those of a file, one on each line, without the hyphens: pair <>; a line that begins with # is a remark\n"
-    "\n"
-    "A mark is a character of ASCII, or a byte as \\xNN. Of two fences with the same mark the first counts, of two pairs the one of\n"
-    "one mark, else the first; yours stand before the house's. Eleven different marks are searched for, fences first, then pairs of\n"
-    "one mark; further ones are ignored, with a warning.\n"
-    "\n"
     "Warnings on standard error tell of what makes a note lose its steps: fences that are indented or not closed, pairs that\n"
     "hide items, carriage returns, byte-order marks, UTF-16.\n"
     "\n"
-    "Exit status 2, with a line on standard error, where a note or a file can't be read or is refused, a rule is none, or not all\n"
-    "can be written.\n";
+    "Exit status 2, with a line on standard error, where a note or a file of JSON can't be read or is refused, or not all can be\n"
+    "written.\n";
 
 /* Prints what was asked for in place of notes, and ends. */
 _Noreturn static void print_and_exit(const char *text)
@@ -274,69 +258,19 @@ _Noreturn static void end_with(const char *word, const char *why)
     exit(FAILED);
 }
 
-/* A rule among the words; --only has none behind it. */
-static void take_rule(struct options *options, const char *flag, const char *rule)
-{
-    char named_rule[80];
-    const char *why = add_rule(&options->rules, whole(flag + strlen("--")), whole(rule));
-    snprintf(named_rule, sizeof named_rule, "%s%s%s", flag, *rule ? " " : "", rule);
-    if (why)
-        end_with(named_rule, why);
-}
-
-static void take_rules(struct options *options, const char *name)
-{
-    if (options->rules_input && !named(name))
-        end_with("--rules", "standard input can be read once");
-    options->rules_input |= !named(name);
-    if (!read_rules(&options->rules, named(name)))
-        exit(FAILED);
-}
-
-/* Takes a flag that has a word behind it, which may be missing; answers whether it is such a flag. */
-static bool take_valued(struct options *options, const char *flag, const char *word)
-{
-    bool is_rule = !strcmp(flag, "--fence") || !strcmp(flag, "--pair"), is_rules = !strcmp(flag, "--rules");
-    if (!is_rule && !is_rules && strcmp(flag, "--from-json"))
-        return false;
-    if (!word)
-        end_with(flag, is_rule ? "a rule follows it; rack --help tells which there are" : "the name of a file follows it");
-    if (is_rule)
-        take_rule(options, flag, word);
-    else if (is_rules)
-        take_rules(options, word);
-    else
-        options->records = word;
-    return true;
-}
-
 static void take_flag(struct options *options, const char *flag)
 {
     if (!strcmp(flag, "-h") || !strcmp(flag, "--help"))
         print_and_exit(USAGE);
     if (!strcmp(flag, "--version"))
         print_and_exit("rack " RACK_VERSION "\n");
-    if (!strcmp(flag, "--only"))
-        take_rule(options, flag, "");
-    else if (!set_flag(options, flag))
+    if (!set_flag(options, flag))
         end_with(flag, "there is no such flag; rack --help lists them");
 }
 
 static bool is_number(const char *word)
 {
     return word && word[0] && !word[strspn(word, "0123456789")];
-}
-
-/* Standard input can be read once. */
-static void check_input(const struct options *options)
-{
-    bool is_note = !options->count && !options->records;
-    for (int i = 0; i < options->count; i++)
-        is_note |= !named(options->names[i]);
-    if (options->rules_input && is_note)
-        end_with("--rules", "the rules and the note can't both be standard input");
-    if (options->records && !named(options->records) && is_note)
-        end_with("--from-json", "the file and the note can't both be standard input");
 }
 
 /* What can't be asked for at once. A file of records is one list: it has one note. */
@@ -349,8 +283,8 @@ static void check_together(const struct options *options)
         end_with(flag, "it goes with no other kind of list; rack --help tells which flags it takes");
     if (options->count > 1)
         end_with(flag, "it takes one note");
-    if (options->records && options->rules.are_given)
-        end_with(flag, "it builds nothing, and takes no rules");
+    if (options->records && options->count && !named(options->records) && !named(options->names[0]))
+        end_with(flag, "the file and the note can't both be standard input");
 }
 
 /* The names are gathered at the front of the words. */
@@ -364,8 +298,10 @@ static struct options parsed(int count, char **words)
             options.names[options.count++] = words[i];
         } else if (!strcmp(words[i], "--")) {
             are_names = true;
-        } else if (take_valued(&options, words[i], words[i + 1])) {
-            i++;
+        } else if (!strcmp(words[i], "--from-json")) {
+            options.records = words[i + 1] ? words[++i] : NULL;
+            if (!options.records)
+                end_with(words[i], "the name of a file follows it");
         } else if (!strcmp(words[i], "--why") && is_number(words[i + 1])) {
             options.why = options.one = true;
             options.line = strtoull(words[++i], NULL, 10);
@@ -374,7 +310,6 @@ static struct options parsed(int count, char **words)
         }
     }
     check_together(&options);
-    check_input(&options);
     if (!options.count && !options.records) {
         options.names = standard_input;
         options.count = 1;
@@ -386,7 +321,5 @@ int main(int count, char **words)
 {
     setvbuf(stderr, NULL, _IOLBF, BUFSIZ); /* a message comes out whole, and not in parts between those of another program */
     struct options options = parsed(count, words);
-    if (options.records)
-        return print_file(&options);
-    return settle_rules(&options.rules, options.strict, options.quiet) ? print_notes(&options) : FAILED;
+    return options.records ? print_file(&options) : print_notes(&options);
 }

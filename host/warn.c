@@ -1,6 +1,5 @@
 #include "warn.h"
 
-#include "rules.h"
 #include "say.h"
 #include "why.h"
 
@@ -116,10 +115,25 @@ static void tell_nuls(struct report *report)
 
 /* ---- fences */
 
-/* At a line's start fences go before pairs. */
+static size_t run_end(const struct note *note, size_t at)
+{
+    uint8_t byte = note->text[at];
+    while (at < note->len && note->text[at] == byte)
+        at++;
+    return at;
+}
+
+static size_t blanks_end(const struct note *note, size_t at)
+{
+    while (at < note->len && (note->text[at] == ' ' || note->text[at] == '\t'))
+        at++;
+    return at;
+}
+
+/* A pair's opening run has one byte, a fence's three and more. */
 static bool is_fence(const struct note *note, struct rack_region region)
 {
-    return (!region.start || note->text[region.start - 1] == '\n') && would_open(note->rules, note, region.start);
+    return note->text[region.start] == note->text[region.start + 1];
 }
 
 /* Whether the note's last line closes a fence: it has a run as long, both counted to 255, and blanks behind it. */
@@ -140,8 +154,17 @@ static void tell_unclosed(struct report *report)
         return;
     struct rack_region last = rack_region_at(note->regions.at, note->regions.count - 1);
     struct fault fault = {last.start, last.end == note->len && is_fence(note, last) && !is_closed(note, last)};
-    tell(report, fault, "nothing closes this fence", "all behind it is hidden; close it by a line of %zu %s or more and nothing else",
-         run_end(note, last.start) - last.start, written(note->text[last.start]).text);
+    tell(report, fault, "nothing closes this fence", "all behind it is hidden; close it by a line of %zu %c or more and nothing else",
+         run_end(note, last.start) - last.start, note->text[last.start]);
+}
+
+/* Whether a line would open a fence if it began at a place. */
+static bool would_open(const struct note *note, size_t at)
+{
+    if (at == note->len || (note->text[at] != '`' && note->text[at] != '~'))
+        return false;
+    size_t end = run_end(note, at);
+    return end - at >= 3 && !memchr(note->text + end, note->text[at], line_end(note, end) - end);
 }
 
 /* Blanks neither begin nor end a region, so that an indented run is in one where its line's start is. */
@@ -158,7 +181,7 @@ static struct fault indented_fences(const struct note *note)
             continue;
         }
         size_t run = blanks_end(note, at);
-        if (run > at && would_open(note->rules, note, run))
+        if (run > at && would_open(note, run))
             add(&fault, run);
     }
     return fault;
@@ -194,10 +217,10 @@ static void tell_pairs(struct report *report)
     }
     if (!fault.count)
         return;
-    struct written opener = written(note->text[first.start]), closer = written(note->text[first.end - 1]);
+    uint8_t opener = note->text[first.start], closer = note->text[first.end - 1];
     tell(report, fault, "a pair over lines",
-         "its %s and the %s of line %" PRIu64 " hide the item of line %" PRIu64 "; write \\%s where none is meant", opener.text,
-         closer.text, line_of(note, first.end - 1), line_of(note, hidden_line(note, first)), opener.text);
+         "its %c and the %c of line %" PRIu64 " hide the item of line %" PRIu64 "; write \\%c where none is meant", opener, closer,
+         line_of(note, first.end - 1), line_of(note, hidden_line(note, first)), opener);
 }
 
 /* ---- all of them */

@@ -2,7 +2,6 @@
 
 #include "say.h"
 
-#include <ctype.h>
 #include <inttypes.h>
 #include <stdlib.h>
 
@@ -15,22 +14,14 @@ static void want_served(const struct note *note, uint32_t refusal)
     }
 }
 
-/* Where a line's marker or delimiter would stand: behind blanks and digits. */
-static size_t lead_of(const struct note *note, size_t at)
-{
-    at = blanks_end(note, at);
-    while (at < note->len && isdigit(note->text[at]))
-        at++;
-    return at;
-}
-
-/* A line is explained by its own bytes and one region; an explanation of the whole note would walk it up to the line. */
+/* What hides an item begins on an earlier line, since before a marker or delimiter stand blanks and digits alone, and these begin no region. So
+ * a line is explained by its own bytes and one region; an explanation of the whole note would walk it up to the line. */
 uint32_t reason_of(const struct note *note, size_t at, struct rack_region region)
 {
     uint8_t row[RACK_REGION];
     size_t next = next_line(note, at);
-    bool reaches = region.start < next && at < region.end;
-    rack_put_number(row, (uint32_t)((region.start > at ? region.start : at) - at));
+    bool reaches = region.start < at && at < region.end;
+    rack_put_number(row, 0);
     rack_put_number(row + RACK_NUMBER, (uint32_t)((region.end < next ? region.end : next) - at));
     uint32_t why, number;
     want_served(note, rack_house_explain(note->text + at, next - at, row, sizeof row, reaches, 1, &why, &number, &region));
@@ -98,8 +89,7 @@ void print_every_why(const struct note *note)
     uint64_t line = 1;
     uint32_t k = 0;
     for (size_t at = 0; at < note->len; at = next_line(note, at), line++) {
-        size_t lead = lead_of(note, at);
-        while (k < note->regions.count && region.end <= lead)
+        while (k < note->regions.count && region.end <= at)
             region = rack_region_at(note->regions.at, k++);
         uint32_t why = reason_of(note, at, region);
         if (why != RACK_ON_SHEET && why != RACK_NO_LEAD)

@@ -4,8 +4,8 @@
 
 #include "note.h"
 
-/* The reason (`enum rack_reason`) of the line that begins at a place. Of the note's regions it needs the one that holds the line's marker or
- * delimiter; any other does no harm. */
+/* The reason (`enum rack_reason`) of the line that begins at a place. Of the note's regions it needs the one that reaches into the line from an
+ * earlier one; any other does no harm. */
 uint32_t reason_of(const struct note *note, size_t at, struct rack_region region);
 
 /* Prints the reason of one line, counted from 1. */

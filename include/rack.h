@@ -23,9 +23,9 @@
 
 /* The second number counts the change requests that have landed, the third what was mended since. */
 #define RACK_VERSION_MAJOR 0
-#define RACK_VERSION_MINOR 5
+#define RACK_VERSION_MINOR 4
 #define RACK_VERSION_PATCH 0
-#define RACK_VERSION "0.5.0"
+#define RACK_VERSION "0.4.0"
 
 enum rack_refusal {
     RACK_SERVED = 0,
@@ -41,8 +41,7 @@ enum rack_refusal {
     RACK_REPLACEMENT_OPEN = 8,  /* old text follows a replacement that isn't empty, and that doesn't end in two line ends or has,
                                    built alone, a region reaching its end */
     RACK_LINE_END_MARK = 9,     /* the escape, a symmetric byte or an asymmetric opener is the line-end byte (amendment only) */
-    RACK_NOT_RECORDS = 10,      /* a file is not of the form that records have; the place tells where (rack_json_read only) */
-    RACK_TRIGGERS_DROPPED = 11  /* a byte that opens a region was left out of the search (the strict entries only) */
+    RACK_NOT_RECORDS = 10       /* a file is not of the form that records have; the place tells where (rack_json_read only) */
 };
 
 /* Sizes in bytes: of a number, a region in a list, an item of a work sheet, the scanners' states. */
@@ -58,10 +57,9 @@ enum {
 
 /* The length of an answer run for n values, and the longest answer of each kind. */
 #define RACK_ANSWER(n) (4 * ((size_t)(n) + 1))
-#define RACK_ONE_ANSWER RACK_ANSWER(1)      /* leaves, sheets by a list and their counts */
-#define RACK_BUILD_ANSWER RACK_ANSWER(2)    /* building, sheets by rules, the counts of both, the amendment */
+#define RACK_ONE_ANSWER RACK_ANSWER(1)      /* leaves, building, sheets, counts, the amendment */
 #define RACK_PROBE_ANSWER RACK_ANSWER(5)    /* rack_probe_matcher */
-#define RACK_SEARCH_ANSWER RACK_ANSWER(13)  /* rack_search_bytes */
+#define RACK_SEARCH_ANSWER RACK_ANSWER(12)  /* rack_search_bytes */
 #define RACK_COVER_ANSWER RACK_ANSWER(2)    /* rack_covering_end */
 #define RACK_SPAN_ANSWER RACK_ANSWER(2)     /* rack_fence_step, rack_cont_step */
 #define RACK_MARKER_ANSWER RACK_ANSWER(3)   /* rack_marker_step */
@@ -118,9 +116,8 @@ uint32_t rack_next_in_paragraph(const uint8_t *text, size_t text_len, size_t fro
 uint32_t rack_probe_matcher(const uint8_t *accepted, size_t accepted_len,
                             uint8_t *answer, size_t answer_len);
 
-/* The bytes that a builder searches for: fence bytes, symmetric bytes and asymmetric openers, in that order, each once, the first eleven.
- * Thirteen values: how many there are, how many others were left out, each counted once, and the eleven cells, those behind the last one
- * 0. Refusal 3. */
+/* The bytes that a builder searches for. Twelve values: how many there are, and the eleven cells, those behind the last one 0.
+ * Refusal 3. */
 uint32_t rack_search_bytes(const uint8_t *fences, size_t fences_len, const uint8_t *symmetric, size_t symmetric_len,
                            const uint8_t *openers, size_t openers_len,
                            uint8_t *answer, size_t answer_len);
@@ -173,16 +170,11 @@ uint32_t rack_cont_new(uint8_t byte, uint8_t eol, uint8_t sep, uint8_t tab, size
 uint32_t rack_cont_step(const uint8_t *text, size_t text_len, uint8_t *state, size_t state_len,
                         uint8_t *answer, size_t answer_len);
 
-/* ---- building
- *
- * At most eleven different bytes are searched for (`rack_search_bytes`). A rule whose byte was left out makes no region; but a line on which
- * a fence would open by it ends a paragraph. How many bytes were left out is the second value of every entry that builds by rules; the
- * strict entries refuse with 11 where it isn't 0. */
+/* ---- building */
 
 /* The opaque regions of a text by rules in columns: fence bytes and minimums; symmetric bytes and counts; asymmetric openers, closers
  * and counts. A count column has four bytes for each byte of its byte column. Region k has its start at byte 8k of `out` and its
- * exclusive end at byte 8k + 4; bytes behind the last region are as they were. Two values: how many there are, and how many bytes were
- * left out. Refusals 1, 6, 3. */
+ * exclusive end at byte 8k + 4; bytes behind the last region are as they were. One value: how many there are. Refusals 1, 6, 3. */
 uint32_t rack_build(const uint8_t *text, size_t text_len, uint8_t eol, uint8_t escape, uint8_t sep, uint8_t tab,
                     const uint8_t *fences, size_t fences_len, const uint8_t *mins, size_t mins_len,
                     const uint8_t *symmetric, size_t symmetric_len, const uint8_t *times, size_t times_len,
@@ -190,16 +182,7 @@ uint32_t rack_build(const uint8_t *text, size_t text_len, uint8_t eol, uint8_t e
                     const uint8_t *counts, size_t counts_len,
                     uint8_t *out, size_t out_len, uint8_t *answer, size_t answer_len);
 
-/* The same, but refused where a byte was left out. Refusals 1, 6, 11, 3. */
-uint32_t rack_build_strict(const uint8_t *text, size_t text_len, uint8_t eol, uint8_t escape, uint8_t sep, uint8_t tab,
-                           const uint8_t *fences, size_t fences_len, const uint8_t *mins, size_t mins_len,
-                           const uint8_t *symmetric, size_t symmetric_len, const uint8_t *times, size_t times_len,
-                           const uint8_t *openers, size_t openers_len, const uint8_t *closers, size_t closers_len,
-                           const uint8_t *counts, size_t counts_len,
-                           uint8_t *out, size_t out_len, uint8_t *answer, size_t answer_len);
-
-/* How many regions `rack_build` would write, the room that is needed, without a list; and how many bytes were left out. Two values.
- * Refusals 1, 6, 3. */
+/* How many regions `rack_build` would write: the room that is needed, without a list. One value. Refusals 1, 6, 3. */
 uint32_t rack_build_count(const uint8_t *text, size_t text_len, uint8_t eol, uint8_t escape, uint8_t sep, uint8_t tab,
                           const uint8_t *fences, size_t fences_len, const uint8_t *mins, size_t mins_len,
                           const uint8_t *symmetric, size_t symmetric_len, const uint8_t *times, size_t times_len,
@@ -215,22 +198,14 @@ uint32_t rack_build_rules(const uint8_t *text, size_t text_len, uint8_t eol, uin
                           const uint8_t *counts, size_t counts_len,
                           uint8_t *out, size_t out_len, uint8_t *answer, size_t answer_len);
 
-/* The same, but refused where a byte was left out. Refusals 1, 6, 11, 3. */
-uint32_t rack_build_rules_strict(const uint8_t *text, size_t text_len, uint8_t eol, uint8_t escape, uint8_t sep, uint8_t tab,
-                                 const uint8_t *rules, size_t rules_len,
-                                 const uint8_t *symmetric, size_t symmetric_len, const uint8_t *times, size_t times_len,
-                                 const uint8_t *openers, size_t openers_len, const uint8_t *closers, size_t closers_len,
-                                 const uint8_t *counts, size_t counts_len,
-                                 uint8_t *out, size_t out_len, uint8_t *answer, size_t answer_len);
-
 /* ---- the amendment */
 
 /* The list of an edited text, from the list of the old one: of `old`, whose first `count` regions `list` has, the bytes from `first` up to
  * `second` are replaced by `text`. Written to `out` as building writes: the regions that start before the first cut; the replacement's
  * own, moved up by the first cut; unless the second cut is the old text's end, those that start at or after it, moved by the change in
  * length. Where the old list was built from the old text by this grammar and these columns, that is, to the byte, what building the
- * edited text gives. Of the old text only its length and the two bytes before each cut are read. Two values: how many there are, and how
- * many bytes of these rules were left out. Refusals 1 (the old text, the replacement), 6, 4, 1 (the edited text), 5, 9, 7, 8, 3. */
+ * edited text gives. Of the old text only its length and the two bytes before each cut are read. One value: how many there are.
+ * Refusals 1 (the old text, the replacement), 6, 4, 1 (the edited text), 5, 9, 7, 8, 3. */
 uint32_t rack_amend(const uint8_t *old, size_t old_len, const uint8_t *list, size_t list_len, uint32_t count,
                     size_t first, size_t second, const uint8_t *text, size_t text_len,
                     uint8_t eol, uint8_t escape, uint8_t sep, uint8_t tab,
@@ -240,25 +215,13 @@ uint32_t rack_amend(const uint8_t *old, size_t old_len, const uint8_t *list, siz
                     const uint8_t *counts, size_t counts_len,
                     uint8_t *out, size_t out_len, uint8_t *answer, size_t answer_len);
 
-/* The same, but refused where a byte was left out. Refusals 1 (the old text, the replacement), 6, 11, 4, 1 (the edited text), 5, 9, 7, 8,
- * 3. */
-uint32_t rack_amend_strict(const uint8_t *old, size_t old_len, const uint8_t *list, size_t list_len, uint32_t count,
-                           size_t first, size_t second, const uint8_t *text, size_t text_len,
-                           uint8_t eol, uint8_t escape, uint8_t sep, uint8_t tab,
-                           const uint8_t *fences, size_t fences_len, const uint8_t *mins, size_t mins_len,
-                           const uint8_t *symmetric, size_t symmetric_len, const uint8_t *times, size_t times_len,
-                           const uint8_t *openers, size_t openers_len, const uint8_t *closers, size_t closers_len,
-                           const uint8_t *counts, size_t counts_len,
-                           uint8_t *out, size_t out_len, uint8_t *answer, size_t answer_len);
-
 /* ---- the work sheet */
 
 /* The items of a text that no region hides, the regions being those that `rack_build` gives by these rules: marker items by a run of
  * accepted bytes, numbered items by a run of delimiters, by rising content start, the marker item first where two are equal. A region
  * hides an item where it holds the item's marker or delimiter; one that holds only its content doesn't. Item k has five numbers from
  * byte 20k of `out` on: its content's start and end, 0 for a marker item and 1 for a numbered one, the accepted byte, the number (0
- * for a marker item); bytes behind the last item are as they were. Two values: how many there are, and how many bytes that open a region
- * were left out. Refusals 1, 6, 3. */
+ * for a marker item); bytes behind the last item are as they were. One value: how many there are. Refusals 1, 6, 3. */
 uint32_t rack_sheet(const uint8_t *text, size_t text_len, uint8_t eol, uint8_t escape, uint8_t sep, uint8_t tab,
                     const uint8_t *fences, size_t fences_len, const uint8_t *mins, size_t mins_len,
                     const uint8_t *symmetric, size_t symmetric_len, const uint8_t *times, size_t times_len,
@@ -267,7 +230,7 @@ uint32_t rack_sheet(const uint8_t *text, size_t text_len, uint8_t eol, uint8_t e
                     const uint8_t *markers, size_t markers_len, const uint8_t *delims, size_t delims_len,
                     uint8_t *out, size_t out_len, uint8_t *answer, size_t answer_len);
 
-/* How many items `rack_sheet` would write, and how many bytes were left out. Two values. Refusals 1, 6, 3. */
+/* How many items `rack_sheet` would write. One value. Refusals 1, 6, 3. */
 uint32_t rack_sheet_count(const uint8_t *text, size_t text_len, uint8_t eol, uint8_t escape, uint8_t sep, uint8_t tab,
                           const uint8_t *fences, size_t fences_len, const uint8_t *mins, size_t mins_len,
                           const uint8_t *symmetric, size_t symmetric_len, const uint8_t *times, size_t times_len,
@@ -390,7 +353,7 @@ static inline const uint8_t *rack_run(const uint8_t *run)
     return run ? run : (const uint8_t *)"";
 }
 
-/* The first value of an answer, where it was served; on a refusal `*value` is as it was. */
+/* The value of an answer of one, where it was served; on a refusal `*value` is as it was. */
 static inline uint32_t rack_one(uint32_t refusal, const uint8_t *answer, uint32_t *value)
 {
     if (refusal == RACK_SERVED)
@@ -398,19 +361,19 @@ static inline uint32_t rack_one(uint32_t refusal, const uint8_t *answer, uint32_
     return refusal;
 }
 
-/* In these forms `*count` is how many regions or items there are; on a refusal it is as it was, and so is `out`. The house rules leave no
- * byte out. A null pointer with length 0 is an empty run. */
+/* In these forms `*count` is how many regions or items there are; on a refusal it is as it was, and so is `out`. A null pointer with
+ * length 0 is an empty run. */
 
 /* How many regions a text has, and how many items its sheet has. Refusal 1. */
 static inline uint32_t rack_house_build_count(const uint8_t *text, size_t text_len, uint32_t *count)
 {
-    uint8_t answer[RACK_BUILD_ANSWER];
+    uint8_t answer[RACK_ONE_ANSWER];
     return rack_one(rack_build_count(rack_run(text), text_len, RACK_HOUSE_BYTES, RACK_HOUSE_RULES, answer, sizeof answer), answer, count);
 }
 
 static inline uint32_t rack_house_sheet_count(const uint8_t *text, size_t text_len, uint32_t *count)
 {
-    uint8_t answer[RACK_BUILD_ANSWER];
+    uint8_t answer[RACK_ONE_ANSWER];
     return rack_one(rack_sheet_count(rack_run(text), text_len, RACK_HOUSE_BYTES, RACK_HOUSE_RULES, RACK_HOUSE_SETS, answer, sizeof answer),
                     answer, count);
 }
@@ -418,7 +381,7 @@ static inline uint32_t rack_house_sheet_count(const uint8_t *text, size_t text_l
 /* The regions of a text, and its work sheet. Refusals 1, 3. */
 static inline uint32_t rack_house_build(const uint8_t *text, size_t text_len, uint8_t *out, size_t out_len, uint32_t *count)
 {
-    uint8_t answer[RACK_BUILD_ANSWER], none[1];
+    uint8_t answer[RACK_ONE_ANSWER], none[1];
     return rack_one(rack_build(rack_run(text), text_len, RACK_HOUSE_BYTES, RACK_HOUSE_RULES, out ? out : none, out_len,
                                answer, sizeof answer),
                     answer, count);
@@ -426,7 +389,7 @@ static inline uint32_t rack_house_build(const uint8_t *text, size_t text_len, ui
 
 static inline uint32_t rack_house_sheet(const uint8_t *text, size_t text_len, uint8_t *out, size_t out_len, uint32_t *count)
 {
-    uint8_t answer[RACK_BUILD_ANSWER], none[1];
+    uint8_t answer[RACK_ONE_ANSWER], none[1];
     return rack_one(rack_sheet(rack_run(text), text_len, RACK_HOUSE_BYTES, RACK_HOUSE_RULES, RACK_HOUSE_SETS, out ? out : none, out_len,
                                answer, sizeof answer),
                     answer, count);
@@ -447,7 +410,7 @@ static inline uint32_t rack_house_amend(const uint8_t *old, size_t old_len, cons
                                         size_t first, size_t second, const uint8_t *text, size_t text_len,
                                         uint8_t *out, size_t out_len, uint32_t *count)
 {
-    uint8_t answer[RACK_BUILD_ANSWER], none[1];
+    uint8_t answer[RACK_ONE_ANSWER], none[1];
     return rack_one(rack_amend(rack_run(old), old_len, rack_run(list), list_len, listed, first, second, rack_run(text), text_len,
                                RACK_HOUSE_BYTES, RACK_HOUSE_RULES, out ? out : none, out_len, answer, sizeof answer),
                     answer, count);

@@ -10,58 +10,31 @@ struct edit {
     const struct text *replacement;
 };
 
-static uint32_t enter_edit(const struct edit *e, const struct lent *l, bool is_strict)
-{
-    const struct question *q = e->q;
-    const struct run *r = l->read;
-    return (is_strict ? rack_amend_strict : rack_amend)(
-        r[0].at, r[0].len, r[1].at, r[1].len, l->count, e->first, e->second, r[2].at, r[2].len, q->eol, q->escape, q->sep, q->tab,
-        r[3].at, r[3].len, r[4].at, r[4].len, r[5].at, r[5].len, r[6].at, r[6].len, r[7].at, r[7].len, r[8].at, r[8].len, r[9].at, r[9].len,
-        l->work.at, l->work.len, l->answer.at, l->answer.len);
-}
-
 static uint32_t enter_amend(const void *of, const struct lent *l)
 {
-    return enter_edit(of, l, false);
-}
-
-static uint32_t enter_amend_strict(const void *of, const struct lent *l)
-{
-    return enter_edit(of, l, true);
+    const struct edit *e = of;
+    const struct question *q = e->q;
+    const struct run *r = l->read;
+    return rack_amend(r[0].at, r[0].len, r[1].at, r[1].len, l->count, e->first, e->second, r[2].at, r[2].len,
+                      q->eol, q->escape, q->sep, q->tab, r[3].at, r[3].len, r[4].at, r[4].len, r[5].at, r[5].len, r[6].at, r[6].len,
+                      r[7].at, r[7].len, r[8].at, r[8].len, r[9].at, r[9].len, l->work.at, l->work.len, l->answer.at, l->answer.len);
 }
 
 /* An edited text that is too long is refused behind the columns and the cuts, other texts before them. */
-static const struct entry amended = {"rack_amend", "64159783", enter_amend}, too_long = {"rack_amend", "1", enter_amend},
-                          strictly = {"rack_amend_strict", "6b4159783", enter_amend_strict},
-                          too_long_strictly = {"rack_amend_strict", "1", enter_amend_strict};
+static const struct entry amended = {"rack_amend", "64159783", enter_amend}, too_long = {"rack_amend", "1", enter_amend};
 
-static struct call amend_call(struct entry entry, const struct edit *edit, const struct text *old, const struct placed *list)
+static void amend(const struct edit *edit, const struct text *old, const struct placed *list, bool is_again, struct outcome *got)
 {
     const struct text *new = edit->replacement;
-    struct call call = call_of(entry, edit, old);
+    bool is_too_long = old->bytes.run.len > UINT32_MAX || new->bytes.run.len > UINT32_MAX;
+    struct call call = call_of(is_too_long ? too_long : amended, edit, old);
     call.is_huge |= new->size == HUGE;
+    call.is_again = is_again;
     read_list(&call, list, (uint32_t)(list->run.len / REGION));
     call.read[call.reads++] = &new->bytes;
     read_rules(&call, edit->q);
     write_list(&call, REGION, list->run.len + room_for_regions(new));
-    return call;
-}
-
-/* Amends, by turns strictly too; what the lenient way left stays then as a copy, until the next time. */
-static void amend(const struct edit *edit, const struct text *old, const struct placed *list, bool is_again, struct outcome *got)
-{
-    static struct run room;
-    bool is_too_long = old->bytes.run.len > UINT32_MAX || edit->replacement->bytes.run.len > UINT32_MAX;
-    struct call call = amend_call(is_too_long ? too_long : amended, edit, old, list);
-    call.is_again = is_again;
     run_call(&call, got);
-    check_left(got);
-    if (!is_strict_too(is_again))
-        return;
-    size_t len = got->refusal ? 0 : (size_t)got->values[0] * REGION;
-    got->work = copied(&room, (struct run){got->work.at, len}, len);
-    call.entry = is_too_long ? too_long_strictly : strictly;
-    check_strict(&call, got);
 }
 
 static void put_regions(const struct outcome *got, struct answer *a)

@@ -4,7 +4,6 @@
 #include <string.h>
 
 bool thorough;
-uint32_t left_out;
 struct tally tallies[MOST_ENTRIES + 1];
 const struct tally *entered;
 
@@ -161,17 +160,12 @@ static void refused_first(const struct call *call, uint32_t refusal, size_t work
     refused(call, refusal, call->work == A_LIST ? 0 : work_len, 0);
 }
 
-bool has_same_answer(const struct outcome *a, const struct outcome *b)
+static void check_same(const struct call *call, const struct outcome *a, const struct outcome *b)
 {
     bool same = a->refusal == b->refusal && a->count == b->count;
     for (size_t i = 0; same && i < a->count; i++)
         same = a->values[i] == b->values[i];
-    return same;
-}
-
-static void check_same(const struct call *call, const struct outcome *a, const struct outcome *b)
-{
-    if (!has_same_answer(a, b))
+    if (!same)
         give_up("unlike", "another answer where the runs lie elsewhere, or rows stand behind a count");
     size_t written = call->work == A_LIST ? listed(call, a) : call->given.len;
     if (call->work != NO_WORK && !a->refusal && !is_same(a->work.at, b->work.at, written))
@@ -207,13 +201,12 @@ static void odd_rooms(const struct call *call, const struct outcome *full)
     }
 }
 
-uint32_t tried_first(const struct call *call, uint32_t a, uint32_t b)
+/* Of two numbers that would refuse a call, 0 being none, the one that is tried first. */
+static uint32_t tried_first(const struct call *call, uint32_t a, uint32_t b)
 {
-    for (const char *digit = call->entry.order; *digit; digit++) {
-        uint32_t number = *digit == 'b' ? 11 : (uint32_t)(*digit - '0');
-        if (a == number || b == number)
-            return number;
-    }
+    for (const char *digit = call->entry.order; *digit; digit++)
+        if (a == (uint32_t)(*digit - '0') || b == (uint32_t)(*digit - '0'))
+            return (uint32_t)(*digit - '0');
     return a ? a : b;
 }
 

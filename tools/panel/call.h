@@ -15,7 +15,7 @@
 #include "lend.h"
 #include "text.h"
 
-enum { MOST_READ = 10, MOST_VALUES = 13, NUMBER = 4, REGION = 8, ITEM = 20 };
+enum { MOST_READ = 10, MOST_VALUES = 12, NUMBER = 4, REGION = 8, ITEM = 20 };
 
 /* The runs as they are lent, and how many regions a list that is read is said to have. */
 struct lent {
@@ -28,8 +28,7 @@ struct lent {
 /* What is written beside the answer run: nothing, a state, whose bytes are given, or a list. */
 enum work { NO_WORK, A_STATE, A_LIST };
 
-/* An entry: its name, its refusals in the order in which they are tried, each a digit or b for 11, 3 for the answer run aside, and what
- * calls it. */
+/* An entry: its name, the digits of its refusals in the order in which they are tried, 3 for the answer run aside, and what calls it. */
 struct entry {
     const char *name, *order;
     uint32_t (*enter)(const void *of, const struct lent *lent);
@@ -72,9 +71,6 @@ struct outcome {
 /* Whether a question is asked in wrong shapes too. */
 extern bool thorough;
 
-/* How many bytes the rules of a question leave out of the search, as the request says. */
-extern uint32_t left_out;
-
 /* The entries that were called, each with how many calls were made, how many of them refused, and how often one was made in several
  * ways; ended by one without a name. */
 enum { MOST_ENTRIES = 32 };
@@ -88,12 +84,6 @@ extern struct tally tallies[MOST_ENTRIES + 1];
 extern const struct tally *entered;
 
 void run_call(const struct call *call, struct outcome *outcome);
-
-/* Whether two calls gave the same refusal and values. */
-bool has_same_answer(const struct outcome *a, const struct outcome *b);
-
-/* Of two numbers that would refuse a call, 0 being none, the one that is tried first. */
-uint32_t tried_first(const struct call *call, uint32_t a, uint32_t b);
 
 /* Ends the request where memory was written that no call lent. */
 void check_slots(void);

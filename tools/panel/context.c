@@ -5,40 +5,22 @@
 
 #include "../../include/rack.h"
 
-static uint32_t enter_columns(const struct question *q, const struct lent *l, bool is_strict)
-{
-    const struct run *r = l->read;
-    return (is_strict ? rack_build_strict : rack_build)(
-        r[0].at, r[0].len, q->eol, q->escape, q->sep, q->tab, r[1].at, r[1].len, r[2].at, r[2].len, r[3].at, r[3].len, r[4].at, r[4].len,
-        r[5].at, r[5].len, r[6].at, r[6].len, r[7].at, r[7].len, l->work.at, l->work.len, l->answer.at, l->answer.len);
-}
-
-static uint32_t enter_records(const struct question *q, const struct lent *l, bool is_strict)
-{
-    const struct run *r = l->read;
-    return (is_strict ? rack_build_rules_strict : rack_build_rules)(
-        r[0].at, r[0].len, q->eol, q->escape, q->sep, q->tab, r[1].at, r[1].len, r[2].at, r[2].len, r[3].at, r[3].len, r[4].at, r[4].len,
-        r[5].at, r[5].len, r[6].at, r[6].len, l->work.at, l->work.len, l->answer.at, l->answer.len);
-}
-
 static uint32_t enter_build(const void *of, const struct lent *l)
 {
-    return enter_columns(of, l, false);
-}
-
-static uint32_t enter_build_strict(const void *of, const struct lent *l)
-{
-    return enter_columns(of, l, true);
+    const struct question *q = of;
+    const struct run *r = l->read;
+    return rack_build(r[0].at, r[0].len, q->eol, q->escape, q->sep, q->tab, r[1].at, r[1].len, r[2].at, r[2].len,
+                      r[3].at, r[3].len, r[4].at, r[4].len, r[5].at, r[5].len, r[6].at, r[6].len, r[7].at, r[7].len,
+                      l->work.at, l->work.len, l->answer.at, l->answer.len);
 }
 
 static uint32_t enter_build_rules(const void *of, const struct lent *l)
 {
-    return enter_records(of, l, false);
-}
-
-static uint32_t enter_build_rules_strict(const void *of, const struct lent *l)
-{
-    return enter_records(of, l, true);
+    const struct question *q = of;
+    const struct run *r = l->read;
+    return rack_build_rules(r[0].at, r[0].len, q->eol, q->escape, q->sep, q->tab, r[1].at, r[1].len, r[2].at, r[2].len,
+                            r[3].at, r[3].len, r[4].at, r[4].len, r[5].at, r[5].len, r[6].at, r[6].len,
+                            l->work.at, l->work.len, l->answer.at, l->answer.len);
 }
 
 static uint32_t enter_build_count(const void *of, const struct lent *l)
@@ -51,35 +33,25 @@ static uint32_t enter_build_count(const void *of, const struct lent *l)
 }
 
 static const struct entry by_columns = {"rack_build", "163", enter_build}, by_records = {"rack_build_rules", "163", enter_build_rules},
-                          strictly = {"rack_build_strict", "16b3", enter_build_strict},
-                          strictly_by_records = {"rack_build_rules_strict", "16b3", enter_build_rules_strict},
                           counted = {"rack_build_count", "16", enter_build_count};
 
-/* Building by columns into a list of so many bytes. */
-static struct call columns_call(struct entry entry, const struct question *q, const struct text *text, size_t room)
+/* Builds by columns into a list of so many bytes. */
+static void build(const struct question *q, const struct text *text, size_t room, struct outcome *got)
 {
-    struct call call = call_of(entry, q, text);
+    struct call call = call_of(by_columns, q, text);
     read_rules(&call, q);
     write_list(&call, REGION, room);
-    return call;
+    run_call(&call, got);
 }
 
 /* The same by records. */
-static struct call records_call(struct entry entry, const struct question *q, const struct text *text, size_t room)
-{
-    const struct placed *const rules[] = {&q->rules, &q->symmetric, &q->times, &q->openers, &q->closers, &q->counts};
-    struct call call = call_of(entry, q, text);
-    call.most_values = BUILT_VALUES;
-    read_columns(&call, rules, sizeof rules / sizeof *rules);
-    write_list(&call, REGION, room);
-    return call;
-}
-
 static void build_rules(const struct question *q, const struct text *text, size_t room, struct outcome *got)
 {
-    struct call call = records_call(by_records, q, text, room);
+    const struct placed *const rules[] = {&q->rules, &q->symmetric, &q->times, &q->openers, &q->closers, &q->counts};
+    struct call call = call_of(by_records, q, text);
+    read_columns(&call, rules, sizeof rules / sizeof *rules);
+    write_list(&call, REGION, room);
     run_call(&call, got);
-    check_left(got);
 }
 
 static void check_build_count(const struct question *q, const struct text *text, const struct outcome *built)
@@ -87,14 +59,6 @@ static void check_build_count(const struct question *q, const struct text *text,
     struct call call = call_of(counted, q, text);
     read_rules(&call, q);
     check_count(&call, built);
-}
-
-/* The same strictly, in both ways. */
-static void check_build_strict(const struct question *q, const struct text *text, size_t room, const struct outcome *built)
-{
-    struct call columns = columns_call(strictly, q, text, room), records = records_call(strictly_by_records, q, text, room);
-    check_strict(&columns, built);
-    check_strict(&records, built);
 }
 
 /* Regions lie apart, so that at most every second byte begins one. */
@@ -115,18 +79,14 @@ static struct run regions_left(const struct outcome *got)
 static struct run built(const struct question *q, const struct text *text, size_t room, uint32_t *refusal)
 {
     struct outcome first, second;
-    struct call call = columns_call(by_columns, q, text, room);
-    run_call(&call, &first);
-    check_left(&first);
-    struct run regions = first.work = regions_left(&first);
+    build(q, text, room, &first);
+    struct run regions = regions_left(&first);
     build_rules(q, text, room, &second);
     if (second.refusal != first.refusal || (!second.refusal && second.values[0] * REGION != regions.len) ||
         (regions.len && memcmp(second.work.at, regions.at, regions.len)))
         give_up("unlike", "regions by rack_build and by rack_build_rules");
     if (first.refusal != 3)
         check_build_count(q, text, &first);
-    if (is_strict_too(false))
-        check_build_strict(q, text, room, &first);
     *refusal = first.refusal;
     return regions;
 }

@@ -106,15 +106,13 @@ static void ask_probe_matcher(const struct question *q, const struct text *text,
 static void ask_build_needles(const struct question *q, const struct text *text, size_t place, struct answer *a)
 {
     struct call call = {.entry = {"rack_search_bytes", "", enter_search_bytes}, .read = {&q->fences, &q->symmetric, &q->openers},
-                        .reads = 3, .has_answer = true, .most_values = MOST_VALUES};
+                        .reads = 3, .has_answer = true, .most_values = 12};
     struct outcome got;
     (void)text, (void)place;
     run_call(&call, &got);
-    if (got.count != MOST_VALUES || got.values[1] != left_out)
-        give_up("unlike", "a collection is a count, how many bytes are left out, and eleven cells");
     clear(a, SOME);
     put_alone(a, got.values[0]);
-    put_values(a, &got, 2);
+    put_values(a, &got, 1);
 }
 
 static void read_eol(struct words *words, struct question *q)

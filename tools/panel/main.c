@@ -8,8 +8,6 @@
  *   unknown NAME     the panel has no entry for this question
  *   counts …         to `counts`: questions asked, questions refused, and for each entry that was called NAME:CALLS:REFUSED
  *
- * Before a request may stand `left N`: by its rules N bytes are left out of the search, else none; entries must say so.
- *
  * Behind `changed`, `unlike` and `fault` stand the entry that was called last, and the text and the place that were asked about. */
 #define _DEFAULT_SOURCE
 #include "block.h"
@@ -101,10 +99,6 @@ static void print_counts(void)
 static void respond(struct words words)
 {
     const char *name = next_word(&words, "a request is missing");
-    if (!strcmp(name, "left")) {
-        left_out = (uint32_t)next_number(&words, "how many are left out is a number", UINT32_MAX);
-        name = next_word(&words, "a request is missing");
-    }
     if (!strcmp(name, "block"))
         answer_block(&words);
     else if (!strcmp(name, "part"))
@@ -133,7 +127,6 @@ int main(void)
         line[len - (line[len - 1] == '\n')] = 0;
         asking = (struct asking){0};
         thorough = false;
-        left_out = 0;
         is_giving_up = false;
         if (!sigsetjmp(next_request, 1))
             respond((struct words){line});

@@ -70,35 +70,12 @@ void read_rules(struct call *call, const struct question *q)
 {
     const struct placed *const columns[] = {&q->fences, &q->mins, &q->symmetric, &q->times, &q->openers, &q->closers, &q->counts};
     read_columns(call, columns, sizeof columns / sizeof *columns);
-    call->most_values = BUILT_VALUES;
 }
 
 void check_count(const struct call *call, const struct outcome *listed)
 {
     struct outcome got;
     run_call(call, &got);
-    if (!has_same_answer(&got, listed))
+    if (got.refusal != listed->refusal || (!got.refusal && got.values[0] != listed->values[0]))
         give_up("unlike", "another count than the list has rows, or another refusal");
-}
-
-void check_left(const struct outcome *got)
-{
-    if (!got->refusal && (got->count != BUILT_VALUES || got->values[1] != left_out))
-        give_up("unlike", "another number of bytes left out");
-}
-
-bool is_strict_too(bool is_again)
-{
-    static unsigned turn;
-    return (thorough && !is_again) || ++turn % 8 == 0;
-}
-
-void check_strict(const struct call *strict, const struct outcome *lenient)
-{
-    struct outcome got;
-    uint32_t refusal = tried_first(strict, lenient->refusal, left_out ? RACK_TRIGGERS_DROPPED : 0);
-    run_call(strict, &got);
-    bool same = refusal ? got.refusal == refusal : has_same_answer(&got, lenient);
-    if (!same || (!refusal && !is_same(got.work.at, lenient->work.at, (size_t)got.values[0] * REGION)))
-        give_up("unlike", "another list or refusal by a strict entry");
 }

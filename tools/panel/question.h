@@ -84,9 +84,7 @@ static inline void read_columns(struct call *call, const struct placed *const *c
     memcpy(call->read + call->reads, columns, count * sizeof *columns);
     call->columns_end = call->reads += count;
 }
-/* All columns of a question's grammar, the fence rules in two. Who builds by them answers how many rows there are, and how many bytes are
- * left out. */
-enum { BUILT_VALUES = 2 };
+/* All columns of a question's grammar, the fence rules in two. */
 void read_rules(struct call *call, const struct question *q);
 
 /* The call writes a list of such rows. */
@@ -97,16 +95,7 @@ static inline void write_list(struct call *call, size_t row, size_t room)
     call->given.len = room;
 }
 
-/* How many rows an entry counts, which must be as many as another entry's list has, and what it says beside. */
+/* How many rows an entry counts, which must be as many as another entry's list has. */
 void check_count(const struct call *call, const struct outcome *listed);
-
-/* Ends the request where a list that was made says another number of bytes left out than the request. */
-void check_left(const struct outcome *got);
-
-/* Whether a strict way is tried too: always of a question by itself, and of one in eight of many alike. */
-bool is_strict_too(bool is_again);
-/* What a strict entry gives beside a lenient one that left this list of regions: 11 where bytes are left out and nothing refuses before
- * that, else the same. */
-void check_strict(const struct call *strict, const struct outcome *lenient);
 
 #endif

@@ -85,7 +85,6 @@ static void put_by_rules(const struct question *q, const struct text *text, stru
     struct call call = call_by_rules(by_rules, q, text), count = call_by_rules(counted, q, text);
     write_list(&call, ITEM, room_for_items(text));
     run_call(&call, &got);
-    check_left(&got);
     put_items(&got, a);
     check_count(&count, &got);
 }

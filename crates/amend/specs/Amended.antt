@@ -1,19 +1,18 @@
 -- What an amendment answers and writes. Assumes nothing.
 -- The page: "For an amendment: 1 (old text, replacement), 6, 4, 1 (edited text), 5, 9, 7, 8, 3." and "This formula holds for every
--- accepted list". Document 02, request 5: "Building passes that number on, and so does the amendment, for its replacement's rules."
--- and "Demand 3 holds for both ways", which is read as: an amendment has a strict way too.
-use Rattle.std.specs.Prelude.{◌≡◌, Bool, not, cond, ◌||◌, ◌&&◌, List, [], ◌∷◌, ◌++◌, map, ℕ, ◌+◌, ltb, length, take, drop}
+-- accepted list".
+use Rattle.std.specs.Prelude.{◌≡◌, Bool, not, cond, ◌||◌, ◌&&◌, List, [], ◌++◌, map, ℕ, ◌+◌, ltb, length, take, drop}
 use Rattle.common.specs.Entry.{flatten, rows, wide}
 use Rattle.common.specs.Refusals.{Outcome, refuse, too_long, past}
 use Rattle.common.specs.declared.grammar.Grammar.{Grammar}
 use Rattle.region.specs.Region.{Region, up, reaches, keep_before, keep_from, Listed, row, unrow, tag_of}
 use Rattle.rules.specs.Grammar.{Gram}
-use Rattle.rules.specs.Columns.{Columns, gram_of, unequal, left_out}
+use Rattle.rules.specs.Columns.{Columns, gram_of, unequal}
 use Rattle.cover.specs.Shape.{misshapen}
 use Rattle.amend.specs.Amend.{Edit, moved_by, joint}
 use Rattle.joint.specs.Joint.{open_end, line_end_is_mark}
 use Rattle.region.specs.Regions.{tagged}
-use Rattle.common.specs.Lists.{filled_beside, barred, filled_by}
+use Rattle.common.specs.Lists.{filled_answer, filled_by}
 
 -- ---- lists as regions
 -- the first n regions of a list
@@ -62,49 +61,47 @@ unfoldable pub left_open : {T : Type 0} → ℕ → (List ℕ → List (Region T
 left_open eol build len e = open_end eol (follows len e.second) e.text (reaches (length e.text) (build e.text))
 
 -- ---- the answer, and the list that is left
--- "For an amendment: 1 (old text, replacement), 6, 4, 1 (edited text), 5, 9, 7, 8, 3."; where it is strict, 11 "after 6 and before everything
--- later". The first five, which the texts' lengths, the columns and the bytes left out (6 and 11 as they hold) and the cuts decide, else what follows
-unfoldable pub judged_edit : List ℕ → Edit → Bool → Bool → Outcome → Outcome
-judged_edit s e unequal bar o =
+-- "For an amendment: 1 (old text, replacement), 6, 4, 1 (edited text), 5, 9, 7, 8, 3."
+-- The first four, which the texts' lengths, the columns (6 as it holds) and the cuts decide, else what follows
+unfoldable pub judged_edit : List ℕ → Edit → Bool → Outcome → Outcome
+judged_edit s e unequal o =
     refuse 1 (too_long s || too_long e.text)
     (refuse 6 unequal
-    (refuse 11 bar
     (refuse 4 (miscut s e)
     (refuse 1 (too_long (edited e s))
-    o))))
+    o)))
 
 -- and the next three, which the list, the rules (9 as it holds) and the bytes before the cuts decide
-unfoldable pub judged : ℕ → List ℕ → List ℕ → ℕ → Edit → Bool → Bool → Bool → Outcome → Outcome
-judged eol s l n e unequal bar marked o =
-    judged_edit s e unequal bar
+unfoldable pub judged : ℕ → List ℕ → List ℕ → ℕ → Edit → Bool → Bool → Outcome → Outcome
+judged eol s l n e unequal marked o =
+    judged_edit s e unequal
     (refuse 5 (misshapen l n (length s))
     (refuse 9 marked
     (refuse 7 (off_joint eol s (regions_in n l) e.first e.second)
     o)))
 
 -- the last two, which the replacement and the room decide, 3 as for building, where a region has w numbers of the list that is left; else the
--- count, and how many bytes were left out
-unfoldable pub settled_answer : ℕ → ℕ → ℕ → (List ℕ → List Listed) → ℕ → List Listed → Edit → List ℕ → Outcome
-settled_answer w eol len build left l e out =
-    refuse 8 (left_open eol build len e) (filled_beside w (amended_regions build len e l) (left ∷ []) out)
+-- count
+unfoldable pub settled_answer : ℕ → ℕ → ℕ → (List ℕ → List Listed) → List Listed → Edit → List ℕ → Outcome
+settled_answer w eol len build l e out =
+    refuse 8 (left_open eol build len e) (filled_answer w (amended_regions build len e l) out)
 
 module _ (g : Grammar) (c : Columns) (s l : List ℕ) (n : ℕ) (e : Edit) where
   -- the regions that an amendment of the list l, with n regions, is to leave
   abbrev pub amended_list : List Listed
   amended_list = amended_regions (list_regions (gram_of g c)) (length s) e (regions_in n l)
 
-  -- all ten, one after another, where a region has w numbers of the list that is left, and columns may differ. The rules, and with them the
-  -- number of bytes left out, are those that the amendment is given
-  unfoldable pub amend_answer : ℕ → Bool → Bool → List ℕ → Outcome
-  amend_answer w strict differing out =
-      judged g.eol s l n e differing (barred strict (left_out c)) (uses_line_end g c)
-      (settled_answer w g.eol (length s) (list_regions (gram_of g c)) (left_out c) (regions_in n l) e out)
+  -- all nine, one after another, where a region has w numbers of the list that is left, and columns may differ
+  unfoldable pub amend_answer : ℕ → Bool → List ℕ → Outcome
+  amend_answer w differing out =
+      judged g.eol s l n e differing (uses_line_end g c)
+      (settled_answer w g.eol (length s) (list_regions (gram_of g c)) (regions_in n l) e out)
 
-  unfoldable pub amended_answer : Bool → List ℕ → Outcome
-  amended_answer strict out = amend_answer wide strict (unequal c) out
+  unfoldable pub amended_answer : List ℕ → Outcome
+  amended_answer out = amend_answer wide (unequal c) out
 
--- the promise of an amendment, strict or not: its answer, and the list that it leaves. "Success writes the regions from place 0, returns their count and
+-- the promise of an amendment: its answer, and the list that it leaves. "Success writes the regions from place 0, returns their count and
 -- changes nothing beyond them."
-pub record Amended (strict : Bool) (g : Grammar) (c : Columns) (s l : List ℕ) (n : ℕ) (e : Edit) (out out' : List ℕ) (o : Outcome) : Type 0 where
-  pub answer : o ≡ amended_answer g c s l n e strict out
-  pub list : out' ≡ filled_by (amended_answer g c s l n e strict out) (flatten row (amended_list g c s l n e)) out
+pub record Amended (g : Grammar) (c : Columns) (s l : List ℕ) (n : ℕ) (e : Edit) (out out' : List ℕ) (o : Outcome) : Type 0 where
+  pub answer : o ≡ amended_answer g c s l n e out
+  pub list : out' ≡ filled_by (amended_answer g c s l n e out) (flatten row (amended_list g c s l n e)) out

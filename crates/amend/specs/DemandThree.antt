@@ -1,17 +1,16 @@
 -- Mission demand 3, stated: of the promises that `build` and `amend` keep, with no acceptance assumed. Its proof is Serves.antt. Assumes nothing.
 -- The mission: "Replacing the stretch between two joints of a text, the kept regions, the new bytes' own and the moved ones are exactly those
 -- of the edited text built afresh." The page: "mission demand 3 adds that the old list was built from the old text, by the grammar and rules
--- the amendment is given". Document 02, request 5: "Demand 3 holds for both ways."
-use Rattle.std.specs.Prelude.{◌≡◌, Bool, false, List, ◌⊎◌, ℕ, ◌-◌, ◌*◌, ◌≤◌, ◌<◌, length, get_or}
+-- the amendment is given".
+use Rattle.std.specs.Prelude.{◌≡◌, false, List, ◌⊎◌, ℕ, ◌-◌, ◌*◌, ◌≤◌, ◌<◌, length, get_or}
 use Rattle.common.specs.Entry.{room, wide}
-use Rattle.common.specs.Lists.{barred}
-use Rattle.common.specs.Refusals.{told_made}
+use Rattle.common.specs.Refusals.{told}
 use Rattle.common.specs.declared.grammar.Grammar.{Grammar}
-use Rattle.common.specs.declared.refusal.Made.{Made}
-use Rattle.common.specs.declared.refusal.Made.TheVariants as made
+use Rattle.common.specs.declared.refusal.Answer.{Answer}
+use Rattle.common.specs.declared.refusal.Answer.TheVariants.{Value}
 use Rattle.region.specs.Region.{Region, reaches, Listed}
 use Rattle.region.specs.Regions.{regions}
-use Rattle.rules.specs.Columns.{Columns, unequal, left_out, gram_of}
+use Rattle.rules.specs.Columns.{Columns, unequal, gram_of}
 use Rattle.context.specs.Build.{Built}
 use Rattle.amend.specs.Amend.{Edit, Joint}
 use Rattle.amend.specs.Amended.{list_regions, edited, uses_line_end, Amended}
@@ -41,28 +40,27 @@ pub record Conditions (g : Grammar) (c : Columns) (old : List ℕ) (list : List 
 abbrev pub region_count : Grammar → Columns → List ℕ → ℕ
 region_count g c s = length (regions (gram_of g c) s)
 
--- an amendment has answered r and left `out'` of `out`, building the edited text over `blank` has answered a and left `fresh`: both answer k regions,
--- and that `dropped` bytes were left out; every cell of a region is the same in both lists, and over the same run the lists are equal
-pub record Agree (k dropped : ℕ) (out out' blank fresh : List ℕ) (r a : Made) : Type 0 where
-  pub amended : r ≡ made.List k dropped
-  pub built : a ≡ made.List k dropped
+-- an amendment has answered r and left `out'` of `out`, building the edited text over `blank` has answered a and left `fresh`: both answer k,
+-- every cell of a region is the same in both lists, and over the same run the lists are equal
+pub record Agree (k : ℕ) (out out' blank fresh : List ℕ) (r a : Answer) : Type 0 where
+  pub amended : r ≡ Value k
+  pub built : a ≡ Value k
   pub cells : (i : ℕ) → i < k * wide → get_or fresh i 0 ≡ get_or out' i 0
   pub whole : blank ≡ out → fresh ≡ out'
 
--- Build the old text; amend its list, of as many regions as the old text has; build the edited text: all three strict, or none. Where the texts are
--- within the limit, the columns agree, no byte was left out or the way isn't strict, each run has room for its regions and the edit meets the
--- conditions with the old text's own regions, all three answer, and the amended list is the one built afresh.
+-- Build the old text; amend its list, of as many regions as the old text has; build the edited text. Where the texts are within the limit, the
+-- columns agree, each run has room for its regions and the edit meets the conditions with the old text's own regions, all three
+-- answer, and the amended list is the one built afresh.
 abbrev pub DemandThree : Type 0
 DemandThree =
-    (strict : Bool) (g : Grammar) (c : Columns) (old run l : List ℕ) (e : Edit) (out out' blank fresh : List ℕ) (q r a : Made)
+    (g : Grammar) (c : Columns) (old run l : List ℕ) (e : Edit) (out out' blank fresh : List ℕ) (q r a : Answer)
     → length old ≤ 4294967295
     → unequal c ≡ false
-    → barred strict (left_out c) ≡ false
     → region_count g c old ≤ room wide run
     → Conditions g c old (list_regions (gram_of g c) old) e
     → region_count g c (edited e old) ≤ room wide out
     → region_count g c (edited e old) ≤ room wide blank
-    → Built strict g c old run l (told_made q)
-    → Amended strict g c old l (region_count g c old) e out out' (told_made r)
-    → Built strict g c (edited e old) blank fresh (told_made a)
-    → (q ≡ made.List (region_count g c old) (left_out c)) × Agree (region_count g c (edited e old)) (left_out c) out out' blank fresh r a
+    → Built g c old run l (told q)
+    → Amended g c old l (region_count g c old) e out out' (told r)
+    → Built g c (edited e old) blank fresh (told a)
+    → (q ≡ Value (region_count g c old)) × Agree (region_count g c (edited e old)) out out' blank fresh r a

@@ -44,10 +44,10 @@ verdict_back verdict.Fine = refl
 verdict_back (verdict.Refused r) = read-refused (λ l. verdict.Fine) verdict.Refused r
 
 -- two verdicts on the same arguments are one
-pub judged-edit_unique : {s : List ℕ} {e : Edit} {unequal bar : Bool} {v v' : Verdict} → JudgedEdit s e unequal bar v → JudgedEdit s e unequal bar v' → v ≡ v'
+pub judged-edit_unique : {s : List ℕ} {e : Edit} {unequal : Bool} {v v' : Verdict} → JudgedEdit s e unequal v → JudgedEdit s e unequal v' → v ≡ v'
 judged-edit_unique a b = told_unique told_verdict (read (λ l. verdict.Fine) verdict.Refused) verdict_back (record { answer = a.answer }) (record { answer = b.answer })
 
--- ---- the first five refusals
+-- ---- the first four refusals
 pub edited-length : (s : List ℕ) (first second : ℕ) (r : List ℕ) → first ≤ second → second ≤ length s → length (edited (edit first second r) s) ≡ length s - (second - first) + length r
 edited-length s first second r h k =
     let a = length-append (take first s) (r ++ drop second s) in
@@ -56,13 +56,13 @@ edited-length s first second r h k =
     let d = length-drop second s in
     omega arith
 
-module _ (s : List ℕ) (first second : ℕ) (r : List ℕ) (unequal bar : Bool) (o : Outcome) where
-  pub judged_old : 4294967295 < length s → refused 1 ≡ judged_edit s (edit first second r) unequal bar o
+module _ (s : List ℕ) (first second : ℕ) (r : List ℕ) (unequal : Bool) (o : Outcome) where
+  pub judged_old : 4294967295 < length s → refused 1 ≡ judged_edit s (edit first second r) unequal o
   unfolding judged_edit
   judged_old h = simp (lt-ltb 4294967295 (length s) h)
 
   module _ (a : length s ≤ 4294967295) where
-    pub judged-text : 4294967295 < length r → refused 1 ≡ judged_edit s (edit first second r) unequal bar o
+    pub judged-text : 4294967295 < length r → refused 1 ≡ judged_edit s (edit first second r) unequal o
     unfolding judged_edit
     judged-text h = simp (le-ltb 4294967295 (length s) a, lt-ltb 4294967295 (length r) h)
 
@@ -70,91 +70,85 @@ module _ (s : List ℕ) (first second : ℕ) (r : List ℕ) (unequal bar : Bool)
       texts : (too_long s || too_long r) ≡ false
       texts = rw (le-ltb 4294967295 (length s) a, le-ltb 4294967295 (length r) b)
 
-      pub judged-columns : unequal ≡ true → refused 6 ≡ judged_edit s (edit first second r) unequal bar o
+      pub judged-columns : unequal ≡ true → refused 6 ≡ judged_edit s (edit first second r) unequal o
       unfolding judged_edit
       judged-columns h = simp (texts, h)
 
       module _ (c : unequal ≡ false) where
-        pub judged-barred : bar ≡ true → refused 11 ≡ judged_edit s (edit first second r) unequal bar o
+        pub judged_order : second < first → refused 4 ≡ judged_edit s (edit first second r) unequal o
         unfolding judged_edit
-        judged-barred h = simp (texts, c, h)
+        judged_order h = simp (texts, c, lt-ltb second first h)
 
-        module _ (free : bar ≡ false) where
-          pub judged_order : second < first → refused 4 ≡ judged_edit s (edit first second r) unequal bar o
+        module _ (d : first ≤ second) where
+          pub judged-past : length s < second → refused 4 ≡ judged_edit s (edit first second r) unequal o
           unfolding judged_edit
-          judged_order h = simp (texts, c, free, lt-ltb second first h)
+          judged-past h = simp (texts, c, le-ltb second first d, lt-ltb (length s) second h)
 
-          module _ (d : first ≤ second) where
-            pub judged-past : length s < second → refused 4 ≡ judged_edit s (edit first second r) unequal bar o
+          module _ (e : second ≤ length s) where
+            cuts : miscut s (edit first second r) ≡ false
+            cuts = rw (le-ltb second first d, le-ltb (length s) second e)
+
+            pub judged-edited : 4294967295 < length s - (second - first) + length r → refused 1 ≡ judged_edit s (edit first second r) unequal o
             unfolding judged_edit
-            judged-past h = simp (texts, c, free, le-ltb second first d, lt-ltb (length s) second h)
+            judged-edited h = simp (texts, c, cuts, lt-ltb 4294967295 (length (edited (edit first second r) s)) (omega (arith, edited-length s first second r d e)))
 
-            module _ (e : second ≤ length s) where
-              cuts : miscut s (edit first second r) ≡ false
-              cuts = rw (le-ltb second first d, le-ltb (length s) second e)
+            pub judged-edit : length s - (second - first) + length r ≤ 4294967295 → o ≡ judged_edit s (edit first second r) unequal o
+            unfolding judged_edit
+            judged-edit f = simp (texts, c, cuts, le-ltb 4294967295 (length (edited (edit first second r) s)) (omega (arith, edited-length s first second r d e)))
 
-              pub judged-edited : 4294967295 < length s - (second - first) + length r → refused 1 ≡ judged_edit s (edit first second r) unequal bar o
-              unfolding judged_edit
-              judged-edited h = simp (texts, c, free, cuts, lt-ltb 4294967295 (length (edited (edit first second r) s)) (omega (arith, edited-length s first second r d e)))
-
-              pub judged-edit : length s - (second - first) + length r ≤ 4294967295 → o ≡ judged_edit s (edit first second r) unequal bar o
-              unfolding judged_edit
-              judged-edit f = simp (texts, c, free, cuts, le-ltb 4294967295 (length (edited (edit first second r) s)) (omega (arith, edited-length s first second r d e)))
-
-module _ (s : List ℕ) (e : Edit) (unequal bar : Bool) where
+module _ (s : List ℕ) (e : Edit) (unequal : Bool) where
   -- what they refuse they refuse whatever follows
-  pub edit-same : (k o o' : Outcome) → (o ≡ k → o' ≡ k) → judged_edit s e unequal bar o ≡ k → judged_edit s e unequal bar o' ≡ k
+  pub edit-same : (k o o' : Outcome) → (o ≡ k → o' ≡ k) → judged_edit s e unequal o ≡ k → judged_edit s e unequal o' ≡ k
   unfolding judged_edit
-  edit-same k o o' f = refuse-same k 1 (too_long s || too_long e.text) _ _ (refuse-same k 6 unequal _ _ (refuse-same k 11 bar _ _ (refuse-same k 4 (miscut s e) _ _ (refuse-same k 1 (too_long (edited e s)) o o' f))))
+  edit-same k o o' f = refuse-same k 1 (too_long s || too_long e.text) _ _ (refuse-same k 6 unequal _ _ (refuse-same k 4 (miscut s e) _ _ (refuse-same k 1 (too_long (edited e s)) o o' f)))
 
   -- what is known where they are passed
-  pub edit-passed : (o : Outcome) (l : List ℕ) → judged_edit s e unequal bar o ≡ given l → ((too_long s || too_long e.text) ≡ false) × (unequal ≡ false) × (bar ≡ false) × (miscut s e ≡ false) × (too_long (edited e s) ≡ false) × (o ≡ given l)
+  pub edit-passed : (o : Outcome) (l : List ℕ) → judged_edit s e unequal o ≡ given l → ((too_long s || too_long e.text) ≡ false) × (unequal ≡ false) × (miscut s e ≡ false) × (too_long (edited e s) ≡ false) × (o ≡ given l)
   unfolding judged_edit
   edit-passed o l z =
       let a = refuse_pass 0 (too_long s || too_long e.text) _ l z in
       let b = refuse_pass 5 unequal _ l a.1 in
-      let x = refuse_pass 10 bar _ l b.1 in
-      let c = refuse_pass 3 (miscut s e) _ l x.1 in
+      let c = refuse_pass 3 (miscut s e) _ l b.1 in
       let d = refuse_pass 0 (too_long (edited e s)) o l c.1 in
-      (a.0, b.0, x.0, c.0, d.0, d.1)
+      (a.0, b.0, c.0, d.0, d.1)
 
-  pub edit_on : judged_edit s e unequal bar (given []) ≡ given [] → (o : Outcome) → judged_edit s e unequal bar o ≡ o
+  pub edit_on : judged_edit s e unequal (given []) ≡ given [] → (o : Outcome) → judged_edit s e unequal o ≡ o
   unfolding judged_edit
-  edit_on z o = let p = edit-passed (given []) [] z in simp (p.0, p.1, p.2, p.3, p.4)
+  edit_on z o = let p = edit-passed (given []) [] z in simp (p.0, p.1, p.2, p.3)
 
--- ---- the next three, where a verdict v has told of the first five
-module _ (eol : ℕ) (s l : List ℕ) (n first second : ℕ) (r : List ℕ) (unequal bar marked : Bool) (v : Verdict) where
-  pub judged_early : (q : Refusal) → v ≡ verdict.Refused q → JudgedEdit s (edit first second r) unequal bar v → Judged eol s l n (edit first second r) unequal bar marked (verdict.Refused q)
+-- ---- the next three, where a verdict v has told of the first four
+module _ (eol : ℕ) (s l : List ℕ) (n first second : ℕ) (r : List ℕ) (unequal marked : Bool) (v : Verdict) where
+  pub judged_early : (q : Refusal) → v ≡ verdict.Refused q → JudgedEdit s (edit first second r) unequal v → Judged eol s l n (edit first second r) unequal marked (verdict.Refused q)
   unfolding judged
   judged_early q d j =
       let z = sym j.answer ∙ ap told_verdict d in
-      record { answer = sym (edit-same s (edit first second r) unequal bar (refused (number_of q)) (given []) _ (λ x. absurd (not_given q (sym x))) z) }
+      record { answer = sym (edit-same s (edit first second r) unequal (refused (number_of q)) (given []) _ (λ x. absurd (not_given q (sym x))) z) }
 
-  module _ (d : v ≡ verdict.Fine) (j : JudgedEdit s (edit first second r) unequal bar v) where
-    fine : judged_edit s (edit first second r) unequal bar (given []) ≡ given []
+  module _ (d : v ≡ verdict.Fine) (j : JudgedEdit s (edit first second r) unequal v) where
+    fine : judged_edit s (edit first second r) unequal (given []) ≡ given []
     fine = sym j.answer ∙ ap told_verdict d
 
     module _ (y : Bool) where
-      pub judged-list : y ≡ true → Gives (misshapen l n (length s)) y → refused 5 ≡ judged eol s l n (edit first second r) unequal bar marked (given [])
+      pub judged-list : y ≡ true → Gives (misshapen l n (length s)) y → refused 5 ≡ judged eol s l n (edit first second r) unequal marked (given [])
       unfolding judged
-      judged-list h g = sym (edit_on s (edit first second r) unequal bar fine _ ∙ simp (← g.answer, h))
+      judged-list h g = sym (edit_on s (edit first second r) unequal fine _ ∙ simp (← g.answer, h))
 
       module _ (i : y ≡ false) (g : Gives (misshapen l n (length s)) y) where
-        pub judged-marked : marked ≡ true → refused 9 ≡ judged eol s l n (edit first second r) unequal bar marked (given [])
+        pub judged-marked : marked ≡ true → refused 9 ≡ judged eol s l n (edit first second r) unequal marked (given [])
         unfolding judged
-        judged-marked h = sym (edit_on s (edit first second r) unequal bar fine _ ∙ simp (← g.answer, i, h))
+        judged-marked h = sym (edit_on s (edit first second r) unequal fine _ ∙ simp (← g.answer, i, h))
 
         -- a list that is looked at for joints is fair
         pub judged_fair : Fair l n (length s)
         judged_fair =
-            let p = edit-passed s (edit first second r) unequal bar (given []) [] fine in
+            let p = edit-passed s (edit first second r) unequal (given []) [] fine in
             record { shape = sym g.answer ∙ i; short = ltb-false 4294967295 (length s) (neither (too_long s) (too_long r) p.0).0 }
 
         module _ (k : marked ≡ false) (z : Bool) where
-          pub judged-joint : z ≡ true → Gives (off_joint eol s (regions_in n l) first second) z → refused 7 ≡ judged eol s l n (edit first second r) unequal bar marked (given [])
+          pub judged-joint : z ≡ true → Gives (off_joint eol s (regions_in n l) first second) z → refused 7 ≡ judged eol s l n (edit first second r) unequal marked (given [])
           unfolding judged
-          judged-joint h m = sym (edit_on s (edit first second r) unequal bar fine _ ∙ simp (← g.answer, i, k, ← m.answer, h))
+          judged-joint h m = sym (edit_on s (edit first second r) unequal fine _ ∙ simp (← g.answer, i, k, ← m.answer, h))
 
-          pub judged_fine : z ≡ false → Gives (off_joint eol s (regions_in n l) first second) z → given [] ≡ judged eol s l n (edit first second r) unequal bar marked (given [])
+          pub judged_fine : z ≡ false → Gives (off_joint eol s (regions_in n l) first second) z → given [] ≡ judged eol s l n (edit first second r) unequal marked (given [])
           unfolding judged
-          judged_fine h m = sym (edit_on s (edit first second r) unequal bar fine _ ∙ simp (← g.answer, i, k, ← m.answer, h))
+          judged_fine h m = sym (edit_on s (edit first second r) unequal fine _ ∙ simp (← g.answer, i, k, ← m.answer, h))

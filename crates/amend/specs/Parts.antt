@@ -63,12 +63,12 @@ abbrev pub told_verdict : Verdict → Outcome
 told_verdict verdict.Fine = given []
 told_verdict (verdict.Refused r) = refused (number_of r)
 
--- what a verdict says: the first five refusals, or the first eight, and nothing behind them
-pub record JudgedEdit (s : List ℕ) (e : Edit) (unequal bar : Bool) (v : Verdict) : Type 0 where
-  pub answer : told_verdict v ≡ judged_edit s e unequal bar (given [])
+-- what a verdict says: the first four refusals, or the first seven, and nothing behind them
+pub record JudgedEdit (s : List ℕ) (e : Edit) (unequal : Bool) (v : Verdict) : Type 0 where
+  pub answer : told_verdict v ≡ judged_edit s e unequal (given [])
 
-pub record Judged (eol : ℕ) (s l : List ℕ) (n : ℕ) (e : Edit) (unequal bar marked : Bool) (v : Verdict) : Type 0 where
-  pub answer : told_verdict v ≡ judged eol s l n e unequal bar marked (given [])
+pub record Judged (eol : ℕ) (s l : List ℕ) (n : ℕ) (e : Edit) (unequal marked : Bool) (v : Verdict) : Type 0 where
+  pub answer : told_verdict v ≡ judged eol s l n e unequal marked (given [])
 
 -- cuts that may be made in a text of a length with its list
 pub record CutsReady (l : List ℕ) (n : ℕ) (cuts : Cuts) (r : List ℕ) : Type 0 where
@@ -79,9 +79,9 @@ pub record CutsReady (l : List ℕ) (n : ℕ) (cuts : Cuts) (r : List ℕ) : Typ
   pub small : cuts.len - (cuts.second - cuts.first) + length r ≤ 4294967295
 
 -- what settling promises
-pub record Settled (eol len : ℕ) (build : List ℕ → List Listed) (left : ℕ) (l : List Listed) (e : Edit) (out out' : List ℕ) (o : Outcome) : Type 0 where
-  pub answer : o ≡ settled_answer wide eol len build left l e out
-  pub list : out' ≡ filled_by (settled_answer wide eol len build left l e out) (flatten row (amended_regions build len e l)) out
+pub record Settled (eol len : ℕ) (build : List ℕ → List Listed) (l : List Listed) (e : Edit) (out out' : List ℕ) (o : Outcome) : Type 0 where
+  pub answer : o ≡ settled_answer wide eol len build l e out
+  pub list : out' ≡ filled_by (settled_answer wide eol len build l e out) (flatten row (amended_regions build len e l)) out
 
 -- ---- writing
 -- the rows before, the replacement's own, and the rows from `after` on

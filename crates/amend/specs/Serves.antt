@@ -10,15 +10,15 @@ use borrow.Author.Tests.{le-ltb, lt-ltb, le-leb, ne_eqb, ltb-true, ltb-false, eq
 use Rattle.search.specs.Search.{is, holds}
 use Rattle.search.specs.SearchLaws.{decide, is_yes, holds_in, neither}
 use Rattle.common.specs.Entry.{room, wide}
-use Rattle.common.specs.Lists.{barred, build_answer}
-use Rattle.common.specs.Refusals.{given, too_long, told_made}
-use Rattle.common.specs.RefusalLaws.{made_unique}
+use Rattle.common.specs.Lists.{build_answer}
+use Rattle.common.specs.Refusals.{given, too_long, told}
+use Rattle.common.specs.RefusalLaws.{answer_unique}
 use Rattle.common.specs.declared.grammar.Grammar.{Grammar}
-use Rattle.common.specs.declared.refusal.Made.{Made}
-use Rattle.common.specs.declared.refusal.Made.TheVariants as made
+use Rattle.common.specs.declared.refusal.Answer.{Answer}
+use Rattle.common.specs.declared.refusal.Answer.TheVariants.{Value}
 use Rattle.region.specs.Region.{Region, Listed, as_listed}
 use Rattle.region.specs.Regions.{regions}
-use Rattle.rules.specs.Columns.{Columns, unequal, left_out, gram_of}
+use Rattle.rules.specs.Columns.{Columns, unequal, gram_of}
 use Rattle.context.specs.Build.{built_answer, Built}
 use Rattle.amend.specs.Amend.{Edit, joint, Joint}
 use Rattle.amend.specs.Several.{EndsAtJoint}
@@ -26,7 +26,7 @@ use Rattle.amend.specs.Lists.{reaches_zero}
 use Rattle.amend.specs.Amended.{regions_in, list_regions, edited, off_joint, left_open, amended_list, judged_edit, judged, settled_answer, amend_answer, amended_answer, Amended}
 use Rattle.amend.specs.Edits.{joint-cut}
 use Rattle.amend.specs.JudgeLaws.{refuse_pass}
-use Rattle.amend.specs.Theorem.{built-told, built-holds, built-shaped, Admitted, accepted-told, same, Rebuilt, amend_is_rebuild}
+use Rattle.amend.specs.Theorem.{built_told, built_holds, built_shaped, Admitted, accepted-told, same, Rebuilt, amend_is_rebuild}
 use Rattle.amend.specs.DemandThree.{ShutEnd, Conditions, region_count, Agree, DemandThree}
 
 -- ---- they are what is tested
@@ -58,7 +58,7 @@ sound_shut eol build r j = by (decide (eqb (length r) 0))
 abbrev afresh_count : Grammar → Columns → List ℕ → Edit → ℕ
 afresh_count g c old e = region_count g c (edited e old)
 
-module _ {way : Bool} {g : Grammar} {c : Columns} {old run l : List ℕ} {n left : ℕ} {e : Edit} (b : Built way g c old run l (told_made (made.List n left))) (w : Conditions g c old (regions_in n l) e) where
+module _ {g : Grammar} {c : Columns} {old run l : List ℕ} {n : ℕ} {e : Edit} (b : Built g c old run l (told (Value n))) (w : Conditions g c old (regions_in n l) e) where
   on_joints : off_joint g.eol old (regions_in n l) e.first e.second ≡ false
   unfolding off_joint
   on_joints = by w.stop
@@ -78,23 +78,21 @@ module _ {way : Bool} {g : Grammar} {c : Columns} {old run l : List ℕ} {n left
   meeting : Admitted g c old l n e
   meeting = record { cuts = (w.rising, w.within); free = w.apart; joints = on_joints; shut = closed }
 
-  -- the amendment answers the count of the edited text's regions, and how many bytes were left out, where a region has `width` numbers of the list that
-  -- is left
-  pub amend_serves_by : (width : ℕ) (strict differing : Bool) (out : List ℕ) → differing ≡ false → barred strict (left_out c) ≡ false → afresh_count g c old e ≤ room width out
-      → amend_answer g c old l n e width strict differing out ≡ given (afresh_count g c old e ∷ left_out c ∷ [])
+  -- the amendment answers the count of the edited text's regions, where a region has `width` numbers of the list that is left
+  pub amend_serves_by : (width : ℕ) (differing : Bool) (out : List ℕ) → differing ≡ false → afresh_count g c old e ≤ room width out
+      → amend_answer g c old l n e width differing out ≡ given (afresh_count g c old e ∷ [])
   unfolding amend_answer judged judged_edit settled_answer
-  amend_serves_by width strict differing out d v h =
-      let x = same g c old l n e meeting (built-holds b) in
+  amend_serves_by width differing out d h =
+      let x = same g c old l n e meeting (built_holds b) in
       let size = length-map (regions (gram_of g c) (edited e old)) as_listed in
       rw (
-        (built-told b).short,
+        (built_told b).short,
         le-ltb 4294967295 (length e.text) w.replacement,
         d,
-        v,
         le-ltb e.second e.first w.rising,
         le-ltb (length old) e.second w.within,
         le-ltb 4294967295 (length (edited e old)) w.finished,
-        built-shaped b,
+        built_shaped b,
         w.apart,
         on_joints,
         closed,
@@ -103,23 +101,22 @@ module _ {way : Bool} {g : Grammar} {c : Columns} {old run l : List ℕ} {n left
         le-ltb (room width out) (afresh_count g c old e) h,
       )
 
-  pub amend_serves : (strict : Bool) (out : List ℕ) → barred strict (left_out c) ≡ false → afresh_count g c old e ≤ room wide out → amended_answer g c old l n e strict out ≡ given (afresh_count g c old e ∷ left_out c ∷ [])
+  pub amend_serves : (out : List ℕ) → afresh_count g c old e ≤ room wide out → amended_answer g c old l n e out ≡ given (afresh_count g c old e ∷ [])
   unfolding amended_answer
-  amend_serves strict out v h = amend_serves_by wide strict (unequal c) out (built-told b).equal v h
+  amend_serves out h = amend_serves_by wide (unequal c) out (built_told b).equal h
 
 -- ---- nothing less is served
-module _ {way : Bool} {g : Grammar} {c : Columns} {old run l : List ℕ} {n left : ℕ} {e : Edit} (b : Built way g c old run l (told_made (made.List n left))) (strict : Bool) (out : List ℕ) (k dropped : ℕ)
-    (served : given (k ∷ dropped ∷ []) ≡ amended_answer g c old l n e strict out) where
-  -- where a list was built, the amendment answers a count only where the conditions hold, a strict way isn't barred and there is room
-  pub serves_only : (barred strict (left_out c) ≡ false) × Conditions g c old (regions_in n l) e × (k ≡ afresh_count g c old e) × (afresh_count g c old e ≤ room wide out)
+module _ {g : Grammar} {c : Columns} {old run l : List ℕ} {n : ℕ} {e : Edit} (b : Built g c old run l (told (Value n))) (out : List ℕ) (k : ℕ)
+    (served : given (k ∷ []) ≡ amended_answer g c old l n e out) where
+  -- where a list was built, the amendment answers a count only where the conditions hold and there is room
+  pub serves_only : Conditions g c old (regions_in n l) e × (k ≡ afresh_count g c old e) × (afresh_count g c old e ≤ room wide out)
   unfolding amended_answer amend_answer judged judged_edit settled_answer off_joint left_open joint
   serves_only =
-      let a = accepted-told strict g c old l n e out k dropped served in
+      let a = accepted-told g c old l n e out k served in
       let m = a.meets in
-      let long = neither (too_long old) (too_long e.text) (refuse_pass 0 (too_long old || too_long e.text) _ (k ∷ dropped ∷ []) (sym served)).0 in
+      let long = neither (too_long old) (too_long e.text) (refuse_pass 0 (too_long old || too_long e.text) _ (k ∷ []) (sym served)).0 in
       let j = neither (not (joint g.eol old (regions_in n l) e.first)) _ m.joints in
-      let size : k ≡ afresh_count g c old e = a.count ∙ ap length (same g c old l n e m (built-holds b)) ∙ length-map (regions (gram_of g c) (edited e old)) as_listed in (
-        a.unbarred,
+      let size : k ≡ afresh_count g c old e = a.count ∙ ap length (same g c old l n e m (built_holds b)) ∙ length-map (regions (gram_of g c) (edited e old)) as_listed in (
         record {
           replacement = ltb-false 4294967295 (length e.text) long.1;
           finished = ltb-false 4294967295 (length (edited e old)) a.short;
@@ -140,39 +137,36 @@ module _ {way : Bool} {g : Grammar} {c : Columns} {old run l : List ℕ} {n left
 
 -- ---- the theorem
 -- of a list that was built, by the conditions with that list
-pub built_agrees : {way strict : Bool} {g : Grammar} {c : Columns} {old run l : List ℕ} {n left : ℕ} {e : Edit} {out out' blank fresh : List ℕ} {r a : Made}
-    → Built way g c old run l (told_made (made.List n left))
-    → barred strict (left_out c) ≡ false
+pub built_agrees : {g : Grammar} {c : Columns} {old run l : List ℕ} {n : ℕ} {e : Edit} {out out' blank fresh : List ℕ} {r a : Answer}
+    → Built g c old run l (told (Value n))
     → Conditions g c old (regions_in n l) e
     → afresh_count g c old e ≤ room wide out
     → afresh_count g c old e ≤ room wide blank
-    → Amended strict g c old l n e out out' (told_made r)
-    → Built strict g c (edited e old) blank fresh (told_made a)
-    → Agree (afresh_count g c old e) (left_out c) out out' blank fresh r a
-built_agrees {way} {strict} {g} {c} {old} {run} {l} {n} {left} {e} {out} {out'} {blank} {fresh} {r} {a} b d w h i m f =
+    → Amended g c old l n e out out' (told r)
+    → Built g c (edited e old) blank fresh (told a)
+    → Agree (afresh_count g c old e) out out' blank fresh r a
+built_agrees {g} {c} {old} {run} {l} {n} {e} {out} {out'} {blank} {fresh} {r} {a} b w h i m f =
     let k = afresh_count g c old e in
-    let j = left_out c in
-    let served : amended_answer g c old l n e strict out ≡ told_made (made.List k j) = amend_serves b w strict out d h in
-    let z : r ≡ made.List k j = made_unique {o = amended_answer g c old l n e strict out} (record { answer = m.answer }) (record { answer = sym served }) in
-    let m' : Amended strict g c old l n e out out' (told_made (made.List k j)) = subst (λ (x : Made). Amended strict g c old l n e out out' (told_made x)) z m in
-    let v : Rebuilt k j out out' blank fresh a = amend_is_rebuild b m' f in
+    let served : amended_answer g c old l n e out ≡ told (Value k) = amend_serves b w out h in
+    let z : r ≡ Value k = answer_unique {o = amended_answer g c old l n e out} (record { answer = m.answer }) (record { answer = sym served }) in
+    let m' : Amended g c old l n e out out' (told (Value k)) = subst (λ (x : Answer). Amended g c old l n e out out' (told x)) z m in
+    let v : Rebuilt k out out' blank fresh a = amend_is_rebuild b m' f in
     record { amended = z; built = v.count i; cells = v.places i; whole = λ y. (v.whole y).1 }
 
 -- ---- with no answer assumed
--- building answers the count of the text's regions, and how many bytes were left out, where the text is within the limit, the columns agree, a strict way
--- isn't barred and there is room
-pub build_serves : {strict : Bool} {g : Grammar} {c : Columns} {s out l : List ℕ} {a : Made} → length s ≤ 4294967295 → unequal c ≡ false → barred strict (left_out c) ≡ false → length (regions (gram_of g c) s) ≤ room wide out
-    → Built strict g c s out l (told_made a) → a ≡ made.List (length (regions (gram_of g c) s)) (left_out c)
+-- building answers the count of the text's regions where the text is within the limit, the columns agree and there is room
+pub build_serves : {g : Grammar} {c : Columns} {s out l : List ℕ} {a : Answer} → length s ≤ 4294967295 → unequal c ≡ false → length (regions (gram_of g c) s) ≤ room wide out
+    → Built g c s out l (told a) → a ≡ Value (length (regions (gram_of g c) s))
 unfolding built_answer build_answer
-build_serves {strict} {g} {c} {s} {out} {l} {a} h u d r b =
+build_serves {g} {c} {s} {out} {l} {a} h u r b =
     let k = length (regions (gram_of g c) s) in
-    let x : given (k ∷ left_out c ∷ []) ≡ built_answer strict g c s out = rw (le-ltb 4294967295 (length s) h, u, d, le-ltb (room wide out) k r) in
-    made_unique {o = built_answer strict g c s out} (record { answer = b.answer }) (record { answer = x })
+    let x : given (k ∷ []) ≡ built_answer g c s out = rw (le-ltb 4294967295 (length s) h, u, le-ltb (room wide out) k r) in
+    answer_unique {o = built_answer g c s out} (record { answer = b.answer }) (record { answer = x })
 
 pub demand_three : DemandThree
-demand_three strict g c old run l e out out' blank fresh q r a short u d roomy w h i b m f =
+demand_three g c old run l e out out' blank fresh q r a short u roomy w h i b m f =
     let n = length (regions (gram_of g c) old) in
-    let z = build_serves short u d roomy b in
-    let b' : Built strict g c old run l (told_made (made.List n (left_out c))) = subst (λ (x : Made). Built strict g c old run l (told_made x)) z b in
-    let w' : Conditions g c old (regions_in n l) e = subst (λ (x : List Listed). Conditions g c old x e) (sym (built-holds b')) w in
-    (z, built_agrees b' d w' h i m f)
+    let z = build_serves short u roomy b in
+    let b' : Built g c old run l (told (Value n)) = subst (λ (x : Answer). Built g c old run l (told x)) z b in
+    let w' : Conditions g c old (regions_in n l) e = subst (λ (x : List Listed). Conditions g c old x e) (sym (built_holds b')) w in
+    (z, built_agrees b' w' h i m f)

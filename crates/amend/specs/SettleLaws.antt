@@ -16,7 +16,7 @@ use Rattle.region.specs.Regions.{regions}
 use Rattle.region.specs.Ahead.{regions-few}
 use Rattle.joint.specs.Joint.{open_end}
 use Rattle.amend.specs.Amend.{moved_by}
-use Rattle.common.specs.Lists.{crowded, filled_beside, Wrote}
+use Rattle.common.specs.Lists.{crowded, filled_answer, Wrote}
 use Rattle.amend.specs.Amended.{regions_in, list_regions, edit, amended_regions, left_open, settled_answer}
 use Rattle.amend.specs.Parts.{Orderly, regions_between, PutRows, Copies, Owns, surveyed, CutsReady, Settled, parts, Roomy}
 use Rattle.amend.specs.Lists.{stay, retag-reaches}
@@ -112,12 +112,12 @@ module _ (eol : ℕ) (g : Gram) (len first second : ℕ) (r : List ℕ) (own : C
   open_told : left_open eol (list_regions g) len (edit first second r) ≡ y
   open_told = open_same eol g len first second r ∙ ap (λ (w : Counted). open_end eol (ltb second len) r w.reaching) (sym c.answer) ∙ sym h.answer
 
-  pub answer_open : (w left : ℕ) (l : List Listed) (out : List ℕ) → y ≡ true → settled_answer w eol len (list_regions g) left l (edit first second r) out ≡ refused 8
+  pub answer_open : (w : ℕ) (l : List Listed) (out : List ℕ) → y ≡ true → settled_answer w eol len (list_regions g) l (edit first second r) out ≡ refused 8
   unfolding settled_answer
-  answer_open w left l out e = simp (open_told, e)
+  answer_open w l out e = simp (open_told, e)
 
-  pub settled_open : (left : ℕ) (l : List Listed) (out : List ℕ) → y ≡ true → Settled eol len (list_regions g) left l (edit first second r) out out (refused 8)
-  settled_open left l out e = let a = answer_open wide left l out e in record { answer = sym a; list = rw a }
+  pub settled_open : (l : List Listed) (out : List ℕ) → y ≡ true → Settled eol len (list_regions g) l (edit first second r) out out (refused 8)
+  settled_open l out e = let a = answer_open wide l out e in record { answer = sym a; list = rw a }
 
 -- ---- cuts that may be made
 pub ready_orderly : {l : List ℕ} {n : ℕ} {cuts : Cuts} {r : List ℕ} → CutsReady l n cuts r → Orderly l n 4294967295
@@ -206,22 +206,22 @@ module _ (g : Gram) (l : List ℕ) (n : ℕ) (cuts : Cuts) (r : List ℕ) (ready
                 };
           }
 
-    module _ (out : List ℕ) (eol left : ℕ) (y : Bool) (e : y ≡ false) (o : Gives (open_end eol (ltb cuts.second cuts.len) r own.reaching) y) where
+    module _ (out : List ℕ) (eol : ℕ) (y : Bool) (e : y ≡ false) (o : Gives (open_end eol (ltb cuts.second cuts.len) r own.reaching) y) where
       -- a replacement that is shut leaves the room to decide
-      pub answer-shut : (width : ℕ) → settled_answer width eol cuts.len (list_regions g) left (regions_in n l) (edit cuts.first cuts.second r) out ≡ filled_beside width (amended_regions (list_regions g) cuts.len (edit cuts.first cuts.second r) (regions_in n l)) (left ∷ []) out
+      pub answer-shut : (width : ℕ) → settled_answer width eol cuts.len (list_regions g) (regions_in n l) (edit cuts.first cuts.second r) out ≡ filled_answer width (amended_regions (list_regions g) cuts.len (edit cuts.first cuts.second r) (regions_in n l)) out
       unfolding settled_answer
       answer-shut width = simp (open_told eol g cuts.len cuts.first cuts.second r own y c o, e)
 
-      pub settled_full : length out / wide < before + own.count + (n - after) → Settled eol cuts.len (list_regions g) left (regions_in n l) (edit cuts.first cuts.second r) out out (refused 3)
+      pub settled_full : length out / wide < before + own.count + (n - after) → Settled eol cuts.len (list_regions g) (regions_in n l) (edit cuts.first cuts.second r) out out (refused 3)
       settled_full h =
           let f : crowded wide (amended_regions (list_regions g) cuts.len (edit cuts.first cuts.second r) (regions_in n l)) out ≡ true = lt-ltb (length out / wide) (length (amended_regions (list_regions g) cuts.len (edit cuts.first cuts.second r) (regions_in n l))) (omega (arith, total_told)) in
           record { answer = sym (answer-shut wide ∙ simp f); list = simp (answer-shut wide, f) }
 
       pub settled_done : (out' : List ℕ) (k : ℕ) → before + own.count + (n - after) ≤ length out / wide → Wrote row (parts g l (split before after n) cuts r) out out' k
-          → Settled eol cuts.len (list_regions g) left (regions_in n l) (edit cuts.first cuts.second r) out out' (given (k ∷ left ∷ []))
+          → Settled eol cuts.len (list_regions g) (regions_in n l) (edit cuts.first cuts.second r) out out' (given (k ∷ []))
       settled_done out' k h w =
           let f : crowded wide (amended_regions (list_regions g) cuts.len (edit cuts.first cuts.second r) (regions_in n l)) out ≡ false = le-ltb (length out / wide) (length (amended_regions (list_regions g) cuts.len (edit cuts.first cuts.second r) (regions_in n l))) (omega (arith, total_told)) in
           record {
-            answer = ap (λ (m : ℕ). given (m ∷ left ∷ [])) (w.count ∙ ap length parts_same) ∙ sym (answer-shut wide ∙ simp f);
+            answer = ap (λ (m : ℕ). given (m ∷ [])) (w.count ∙ ap length parts_same) ∙ sym (answer-shut wide ∙ simp f);
             list = w.list ∙ ap (λ (z : List Listed). over (flatten row z) out) parts_same ∙ simp (answer-shut wide, f);
           }

@@ -12,21 +12,21 @@ use borrow.Author.Tests.{le-ltb, ltb-false, not-false}
 use Rattle.search.specs.SearchLaws.{decide, neither}
 use Rattle.common.specs.Entry.{flatten, rows, room, over, wide, overfull}
 use Rattle.common.specs.EntryLaws.{length-flatten, rows-flatten, fits_room, holds-shaped, flatten-map}
-use Rattle.common.specs.Refusals.{Outcome, given, refuse, too_long, past, told_made}
-use Rattle.common.specs.RefusalLaws.{made_unique}
+use Rattle.common.specs.Refusals.{Outcome, given, refuse, too_long, past, told}
+use Rattle.common.specs.RefusalLaws.{answer_unique}
 use Rattle.common.specs.declared.grammar.Grammar.{Grammar}
-use Rattle.common.specs.declared.refusal.Made.{Made}
-use Rattle.common.specs.declared.refusal.Made.TheVariants as made
+use Rattle.common.specs.declared.refusal.Answer.{Answer}
+use Rattle.common.specs.declared.refusal.Answer.TheVariants.{Value}
 use Rattle.region.specs.Region.{Caused, up, keep_before, InOrder, Listed, tag_of, as_listed, row, unrow, row_of}
 use Rattle.region.specs.Regions.{regions}
 use Rattle.rules.specs.Columns.{Columns, gram_of}
 use Rattle.region.specs.Ahead.{regions_in_order, regions-shaped}
-use Rattle.rules.specs.Columns.{unequal, left_out}
+use Rattle.rules.specs.Columns.{unequal}
 use Rattle.context.specs.Build.{built_answer, built_list, Built}
 use Rattle.amend.specs.Amend.{Edit, joint}
 use Rattle.amend.specs.Several.{Fits, none, last, next}
 use Rattle.cover.specs.Shape.{misshapen}
-use Rattle.common.specs.Lists.{crowded, barred, build_answer}
+use Rattle.common.specs.Lists.{crowded, build_answer}
 use Rattle.amend.specs.Amended.{regions_in, list_regions, edited, amended_regions, uses_line_end, off_joint, left_open, amended_list, settled_answer, amend_answer, amended_answer, Amended}
 use Rattle.amend.specs.Starts.{unless_end}
 use Rattle.amend.specs.Edits.{relist_one}
@@ -50,48 +50,43 @@ unfolding regions_in
 listed_flatten l rest = ap (map unrow) (rows-flatten row_of wide row-wide l rest) ∙ row_says l
 
 -- what building has tested and left where it answered a count
-pub record BuiltLeft (strict : Bool) (g : Grammar) (c : Columns) (s out l : List ℕ) (n : ℕ) : Type 0 where
+pub record BuiltLeft (g : Grammar) (c : Columns) (s out l : List ℕ) (n : ℕ) : Type 0 where
   pub short : too_long s ≡ false
   pub equal : unequal c ≡ false
-  pub unbarred : barred strict (left_out c) ≡ false
   pub fits : n ≤ room wide out
   pub count : length (regions (gram_of g c) s) ≡ n
   pub left : l ≡ over (flatten row_of (regions (gram_of g c) s)) out
 
-module _ {strict : Bool} {g : Grammar} {c : Columns} {s out l : List ℕ} {n left : ℕ} (b : Built strict g c s out l (told_made (made.List n left))) where
-  pub built-told : BuiltLeft strict g c s out l n
+module _ {g : Grammar} {c : Columns} {s out l : List ℕ} {n : ℕ} (b : Built g c s out l (told (Value n))) where
+  pub built_told : BuiltLeft g c s out l n
   unfolding built_answer build_answer built_list
-  built-told =
+  built_told =
       let R = regions (gram_of g c) s in
-      let told : Outcome = given (length R ∷ left_out c ∷ []) in
-      let v = n ∷ left ∷ [] in
-      let p = refuse_pass 0 (too_long s) (refuse 6 (unequal c) (refuse 11 (barred strict (left_out c)) (refuse 3 (crowded wide R out) told))) v (sym b.answer) in
-      let q = refuse_pass 5 (unequal c) (refuse 11 (barred strict (left_out c)) (refuse 3 (crowded wide R out) told)) v p.1 in
-      let x = refuse_pass 10 (barred strict (left_out c)) (refuse 3 (crowded wide R out) told) v q.1 in
-      let w = refuse_pass 2 (crowded wide R out) told v x.1 in
+      let p = refuse_pass 0 (too_long s) (refuse 6 (unequal c) (refuse 3 (crowded wide R out) (given (length R ∷ [])))) (n ∷ []) (sym b.answer) in
+      let q = refuse_pass 5 (unequal c) (refuse 3 (crowded wide R out) (given (length R ∷ []))) (n ∷ []) p.1 in
+      let w = refuse_pass 2 (crowded wide R out) (given (length R ∷ [])) (n ∷ []) q.1 in
       let size : length R ≡ n = ap (λ (o : Outcome). get_or o.values 0 0) w.1 in
       record {
         short = p.0;
         equal = q.0;
-        unbarred = x.0;
         fits = omega (arith, size, ltb-false (room wide out) (length R) w.0);
         count = size;
-        left = b.list ∙ simp (p.0, q.0, x.0, w.0);
+        left = b.list ∙ simp (p.0, q.0, w.0);
       }
 
   -- the list that building leaves holds the regions of its text
-  pub built-holds : HoldsRegions g c s l n
-  built-holds =
+  pub built_holds : HoldsRegions g c s l n
+  built_holds =
       let R = regions (gram_of g c) s in
-      let w = built-told in
+      let w = built_told in
       ap (λ (m : ℕ). regions_in m l) (sym w.count) ∙ ap (regions_in (length R)) w.left ∙ listed_flatten R (drop (length (flatten row_of R)) out)
 
   -- it has room for them, and they are in order within the text
-  pub built-shaped : misshapen l n (length s) ≡ false
+  pub built_shaped : misshapen l n (length s) ≡ false
   unfolding misshapen
-  built-shaped =
+  built_shaped =
       let R = regions (gram_of g c) s in
-      let w = built-told in
+      let w = built_told in
       let size : length (flatten row_of R) ≡ length R * wide = length-flatten row_of wide row-wide R in
       let long : length l ≡ length (flatten row_of R) + (length out - length (flatten row_of R)) = ap length w.left ∙ length-append (flatten row_of R) (drop (length (flatten row_of R)) out) ∙ ap (λ (m : ℕ). length (flatten row_of R) + m) (length-drop (length (flatten row_of R)) out) in
       let fits : overfull wide l n ≡ false = le-ltb (room wide l) n (fits_room wide n l (omega arith) (omega (arith, size, long, w.count))) in
@@ -107,47 +102,45 @@ pub record Admitted (g : Grammar) (c : Columns) (s l : List ℕ) (n : ℕ) (e : 
   pub shut : left_open g.eol (list_regions (gram_of g c)) (length s) e ≡ false
 
 -- all of it, where a region has w numbers of the list that is left, and columns may differ
-pub record Accepted (w : ℕ) (strict differing : Bool) (g : Grammar) (c : Columns) (s l : List ℕ) (n : ℕ) (e : Edit) (out : List ℕ) (k : ℕ) : Type 0 where
+pub record Accepted (w : ℕ) (differing : Bool) (g : Grammar) (c : Columns) (s l : List ℕ) (n : ℕ) (e : Edit) (out : List ℕ) (k : ℕ) : Type 0 where
   pub equal : differing ≡ false
-  pub unbarred : barred strict (left_out c) ≡ false
   pub short : too_long (edited e s) ≡ false
   pub meets : Admitted g c s l n e
   pub fits : crowded w (amended_list g c s l n e) out ≡ false
   pub count : k ≡ length (amended_list g c s l n e)
 
-pub accepted_by : (w : ℕ) (strict differing : Bool) (g : Grammar) (c : Columns) (s l : List ℕ) (n : ℕ) (e : Edit) (out : List ℕ) (k left : ℕ) → given (k ∷ left ∷ []) ≡ amend_answer g c s l n e w strict differing out
-    → Accepted w strict differing g c s l n e out k
+pub accepted_by : (w : ℕ) (differing : Bool) (g : Grammar) (c : Columns) (s l : List ℕ) (n : ℕ) (e : Edit) (out : List ℕ) (k : ℕ) → given (k ∷ []) ≡ amend_answer g c s l n e w differing out
+    → Accepted w differing g c s l n e out k
 unfolding amend_answer settled_answer
-accepted_by w strict differing g c s l n e out k left served =
-    let v = k ∷ left ∷ [] in
-    let p = judged-passed g.eol s l n e differing (barred strict (left_out c)) (uses_line_end g c) _ v (sym served) in
-    let p8 = refuse_pass 7 (left_open g.eol (list_regions (gram_of g c)) (length s) e) _ v p.8 in
+accepted_by w differing g c s l n e out k served =
+    let v = k ∷ [] in
+    let p = judged-passed g.eol s l n e differing (uses_line_end g c) _ v (sym served) in
+    let p8 = refuse_pass 7 (left_open g.eol (list_regions (gram_of g c)) (length s) e) _ v p.7 in
     let p3 = refuse_pass 2 (crowded w (amended_list g c s l n e) out) _ v p8.1 in
-    let m = neither (ltb e.second e.first) (past s e.second) p.3 in
+    let m = neither (ltb e.second e.first) (past s e.second) p.2 in
     record {
       equal = p.1;
-      unbarred = p.2;
-      short = p.4;
-      meets = record { cuts = (ltb-false e.second e.first m.0, ltb-false (length s) e.second m.1); free = p.6; joints = p.7; shut = p8.0 };
+      short = p.3;
+      meets = record { cuts = (ltb-false e.second e.first m.0, ltb-false (length s) e.second m.1); free = p.5; joints = p.6; shut = p8.0 };
       fits = p3.0;
       count = ap (λ (o : Outcome). get_or o.values 0 0) (sym p3.1);
     }
 
--- an amendment that is served answers the count, and how many bytes were left out
-pub counted_by : (w : ℕ) (strict differing : Bool) (g : Grammar) (c : Columns) (s l : List ℕ) (n : ℕ) (e : Edit) (out : List ℕ) → (amend_answer g c s l n e w strict differing out).number ≡ 0
-    → given (length (amended_list g c s l n e) ∷ left_out c ∷ []) ≡ amend_answer g c s l n e w strict differing out
+-- an amendment that is served answers the count
+pub counted_by : (w : ℕ) (differing : Bool) (g : Grammar) (c : Columns) (s l : List ℕ) (n : ℕ) (e : Edit) (out : List ℕ) → (amend_answer g c s l n e w differing out).number ≡ 0
+    → given (length (amended_list g c s l n e) ∷ []) ≡ amend_answer g c s l n e w differing out
 unfolding amend_answer settled_answer
-counted_by w strict differing g c s l n e out h =
-    let o = amend_answer g c s l n e w strict differing out in
+counted_by w differing g c s l n e out h =
+    let o = amend_answer g c s l n e w differing out in
     let z : o ≡ given o.values = number_given o h in
-    let p = judged-passed g.eol s l n e differing (barred strict (left_out c)) (uses_line_end g c) _ o.values z in
-    let p8 = refuse_pass 7 (left_open g.eol (list_regions (gram_of g c)) (length s) e) _ o.values p.8 in
+    let p = judged-passed g.eol s l n e differing (uses_line_end g c) _ o.values z in
+    let p8 = refuse_pass 7 (left_open g.eol (list_regions (gram_of g c)) (length s) e) _ o.values p.7 in
     let p3 = refuse_pass 2 (crowded w (amended_list g c s l n e) out) _ o.values p8.1 in
     p3.1 ∙ sym z
 
-pub accepted-told : (strict : Bool) (g : Grammar) (c : Columns) (s l : List ℕ) (n : ℕ) (e : Edit) (out : List ℕ) (k left : ℕ) → given (k ∷ left ∷ []) ≡ amended_answer g c s l n e strict out → Accepted wide strict (unequal c) g c s l n e out k
+pub accepted-told : (g : Grammar) (c : Columns) (s l : List ℕ) (n : ℕ) (e : Edit) (out : List ℕ) (k : ℕ) → given (k ∷ []) ≡ amended_answer g c s l n e out → Accepted wide (unequal c) g c s l n e out k
 unfolding amended_answer
-accepted-told strict g c s l n e out k left served = accepted_by wide strict (unequal c) g c s l n e out k left served
+accepted-told g c s l n e out k served = accepted_by wide (unequal c) g c s l n e out k served
 
 -- ---- so the edit fits the joint theorem
 module _ (g : Grammar) (c : Columns) (s l : List ℕ) (n : ℕ) (e : Edit) (a : Admitted g c s l n e) (holds : HoldsRegions g c s l n) where
@@ -180,25 +173,16 @@ module _ (g : Grammar) (c : Columns) (s l : List ℕ) (n : ℕ) (e : Edit) (a : 
       ∙ (rw y at (demand_columns g c a.free tag_of s (e ∷ []) fitting))
 
 -- ---- the theorem
--- an amendment has left k regions in `out'`, which was `out`, and told that `dropped` bytes were left out; building afresh over `blank` has answered a
--- and left `fresh`. Where there is room for k regions, the answers are equal, and so are the two lists at every place of a region; over the same run all
--- of it is equal
-pub record Rebuilt (k dropped : ℕ) (out out' blank fresh : List ℕ) (a : Made) : Type 0 where
-  pub count : k ≤ room wide blank → a ≡ made.List k dropped
+-- an amendment has left k regions in `out'`, which was `out`; building afresh over `blank` has answered a and left `fresh`. Where there is
+-- room for k regions, the counts are equal, and so are the two lists at every place of a region; over the same run all of it is equal
+pub record Rebuilt (k : ℕ) (out out' blank fresh : List ℕ) (a : Answer) : Type 0 where
+  pub count : k ≤ room wide blank → a ≡ Value k
   pub places : k ≤ room wide blank → (i : ℕ) → i < k * wide → get_or fresh i 0 ≡ get_or out' i 0
-  pub whole : blank ≡ out → (a ≡ made.List k dropped) × (fresh ≡ out')
+  pub whole : blank ≡ out → (a ≡ Value k) × (fresh ≡ out')
 
-module _ (strict : Bool) (g : Grammar) (c : Columns) (s l : List ℕ) (n : ℕ) (e : Edit) (out out' : List ℕ) (k dropped : ℕ) (holds : HoldsRegions g c s l n)
-    (m : Amended strict g c s l n e out out' (told_made (made.List k dropped))) where
-  tested : Accepted wide strict (unequal c) g c s l n e out k
-  tested = accepted-told strict g c s l n e out k dropped m.answer
-
-  -- the number told is that of the rules
-  told-left : dropped ≡ left_out c
-  unfolding amended_answer
-  told-left =
-      let o = m.answer ∙ sym (counted_by wide strict (unequal c) g c s l n e out (ap (λ (x : Outcome). x.number) (sym m.answer))) in
-      ap (λ (x : Outcome). get_or x.values 1 0) o
+module _ (g : Grammar) (c : Columns) (s l : List ℕ) (n : ℕ) (e : Edit) (out out' : List ℕ) (k : ℕ) (holds : HoldsRegions g c s l n) (m : Amended g c s l n e out out' (told (Value k))) where
+  tested : Accepted wide (unequal c) g c s l n e out k
+  tested = accepted-told g c s l n e out k m.answer
 
   -- the regions of the edited text
   afresh : List Caused
@@ -217,20 +201,20 @@ module _ (strict : Bool) (g : Grammar) (c : Columns) (s l : List ℕ) (n : ℕ) 
   left : out' ≡ over (flatten row_of afresh) out
   left = m.list ∙ rw (← m.answer) (ap (λ (x : List ℕ). over x out) (ap (flatten row) alike ∙ flatten-map row as_listed afresh))
 
-  module _ (blank fresh : List ℕ) (a : Made) (b : Built strict g c (edited e s) blank fresh (told_made a)) (h : k ≤ room wide blank) where
+  module _ (blank fresh : List ℕ) (a : Answer) (b : Built g c (edited e s) blank fresh (told a)) (h : k ≤ room wide blank) where
     free : crowded wide afresh blank ≡ false
     free = le-ltb (room wide blank) (length afresh) (omega (arith, size))
 
-    answered : a ≡ made.List k dropped
+    answered : a ≡ Value k
     unfolding built_answer build_answer afresh
     answered =
-        let x : told_made a ≡ given (length afresh ∷ left_out c ∷ []) = b.answer ∙ simp (tested.short, tested.equal, tested.unbarred, free) in
-        let y : told_made (made.List k dropped) ≡ given (length afresh ∷ left_out c ∷ []) = λ j. given (size j ∷ told-left j ∷ []) in
-        made_unique {o = given (length afresh ∷ left_out c ∷ [])} (record { answer = x }) (record { answer = y })
+        let x : told a ≡ given (length afresh ∷ []) = b.answer ∙ simp (tested.short, tested.equal, free) in
+        let y : told (Value k) ≡ given (length afresh ∷ []) = ap (λ (j : ℕ). given (j ∷ [])) size in
+        answer_unique {o = given (length afresh ∷ [])} (record { answer = x }) (record { answer = y })
 
     built : fresh ≡ over (flatten row_of afresh) blank
     unfolding built_answer build_answer built_list afresh
-    built = b.list ∙ simp (tested.short, tested.equal, tested.unbarred, free)
+    built = b.list ∙ simp (tested.short, tested.equal, free)
 
     at_each : (i : ℕ) → i < k * wide → get_or fresh i 0 ≡ get_or out' i 0
     at_each i j =
@@ -240,25 +224,25 @@ module _ (strict : Bool) (g : Grammar) (c : Columns) (s l : List ℕ) (n : ℕ) 
         ∙ sym (ap (λ (z : List ℕ). get_or z i 0) left ∙ get_or-append (flatten row_of afresh) (drop (length (flatten row_of afresh)) out) 0 i x)
 
 -- where a list holds the regions of the old text and an amendment accepts, building the edited text afresh gives the same list
-pub amend_is_rebuild_held : {strict : Bool} {g : Grammar} {c : Columns} {old l : List ℕ} {n : ℕ} {e : Edit} {out out' blank fresh : List ℕ} {k dropped : ℕ} {a : Made}
+pub amend_is_rebuild_held : {g : Grammar} {c : Columns} {old l : List ℕ} {n : ℕ} {e : Edit} {out out' blank fresh : List ℕ} {k : ℕ} {a : Answer}
     → HoldsRegions g c old l n
-    → Amended strict g c old l n e out out' (told_made (made.List k dropped))
-    → Built strict g c (edited e old) blank fresh (told_made a)
-    → Rebuilt k dropped out out' blank fresh a
-amend_is_rebuild_held {strict} {g} {c} {old} {l} {n} {e} {out} {out'} {blank} {fresh} {k} {dropped} {a} holds m b =
+    → Amended g c old l n e out out' (told (Value k))
+    → Built g c (edited e old) blank fresh (told a)
+    → Rebuilt k out out' blank fresh a
+amend_is_rebuild_held {g} {c} {old} {l} {n} {e} {out} {out'} {blank} {fresh} {k} {a} holds m b =
     record {
-      count = answered strict g c old l n e out out' k dropped holds m blank fresh a b;
-      places = at_each strict g c old l n e out out' k dropped holds m blank fresh a b;
+      count = answered g c old l n e out out' k holds m blank fresh a b;
+      places = at_each g c old l n e out out' k holds m blank fresh a b;
       whole = λ z.
-          let h : k ≤ room wide blank = subst (λ (x : List ℕ). k ≤ room wide x) (sym z) (roomy strict g c old l n e out out' k dropped holds m) in
-          (answered strict g c old l n e out out' k dropped holds m blank fresh a b h, built strict g c old l n e out out' k dropped holds m blank fresh a b h ∙ rw z (sym (left strict g c old l n e out out' k dropped holds m)));
+          let h : k ≤ room wide blank = subst (λ (x : List ℕ). k ≤ room wide x) (sym z) (roomy g c old l n e out out' k holds m) in
+          (answered g c old l n e out out' k holds m blank fresh a b h, built g c old l n e out out' k holds m blank fresh a b h ∙ rw z (sym (left g c old l n e out out' k holds m)));
     }
 
 -- Mission demand 3, of the promises that `build` and `amend` keep. Build the old text; amend its list, by the same grammar and rules, for
--- the text that an edit makes; build that text afresh: two equal lists. The last two are both strict, or neither; how the old list was built doesn't matter.
-pub amend_is_rebuild : {way strict : Bool} {g : Grammar} {c : Columns} {old run l : List ℕ} {n left : ℕ} {e : Edit} {out out' blank fresh : List ℕ} {k dropped : ℕ} {a : Made}
-    → Built way g c old run l (told_made (made.List n left))
-    → Amended strict g c old l n e out out' (told_made (made.List k dropped))
-    → Built strict g c (edited e old) blank fresh (told_made a)
-    → Rebuilt k dropped out out' blank fresh a
-amend_is_rebuild b = amend_is_rebuild_held (built-holds b)
+-- the text that an edit makes; build that text afresh: two equal lists.
+pub amend_is_rebuild : {g : Grammar} {c : Columns} {old run l : List ℕ} {n : ℕ} {e : Edit} {out out' blank fresh : List ℕ} {k : ℕ} {a : Answer}
+    → Built g c old run l (told (Value n))
+    → Amended g c old l n e out out' (told (Value k))
+    → Built g c (edited e old) blank fresh (told a)
+    → Rebuilt k out out' blank fresh a
+amend_is_rebuild b = amend_is_rebuild_held (built_holds b)

@@ -6,7 +6,7 @@ mod rows; // a list as rows of two numbers
 
 ghost use Rattle.common.specs.Entry.{wide};
 ghost use Rattle.common.specs.Lists.{Wrote};
-ghost use Rattle.common.specs.Refusals.{told_made};
+ghost use Rattle.common.specs.Refusals.{told};
 ghost use Rattle.region.specs.Region.{row};
 ghost use Rattle.rules.specs.Columns.{columns};
 ghost use Rattle.rules.specs.Rows.{gram_by};
@@ -15,7 +15,7 @@ ghost use Rattle.amend.specs.Parts.{JudgedEdit, Judged, CutsReady, parts, Roomy,
 
 use common::grammar::Grammar;
 use common::list::WIDE;
-use common::refusal::{Made, Refusal, is_barred};
+use common::refusal::{Answer, Refusal};
 use common::span::MAX_INPUT_LEN;
 use cover::shape::is_misshapen;
 use joint::{is_left_open, marks_line_end};
@@ -34,11 +34,10 @@ pub enum Verdict {
     Refused(Refusal),
 }
 
-// What is wrong with the rules: columns differ; a strict way is barred; a line end escapes or opens.
+// What is wrong with the rules: columns differ; a line end escapes or opens.
 #[derive(Drop)]
 pub struct Flaws {
     pub unequal: bool,
-    pub barred: bool,
     pub marked: bool,
 }
 
@@ -58,16 +57,9 @@ pub struct Split {
     pub count: usize,
 }
 
-// The refusals that the texts' lengths, the columns, the bytes left out and the cuts decide, in the page's order.
-pub fn judge_edit(
-    old: &[u8],
-    first: usize,
-    second: usize,
-    text: &[u8],
-    unequal: bool,
-    barred: bool,
-) -> Verdict
-    ensures { JudgedEdit old.now (edit first second text.now) unequal barred result }
+// The refusals that the texts' lengths, the columns and the cuts decide, in the page's order.
+pub fn judge_edit(old: &[u8], first: usize, second: usize, text: &[u8], unequal: bool) -> Verdict
+    ensures { JudgedEdit old.now (edit first second text.now) unequal result }
 {
     let len = old.len();
     if len > MAX_INPUT_LEN {
@@ -78,9 +70,6 @@ pub fn judge_edit(
     }
     if unequal {
         return Verdict::Refused(Refusal::ColumnsDiffer);
-    }
-    if barred {
-        return Verdict::Refused(Refusal::TriggersDropped);
     }
     if first > second {
         return Verdict::Refused(Refusal::CutsOutOfOrder);
@@ -106,9 +95,9 @@ fn judge(
     eol: u8,
 ) -> Verdict
     ensures { Judged eol old.now list.now count (edit first second text.now) flaws.unequal
-        flaws.barred flaws.marked result }
+        flaws.marked result }
 {
-    match judge_edit(old, first, second, text, flaws.unequal, flaws.barred) {
+    match judge_edit(old, first, second, text, flaws.unequal) {
         Verdict::Refused(r) => Verdict::Refused(r),
         Verdict::Fine => {
             if is_misshapen(list, count, old.len()) {
@@ -165,11 +154,11 @@ fn settle(
     fences: &[u16; 256],
     rules: &Rows,
     out: &mut [u32],
-) -> Made
+) -> Answer
     requires { CutsReady list.now count cuts text.now }
     ensures { Settled alphabet.grammar.eol cuts.len (list_regions (gram_by alphabet fences.now rules.now))
-        alphabet.left (regions_in count list.now) (edit cuts.first cuts.second text.now)
-        out.old out.new (told_made result) }
+        (regions_in count list.now) (edit cuts.first cuts.second text.now) out.old
+        out.new (told result) }
 {
     let own = survey(text, alphabet, fences, rules);
     let left_open = is_left_open(
@@ -182,31 +171,26 @@ fn settle(
     let after = starts_before(list, count, cuts.second);
     let total = before + own.count + (count - after);
     if left_open {
-        return Made::Refused(Refusal::ReplacementOpen);
+        return Answer::Refused(Refusal::ReplacementOpen);
     }
     if out.len() / WIDE < total {
-        return Made::Refused(Refusal::NoRoom);
+        return Answer::Refused(Refusal::NoRoom);
     }
     let split = Split {
         before,
         after,
         count,
     };
-    Made::List(
-        write(list, split, cuts, text, alphabet, fences, rules, out),
-        alphabet.left,
-    )
+    Answer::Value(write(list, split, cuts, text, alphabet, fences, rules, out))
 }
 
 // Amends the list of an old text, whose first `count` regions it has, for the text in which the bytes from the first cut up to the
 // second are replaced by `text`: writes to `out` the regions that start before the first cut; the replacement's own, moved up by the
 // first cut; unless the second cut is the text's end, those that start at or after it, moved by the change in length. Answers their
-// number and how many bytes that open one were left out of the search, and changes nothing beyond the regions. Where it is strict,
-// every byte is to be searched for. A refusal (1 a text is too long, 6 columns differ, 11 a byte was left out and it is strict, 4 cuts
-// out of order, 1 the edited text is too long, 5 the list is misshapen, 9 a line end escapes or opens, 7 a cut is not at a joint, 8
-// the replacement is open at its end, 3 too little room) changes nothing.
+// number, and changes nothing beyond them. A refusal (1 a text is too long, 6 columns differ, 4 cuts out of order, 1 the edited text is
+// too long, 5 the list is misshapen, 9 a line end escapes or opens, 7 a cut is not at a joint, 8 the replacement is open at its end, 3
+// too little room) changes nothing.
 pub fn amend(
-    strict: bool,
     old: &[u8],
     list: &[u32],
     count: usize,
@@ -222,20 +206,19 @@ pub fn amend(
     closers: &[u8],
     counts: &[u32],
     out: &mut [u32],
-) -> Made
-    ensures { Amended strict g (columns fences.now mins.now symmetric.now times.now
+) -> Answer
+    ensures { Amended g (columns fences.now mins.now symmetric.now times.now
         openers.now closers.now counts.now) old.now list.now count
-        (edit first second text.now) out.old out.new (told_made result) }
+        (edit first second text.now) out.old out.new (told result) }
 {
-    let alphabet = Alphabet::of(g, fences, symmetric, openers);
     let flaws = Flaws {
         unequal: columns_differ(fences, mins, symmetric, times, openers, closers, counts),
-        barred: is_barred(strict, alphabet.left),
         marked: marks_line_end(g.eol, g.escape, symmetric, openers),
     };
     match judge(old, list, count, first, second, text, flaws, g.eol) {
-        Verdict::Refused(r) => Made::Refused(r),
+        Verdict::Refused(r) => Answer::Refused(r),
         Verdict::Fine => {
+            let alphabet = Alphabet::of(g, fences, symmetric, openers);
             let table = fence_table(fences, mins);
             let rules = rule_rows(fences, symmetric, times, openers, closers, counts);
             let cuts = Cuts {

@@ -5,7 +5,7 @@ use Rattle.std.specs.Int.{w64}
 use Rattle.std.proofs.lemmas.Bool.{lt-leb}
 use Rattle.search.specs.Promise.{Gives}
 use Rattle.common.specs.Entry.{flatten}
-use Rattle.common.specs.Lists.{Wrote, barred}
+use Rattle.common.specs.Lists.{Wrote}
 use Rattle.common.specs.Refusals.{Outcome, given, refused, number_of}
 use Rattle.common.specs.RefusalLaws.{number_some}
 use Rattle.common.specs.declared.grammar.Grammar.{Grammar}
@@ -13,16 +13,16 @@ use Rattle.common.specs.declared.refusal.Refusal.{Refusal}
 use Rattle.lines.specs.Fences.{fence_table}
 use Rattle.region.specs.Region.{Listed, keep_before}
 use Rattle.rules.specs.Grammar.{Gram}
-use Rattle.rules.specs.Columns.{alphabet_of, left_out, gram_of}
+use Rattle.rules.specs.Columns.{alphabet_of, gram_of}
 use Rattle.rules.specs.Rows.{gram_by, Folded}
 use Rattle.rules.specs.declared.search_bytes.Alphabet.{Alphabet}
 use Rattle.joint.specs.Joint.{open_end, line_end_is_mark}
 use Rattle.cells.specs.Bytes.{cells, row_bytes}
 use Rattle.cells.specs.CellLaws.{length-cells}
-use Rattle.cells.specs.RuleLaws.{gram_folded, left_folded}
+use Rattle.cells.specs.RuleLaws.{gram_folded}
 use Rattle.cells.specs.ByteRules.{ColumnRuns, inline_in, uneven_columns, columns_in}
 use Rattle.cells.specs.Reply.{Replied}
-use Rattle.cells.specs.Poured.{ListRuns, Poured, PouredBeside}
+use Rattle.cells.specs.Poured.{ListRuns, Poured, PouredAs}
 use Rattle.cells.specs.PouredLaws.{poured_unique, poured_off, pour_full, pour_done}
 use Rattle.amend.specs.Amend.{Edit}
 use Rattle.amend.specs.Amended.{regions_in, list_regions, edit, amended_regions, amended_list, judged, settled_answer, amend_answer}
@@ -38,25 +38,25 @@ use Rattle.amending.specs.Amending.{listed_bytes, AmendedBytes}
 use Rattle.amending.specs.ByteParts.{Planned, SettledBytes}
 
 -- ---- pouring the three parts
-module _ (g : Gram) (l : List ℕ) (cut : Split) (cuts : Cuts) (r : List ℕ) (total dropped : ℕ) (p : Planned g l cut cuts r total) where
+module _ (g : Gram) (l : List ℕ) (cut : Split) (cuts : Cuts) (r : List ℕ) (total : ℕ) (p : Planned g l cut cuts r total) where
   pub parts_roomy : (out : List ℕ) → total ≤ length out / row_bytes → Roomy row_bytes g l cut cuts r out
   parts_roomy = p.roomy
 
-  pub parts_full : (lent : ListRuns) → length lent.list / row_bytes < total → PouredBeside listed_bytes row_bytes (parts g l cut cuts r) (dropped ∷ []) lent lent 3
-  parts_full lent h = pour_full listed_bytes row_bytes (parts g l cut cuts r) (dropped ∷ []) lent false (record { answer = sym (lt-leb (length (parts g l cut cuts r)) (length lent.list / row_bytes) (omega (arith, p.count))) }) refl
+  pub parts_full : (lent : ListRuns) → length lent.list / row_bytes < total → PouredAs listed_bytes row_bytes (parts g l cut cuts r) lent lent 3
+  parts_full lent h = pour_full listed_bytes row_bytes (parts g l cut cuts r) lent false (record { answer = sym (lt-leb (length (parts g l cut cuts r)) (length lent.list / row_bytes) (omega (arith, p.count))) }) refl
 
-  pub parts_done : (lent left : ListRuns) (m k q : ℕ) → total ≤ length lent.list / row_bytes → 2 < m → Gives (length lent.answer / 4) m → Wrote listed_bytes (parts g l cut cuts r) lent.list left.list k
-      → Replied (given (k ∷ dropped ∷ [])) lent.answer left.answer q → PouredBeside listed_bytes row_bytes (parts g l cut cuts r) (dropped ∷ []) lent left q
+  pub parts_done : (lent left : ListRuns) (m k q : ℕ) → total ≤ length lent.list / row_bytes → 1 < m → Gives (length lent.answer / 4) m → Wrote listed_bytes (parts g l cut cuts r) lent.list left.list k
+      → Replied (given (k ∷ [])) lent.answer left.answer q → PouredAs listed_bytes row_bytes (parts g l cut cuts r) lent left q
   parts_done lent left m k q h i room w d =
       let fits = le-leb (length (parts g l cut cuts r)) (length lent.list / row_bytes) (omega (arith, p.count)) in
-      pour_done listed_bytes row_bytes (parts g l cut cuts r) (dropped ∷ []) lent true (record { answer = sym fits }) left m k q refl i room w d
+      pour_done listed_bytes row_bytes (parts g l cut cuts r) lent true (record { answer = sym fits }) left m k q refl i room w d
 
 -- ---- settling
 module _ (eol : ℕ) (g : Gram) (len first second : ℕ) (r : List ℕ) (own : Counted) (y : Bool) (c : Gives (surveyed g r) own) (h : Gives (open_end eol (ltb second len) r own.reaching) y) where
-  pub bytes_open : (dropped : ℕ) (l : List Listed) (lent : ListRuns) → y ≡ true → SettledBytes eol len (list_regions g) dropped l (edit first second r) lent lent 8
-  bytes_open dropped l lent e =
+  pub bytes_open : (l : List Listed) (lent : ListRuns) → y ≡ true → SettledBytes eol len (list_regions g) l (edit first second r) lent lent 8
+  bytes_open l lent e =
       let L = flatten listed_bytes (amended_regions (list_regions g) len (edit first second r) l) in
-      subst (λ (o : Outcome). Poured o L lent lent 8) (sym (answer_open eol g len first second r own y c h row_bytes dropped l lent.list e)) (poured_off 8 L lent refl)
+      subst (λ (o : Outcome). Poured o L lent lent 8) (sym (answer_open eol g len first second r own y c h row_bytes l lent.list e)) (poured_off 8 L lent refl)
 
 -- where the cuts may be made, and the rows before and from `after` on are counted
 module _ (g : Gram) (list : List ℕ) (n : ℕ) (cuts : Cuts) (r : List ℕ) (ready : CutsReady (cells list) n cuts r) (before after : ℕ)
@@ -78,69 +78,53 @@ module _ (g : Gram) (list : List ℕ) (n : ℕ) (cuts : Cuts) (r : List ℕ) (re
       }
 
   -- a replacement that is shut leaves the room to decide
-  pub bytes_poured : (lent left : ListRuns) (eol dropped q : ℕ) (y : Bool) → y ≡ false → Gives (open_end eol (ltb cuts.second cuts.len) r own.reaching) y
-      → PouredBeside listed_bytes row_bytes (parts g (cells list) (split before after n) cuts r) (dropped ∷ []) lent left q
-      → SettledBytes eol cuts.len (list_regions g) dropped (regions_in n (cells list)) (edit cuts.first cuts.second r) lent left q
-  bytes_poured lent left eol dropped q y e o w =
+  pub bytes_poured : (lent left : ListRuns) (eol q : ℕ) (y : Bool) → y ≡ false → Gives (open_end eol (ltb cuts.second cuts.len) r own.reaching) y
+      → PouredAs listed_bytes row_bytes (parts g (cells list) (split before after n) cuts r) lent left q
+      → SettledBytes eol cuts.len (list_regions g) (regions_in n (cells list)) (edit cuts.first cuts.second r) lent left q
+  bytes_poured lent left eol q y e o w =
       let asked = amended_regions (list_regions g) cuts.len (edit cuts.first cuts.second r) (regions_in n (cells list)) in
-      subst (λ (x : Outcome). Poured x (flatten listed_bytes asked) lent left q) (sym (answer-shut g (cells list) n cuts r ready before after hb ha own c lent.list eol dropped y e o row_bytes))
-      (subst (λ (z : List Listed). PouredBeside listed_bytes row_bytes z (dropped ∷ []) lent left q) (parts_same g (cells list) n cuts r ready before after hb ha) w)
+      subst (λ (x : Outcome). Poured x (flatten listed_bytes asked) lent left q) (sym (answer-shut g (cells list) n cuts r ready before after hb ha own c lent.list eol y e o row_bytes))
+      (subst (λ (z : List Listed). PouredAs listed_bytes row_bytes z lent left q) (parts_same g (cells list) n cuts r ready before after hb ha) w)
 
--- by the rules, folded, and the alphabet that was collected from them
-pub settled_columns : (c : ColumnRuns) (len : ℕ) (l : List Listed) (e : Edit) (before after : ListRuns) (a : Alphabet) (fences : List ℕ) (rows : List (List ℕ)) (r : ℕ)
-    → Gives (alphabet_of a.grammar c.fence_bytes c.inline.sym_bytes c.inline.openers) a → Gives (fence_table c.fence_bytes c.fence_mins) fences → Folded c.fence_bytes (inline_in c.inline) rows
-    → SettledBytes a.grammar.eol len (list_regions (gram_by a fences rows)) a.left l e before after r
-    → SettledBytes a.grammar.eol len (list_regions (gram_of a.grammar (columns_in c))) (left_out (columns_in c)) l e before after r
-settled_columns c len l e before after a fences rows r ha hf hr v =
-    let g = a.grammar in
-    subst (λ (k : ℕ). SettledBytes g.eol len (list_regions (gram_of g (columns_in c))) k l e before after r) (left_folded g c a ha)
-    (subst (λ (z : Gram). SettledBytes g.eol len (list_regions z) a.left l e before after r) (gram_folded g c a fences rows ha hf hr) v)
+-- by the rules, folded
+pub settled_columns : (g : Grammar) (c : ColumnRuns) (len : ℕ) (l : List Listed) (e : Edit) (before after : ListRuns) (a : Alphabet) (fences : List ℕ) (rows : List (List ℕ)) (r : ℕ)
+    → Gives (alphabet_of g c.fence_bytes c.inline.sym_bytes c.inline.openers) a → Gives (fence_table c.fence_bytes c.fence_mins) fences → Folded c.fence_bytes (inline_in c.inline) rows
+    → SettledBytes a.grammar.eol len (list_regions (gram_by a fences rows)) l e before after r → SettledBytes g.eol len (list_regions (gram_of g (columns_in c))) l e before after r
+settled_columns g c len l e before after a fences rows r ha hf hr v =
+    subst (λ (z : Gram). SettledBytes g.eol len (list_regions z) l e before after r) (gram_folded g c a fences rows ha hf hr)
+    (subst (λ (x : Alphabet). SettledBytes x.grammar.eol len (list_regions (gram_by a fences rows)) l e before after r) ha.answer v)
 
 -- ---- the ways out of the entry
-module _ (strict : Bool) (g : Grammar) (c : ColumnRuns) (s l : List ℕ) (n : ℕ) (e : Edit) (u x m : Bool) (v : Verdict) (a : Alphabet) (lent : ListRuns)
-    (hv : Judged g.eol s (cells l) n e u x m v) (hu : Gives (uneven_columns c) u) (ha : Gives (alphabet_of g c.fence_bytes c.inline.sym_bytes c.inline.openers) a)
-    (hx : Gives (barred strict a.left) x) (hm : Gives (line_end_is_mark g.eol g.escape c.inline.sym_bytes c.inline.openers) m) where
-  bar : x ≡ barred strict (left_out (columns_in c))
-  bar = hx.answer ∙ ap (barred strict) (left_folded g c a ha)
-
-  as_told : amend_answer g (columns_in c) s (cells l) n e row_bytes strict (uneven_columns c) lent.list
-      ≡ judged g.eol s (cells l) n e u x m (settled_answer row_bytes g.eol (length s) (list_regions (gram_of g (columns_in c))) (left_out (columns_in c)) (regions_in n (cells l)) e lent.list)
+module _ (g : Grammar) (c : ColumnRuns) (s l : List ℕ) (n : ℕ) (e : Edit) (u m : Bool) (v : Verdict) (lent : ListRuns)
+    (hv : Judged g.eol s (cells l) n e u m v) (hu : Gives (uneven_columns c) u) (hm : Gives (line_end_is_mark g.eol g.escape c.inline.sym_bytes c.inline.openers) m) where
+  as_told : amend_answer g (columns_in c) s (cells l) n e row_bytes (uneven_columns c) lent.list
+      ≡ judged g.eol s (cells l) n e u m (settled_answer row_bytes g.eol (length s) (list_regions (gram_of g (columns_in c))) (regions_in n (cells l)) e lent.list)
   unfolding amend_answer columns_in
-  as_told = rw (← hu.answer, ← bar, ← hm.answer)
+  as_told = rw (← hu.answer, ← hm.answer)
 
-  stopped : (q : Refusal) (k : ℕ) → v ≡ verdict.Refused q → Gives (number_of q) k → AmendedBytes strict g c s l n e lent lent k
+  stopped : (q : Refusal) (k : ℕ) → v ≡ verdict.Refused q → Gives (number_of q) k → AmendedBytes g c s l n e lent lent k
   stopped q k d h =
       let L = flatten listed_bytes (amended_list g (columns_in c) s (cells l) n e) in
-      let z : amend_answer g (columns_in c) s (cells l) n e row_bytes strict (uneven_columns c) lent.list ≡ refused (number_of q) = as_told ∙ judged_stop g.eol s (cells l) n e u x m q _ (sym hv.answer ∙ ap told_verdict d) in
-      subst (λ (o : Outcome). Poured o L lent lent k) (sym z) (rw h.answer (poured_off (number_of q) L lent (number_some q)))
+      let a : amend_answer g (columns_in c) s (cells l) n e row_bytes (uneven_columns c) lent.list ≡ refused (number_of q) = as_told ∙ judged_stop g.eol s (cells l) n e u m q _ (sym hv.answer ∙ ap told_verdict d) in
+      subst (λ (o : Outcome). Poured o L lent lent k) (sym a) (rw h.answer (poured_off (number_of q) L lent (number_some q)))
 
-  went_on : (after : ListRuns) (k : ℕ) → v ≡ verdict.Fine → SettledBytes a.grammar.eol (length s) (list_regions (gram_of a.grammar (columns_in c))) (left_out (columns_in c)) (regions_in n (cells l)) e lent after k
-      → AmendedBytes strict g c s l n e lent after k
+  went_on : (after : ListRuns) (k : ℕ) → v ≡ verdict.Fine → SettledBytes g.eol (length s) (list_regions (gram_of g (columns_in c))) (regions_in n (cells l)) e lent after k → AmendedBytes g c s l n e lent after k
   went_on after k d w =
       let L = flatten listed_bytes (amended_list g (columns_in c) s (cells l) n e) in
-      let same : a.grammar ≡ g = ap (λ (y : Alphabet). y.grammar) ha.answer in
-      let w' : SettledBytes g.eol (length s) (list_regions (gram_of g (columns_in c))) (left_out (columns_in c)) (regions_in n (cells l)) e lent after k = rw same at w in
-      subst (λ (o : Outcome). Poured o L lent after k) (sym (as_told ∙ judged_on g.eol s (cells l) n e u x m (sym hv.answer ∙ ap told_verdict d) _)) w'
+      subst (λ (o : Outcome). Poured o L lent after k) (sym (as_told ∙ judged_on g.eol s (cells l) n e u m (sym hv.answer ∙ ap told_verdict d) _)) w
 
-module _ (strict : Bool) (g : Grammar) (c : ColumnRuns) (s l : List ℕ) (n first second : ℕ) (r : List ℕ) (u x m : Bool) (v : Verdict) (a : Alphabet) (lent : ListRuns) where
-  pub bytes_refused : (q : Refusal) (k : ℕ) → v ≡ verdict.Refused q → Judged g.eol s (cells l) n (edit first second r) u x m v → Gives (uneven_columns c) u
-      → Gives (alphabet_of g c.fence_bytes c.inline.sym_bytes c.inline.openers) a → Gives (barred strict a.left) x
-      → Gives (line_end_is_mark g.eol g.escape c.inline.sym_bytes c.inline.openers) m → Gives (number_of q) k → AmendedBytes strict g c s l n (edit first second r) lent lent k
-  bytes_refused q k d hv hu ha hx hm h = stopped strict g c s l n (edit first second r) u x m v a lent hv hu ha hx hm q k d h
+module _ (g : Grammar) (c : ColumnRuns) (s l : List ℕ) (n first second : ℕ) (r : List ℕ) (u m : Bool) (v : Verdict) (lent : ListRuns) where
+  pub bytes_refused : (q : Refusal) (k : ℕ) → v ≡ verdict.Refused q → Judged g.eol s (cells l) n (edit first second r) u m v → Gives (uneven_columns c) u
+      → Gives (line_end_is_mark g.eol g.escape c.inline.sym_bytes c.inline.openers) m → Gives (number_of q) k → AmendedBytes g c s l n (edit first second r) lent lent k
+  bytes_refused q k d hv hu hm h = stopped g c s l n (edit first second r) u m v lent hv hu hm q k d h
 
-  pub bytes_settled : (after : ListRuns) (k : ℕ) → v ≡ verdict.Fine → Judged g.eol s (cells l) n (edit first second r) u x m v → Gives (uneven_columns c) u
-      → Gives (alphabet_of g c.fence_bytes c.inline.sym_bytes c.inline.openers) a → Gives (barred strict a.left) x
+  pub bytes_settled : (after : ListRuns) (k : ℕ) → v ≡ verdict.Fine → Judged g.eol s (cells l) n (edit first second r) u m v → Gives (uneven_columns c) u
       → Gives (line_end_is_mark g.eol g.escape c.inline.sym_bytes c.inline.openers) m
-      → SettledBytes a.grammar.eol (length s) (list_regions (gram_of a.grammar (columns_in c))) (left_out (columns_in c)) (regions_in n (cells l)) (edit first second r) lent after k
-      → AmendedBytes strict g c s l n (edit first second r) lent after k
-  bytes_settled after k d hv hu ha hx hm w = went_on strict g c s l n (edit first second r) u x m v a lent hv hu ha hx hm after k d w
-
--- the alphabet was collected by its own grammar
-pub own-grammar : (g : Grammar) (f y o : List ℕ) (a : Alphabet) → Gives (alphabet_of g f y o) a → Gives (alphabet_of a.grammar f y o) a
-own-grammar g f y o a ha = record { answer = ha.answer ∙ ap (λ (x : Alphabet). alphabet_of x.grammar f y o) (sym ha.answer) }
+      → SettledBytes g.eol (length s) (list_regions (gram_of g (columns_in c))) (regions_in n (cells l)) (edit first second r) lent after k → AmendedBytes g c s l n (edit first second r) lent after k
+  bytes_settled after k d hv hu hm w = went_on g c s l n (edit first second r) u m v lent hv hu hm after k d w
 
 -- ---- one result
 -- two results for the same arguments are one: the number, the answer run and the list that are left
-pub amended_bytes_unique : (strict : Bool) (g : Grammar) (c : ColumnRuns) (s l : List ℕ) (n : ℕ) (e : Edit) {before after after' : ListRuns} {r r' : ℕ}
-    → AmendedBytes strict g c s l n e before after r → AmendedBytes strict g c s l n e before after' r' → (r ≡ r') × (after.answer ≡ after'.answer) × (after.list ≡ after'.list)
-amended_bytes_unique strict g c s l n e a b = poured_unique a b
+pub amended_bytes_unique : (g : Grammar) (c : ColumnRuns) (s l : List ℕ) (n : ℕ) (e : Edit) {before after after' : ListRuns} {r r' : ℕ}
+    → AmendedBytes g c s l n e before after r → AmendedBytes g c s l n e before after' r' → (r ≡ r') × (after.answer ≡ after'.answer) × (after.list ≡ after'.list)
+amended_bytes_unique g c s l n e a b = poured_unique a b

@@ -24,6 +24,6 @@ pub record Planned (g : Gram) (l : List ℕ) (split : Split) (cuts : Cuts) (r : 
   pub roomy : (out : List ℕ) → total ≤ length out / row_bytes → Roomy row_bytes g l split cuts r out
 
 -- what settling promises
-abbrev pub SettledBytes : ℕ → ℕ → (List ℕ → List Listed) → ℕ → List Listed → Edit → ListRuns → ListRuns → ℕ → Type 0
-SettledBytes eol len build left l e before after r =
-    Poured (settled_answer row_bytes eol len build left l e before.list) (flatten listed_bytes (amended_regions build len e l)) before after r
+abbrev pub SettledBytes : ℕ → ℕ → (List ℕ → List Listed) → List Listed → Edit → ListRuns → ListRuns → ℕ → Type 0
+SettledBytes eol len build l e before after r =
+    Poured (settled_answer row_bytes eol len build l e before.list) (flatten listed_bytes (amended_regions build len e l)) before after r

@@ -1,18 +1,15 @@
 // The amendment of a region list in bytes, as a host in C lends it: crate amend's, where region k has its start at byte 8k and its exclusive
-// end at byte 8k + 4, by rules that byte runs hold. The answer is how many regions there are, and how many bytes that open one were left out
-// of the search; where it is strict, it is refused with 11 where there is one.
+// end at byte 8k + 4, by rules that byte runs hold. The answer is how many regions there are.
 mod joints; // where an amendment may cut
 mod own; // the replacement's own regions
 mod rows; // a list in bytes as rows of two numbers
 
-ghost use Rattle.std.specs.Prelude.{[], ◌∷◌};
-ghost use Rattle.search.specs.Promise.{Gives};
 ghost use Rattle.common.specs.Lists.{Wrote};
-ghost use Rattle.rules.specs.Columns.{alphabet_of, left_out, gram_of};
+ghost use Rattle.rules.specs.Columns.{gram_of};
 ghost use Rattle.rules.specs.Rows.{gram_by};
 ghost use Rattle.cells.specs.Bytes.{cells, row_bytes};
 ghost use Rattle.cells.specs.ByteRules.{columns_in};
-ghost use Rattle.cells.specs.Poured.{PouredBeside};
+ghost use Rattle.cells.specs.Poured.{PouredAs};
 ghost use Rattle.amend.specs.Amended.{edit, regions_in, list_regions};
 ghost use Rattle.amend.specs.Parts.{Judged, CutsReady, parts, Roomy};
 ghost use Rattle.amending.specs.Amending.{listed_bytes, AmendedBytes};
@@ -24,7 +21,7 @@ use byte_list::is_misshapen;
 use cells::columns::{columns_differ, rule_rows};
 use cells::{ROW, reply};
 use common::grammar::Grammar;
-use common::refusal::{Refusal, is_barred};
+use common::refusal::Refusal;
 use joint::{is_left_open, marks_line_end};
 use joints::is_off_joint;
 use lines::fence_tests::fence_table;
@@ -45,9 +42,9 @@ fn judge(
     eol: u8,
 ) -> Verdict
     ensures { Judged eol old.now (cells list.now) count (edit first second text.now) flaws.unequal
-        flaws.barred flaws.marked result }
+        flaws.marked result }
 {
-    match judge_edit(old, first, second, text, flaws.unequal, flaws.barred) {
+    match judge_edit(old, first, second, text, flaws.unequal) {
         Verdict::Refused(r) => Verdict::Refused(r),
         Verdict::Fine => {
             if is_misshapen(list, count, old.len()) {
@@ -93,8 +90,8 @@ fn write(
     )
 }
 
-// Writes that list, of `total` regions, and replies how many there are and how many bytes were left out; or refuses where the list or the
-// answer run is too short. Both are refused with 3, so that the answer run may be looked at first.
+// Writes that list, of `total` regions, and replies how many there are; or refuses where the list or the answer run is too short. Both are
+// refused with 3, so that the answer run may be looked at first.
 fn pour(
     list: &[u8],
     split: Split,
@@ -108,18 +105,14 @@ fn pour(
     answer: &mut [u8],
 ) -> u32
     requires { Planned (gram_by alphabet fences.now rules.now) (cells list.now) split cuts text.now total }
-    ensures { PouredBeside listed_bytes row_bytes
+    ensures { PouredAs listed_bytes row_bytes
         (parts (gram_by alphabet fences.now rules.now) (cells list.entry.now) split cuts text.now)
-        (alphabet.left ∷ [])
         (record { list = out.old; answer = answer.old })
         (record { list = out.new; answer = answer.new }) result }
 {
-    if 2 < reply::room_of(answer.len()) {
+    if 1 < reply::room_of(answer.len()) {
         if total <= out.len() / ROW {
-            let all = [
-                write(list, split, cuts, text, alphabet, fences, rules, out),
-                alphabet.left,
-            ];
+            let all = [write(list, split, cuts, text, alphabet, fences, rules, out)];
             return reply::values(&all, answer);
         }
         return 3;
@@ -142,7 +135,7 @@ fn settle(
 ) -> u32
     requires { CutsReady (cells list.now) count cuts text.now }
     ensures { SettledBytes alphabet.grammar.eol cuts.len (list_regions (gram_by alphabet fences.now rules.now))
-        alphabet.left (regions_in count (cells list.entry.now)) (edit cuts.first cuts.second text.now)
+        (regions_in count (cells list.entry.now)) (edit cuts.first cuts.second text.now)
         (record { list = out.old; answer = answer.old })
         (record { list = out.new; answer = answer.new }) result }
 {
@@ -169,13 +162,13 @@ fn settle(
     )
 }
 
-// All rules of columns into tables, once, and on, by the alphabet that was collected from them.
+// All rules of columns into tables, once, and on.
 fn with_columns(
     list: &[u8],
     count: usize,
     cuts: Cuts,
     text: &[u8],
-    alphabet: Alphabet,
+    g: Grammar,
     fences: &[u8],
     mins: &[u8],
     symmetric: &[u8],
@@ -186,10 +179,9 @@ fn with_columns(
     out: &mut [u8],
     answer: &mut [u8],
 ) -> u32
-    requires cuts_ready { CutsReady (cells list.now) count cuts text.now }
-    requires gives { Gives (alphabet_of alphabet.grammar fences.now symmetric.now openers.now) alphabet }
-    ensures { SettledBytes alphabet.grammar.eol cuts.len
-        (list_regions (gram_of alphabet.grammar (columns_in (record {
+    requires { CutsReady (cells list.now) count cuts text.now }
+    ensures { SettledBytes g.eol cuts.len
+        (list_regions (gram_of g (columns_in (record {
           fence_bytes = fences.now;
           fence_mins = mins.now;
           inline = record {
@@ -200,21 +192,11 @@ fn with_columns(
             open_counts = counts.now;
           };
         }))))
-        (left_out (columns_in (record {
-          fence_bytes = fences.now;
-          fence_mins = mins.now;
-          inline = record {
-            sym_bytes = symmetric.now;
-            sym_counts = times.now;
-            openers = openers.now;
-            closers = closers.now;
-            open_counts = counts.now;
-          };
-        })))
         (regions_in count (cells list.entry.now)) (edit cuts.first cuts.second text.now)
         (record { list = out.old; answer = answer.old })
         (record { list = out.new; answer = answer.new }) result }
 {
+    let alphabet = Alphabet::of(g, fences, symmetric, openers);
     let table = fence_table(fences, mins);
     let rules = rule_rows(fences, symmetric, times, openers, closers, counts);
     settle(
@@ -225,11 +207,10 @@ fn with_columns(
 // Amends the list of an old text, whose first `count` regions it has, for the text in which the bytes from the first cut up to the
 // second are replaced by `text`: writes to `out` the regions that start before the first cut; the replacement's own, moved up by the
 // first cut; unless the second cut is the text's end, those that start at or after it, moved by the change in length. Replies their
-// number and how many bytes were left out, and changes nothing beyond the regions. A refusal (1 a text is too long, 6 columns differ, 11 a
-// byte was left out and it is strict, 4 cuts out of order, 1 the edited text is too long, 5 the list is misshapen, 9 a line end escapes or
-// opens, 7 a cut is not at a joint, 8 the replacement is open at its end, 3 too little room in `out` or in `answer`) changes nothing.
+// number, and changes nothing beyond them. A refusal (1 a text is too long, 6 columns differ, 4 cuts out of order, 1 the edited text is
+// too long, 5 the list is misshapen, 9 a line end escapes or opens, 7 a cut is not at a joint, 8 the replacement is open at its end, 3
+// too little room in `out` or in `answer`) changes nothing.
 pub fn amend_columns(
-    strict: bool,
     old: &[u8],
     list: &[u8],
     count: usize,
@@ -250,7 +231,7 @@ pub fn amend_columns(
     out: &mut [u8],
     answer: &mut [u8],
 ) -> u32
-    ensures { AmendedBytes strict (record { eol = eol; escape = escape; sep = sep; tab = tab })
+    ensures { AmendedBytes (record { eol = eol; escape = escape; sep = sep; tab = tab })
         (record {
           fence_bytes = fences.now;
           fence_mins = mins.now;
@@ -266,16 +247,8 @@ pub fn amend_columns(
         (record { list = out.old; answer = answer.old })
         (record { list = out.new; answer = answer.new }) result }
 {
-    let g = Grammar {
-        eol,
-        escape,
-        sep,
-        tab,
-    };
-    let alphabet = Alphabet::of(g, fences, symmetric, openers);
     let flaws = Flaws {
         unequal: columns_differ(fences, mins, symmetric, times, openers, closers, counts),
-        barred: is_barred(strict, alphabet.left),
         marked: marks_line_end(eol, escape, symmetric, openers),
     };
     match judge(old, list, count, first, second, text, flaws, eol) {
@@ -286,9 +259,15 @@ pub fn amend_columns(
                 second,
                 len: old.len(),
             };
+            let g = Grammar {
+                eol,
+                escape,
+                sep,
+                tab,
+            };
             with_columns(
-                list, count, cuts, text, alphabet, fences, mins, symmetric, times, openers,
-                closers, counts, out, answer,
+                list, count, cuts, text, g, fences, mins, symmetric, times, openers, closers,
+                counts, out, answer,
             )
         }
     }

@@ -2,7 +2,6 @@
 use crate::tally::Tally;
 use crate::texts::{ROOM, Short};
 use crate::trial;
-use crate::ways::Way;
 
 const TIMES: u32 = 20000;
 
@@ -53,12 +52,12 @@ impl Draw {
     }
 }
 
-pub(crate) fn all(way: Way) -> Tally {
+pub(crate) fn all() -> Tally {
     let mut tally = Tally::new();
     let mut draw = Draw { at: 1 };
     let mut left = TIMES;
     while left > 0 {
-        let tried = one(way, draw, tally);
+        let tried = one(draw, tally);
         tally = tried.tally;
         draw = tried.last;
         left -= 1;
@@ -67,7 +66,7 @@ pub(crate) fn all(way: Way) -> Tally {
 }
 
 // An old text, two places, the replacement's length and the replacement.
-fn one(way: Way, draw: Draw, tally: Tally) -> Tried {
+fn one(draw: Draw, tally: Tally) -> Tried {
     let drawn = text(draw, OLD);
     let old = drawn.text;
     let last = drawn.last;
@@ -78,7 +77,7 @@ fn one(way: Way, draw: Draw, tally: Tally) -> Tried {
     let own = replacement.text;
     let rest = replacement.last;
     Tried {
-        tally: cut(way, old, place(a, old), place(b, old), own, tally),
+        tally: cut(old, place(a, old), place(b, old), own, tally),
         last: rest,
     }
 }
@@ -88,12 +87,12 @@ fn place(draw: Draw, old: Short) -> usize {
 }
 
 // The lesser place is the first cut.
-fn cut(way: Way, old: Short, a: usize, b: usize, own: Short, tally: Tally) -> Tally {
-    let list = trial::built(way.before(), old);
+fn cut(old: Short, a: usize, b: usize, own: Short, tally: Tally) -> Tally {
+    let list = trial::built(old);
     if a <= b {
-        return trial::run(way, old, list, a, b, own, tally);
+        return trial::run(old, list, a, b, own, tally);
     }
-    trial::run(way, old, list, b, a, own, tally)
+    trial::run(old, list, b, a, own, tally)
 }
 
 fn text(before: Draw, length: usize) -> Drawn {

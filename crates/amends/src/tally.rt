@@ -1,16 +1,10 @@
-// What is counted: amendments that are made, the bytes that they say are left out, refusals by number, and what differs from building
-// afresh.
-use crate::ways::Way;
+// What is counted: amendments that are made, refusals by number, and what differs from building afresh.
 use libc::STDOUT_FILENO;
-
-// Refusals have numbers below this.
-const NUMBERS: usize = 12;
 
 #[derive(Drop)]
 pub(crate) struct Tally {
     made: u64,
-    left: u64,
-    refused: [u64; NUMBERS],
+    refused: [u64; 10],
     differ: u64,
 }
 
@@ -18,24 +12,22 @@ impl Tally {
     pub(crate) fn new() -> Self {
         Tally {
             made: 0,
-            left: 0,
-            refused: [0; NUMBERS],
+            refused: [0; 10],
             differ: 0,
         }
     }
 
-    pub(crate) fn made(self, left: usize, same: bool) -> Self {
+    pub(crate) fn made(self, same: bool) -> Self {
         let mut tally = self;
-        tally.made = sum(tally.made, 1);
-        tally.left = sum(tally.left, left as u64);
+        tally.made = more(tally.made);
         tally.judged(same)
     }
 
     pub(crate) fn refused(self, number: u32, untouched: bool) -> Self {
         let mut tally = self;
         let i = number as usize;
-        if i < NUMBERS {
-            tally.refused[i] = sum(tally.refused[i], 1);
+        if i < 10 {
+            tally.refused[i] = more(tally.refused[i]);
             return tally.judged(untouched);
         }
         tally.judged(false)
@@ -46,68 +38,42 @@ impl Tally {
             return self;
         }
         let mut tally = self;
-        tally.differ = sum(tally.differ, 1);
+        tally.differ = more(tally.differ);
         tally
     }
 }
 
-// The sum of two counts; none comes near the bound.
-fn sum(a: u64, b: u64) -> u64 {
-    if a <= u64::MAX - b {
-        return a + b;
+fn more(n: u64) -> u64 {
+    if n < u64::MAX {
+        return n + 1;
     }
-    u64::MAX
+    n
 }
 
-pub(crate) fn print_length(way: Way, length: usize, tally: Tally) {
-    print_way(way);
+pub(crate) fn print_length(length: usize, tally: Tally) {
     text(b"old texts of ");
     number(length as u64);
-    print_counts(way, tally);
+    print_counts(tally);
 }
 
-pub(crate) fn print_drawn(way: Way, tally: Tally) {
-    print_way(way);
+pub(crate) fn print_drawn(tally: Tally) {
     text(b"drawn");
-    print_counts(way, tally);
+    print_counts(tally);
 }
 
-fn print_way(way: Way) {
-    if way.strict {
-        text(b"strict, ");
-    }
-    if way.many {
-        text(b"over eleven, ");
-    }
-    if way.other {
-        text(b"the old list by the others, ");
-    }
-}
-
-fn print_counts(way: Way, tally: Tally) {
+fn print_counts(tally: Tally) {
     text(b": ");
     number(tally.made);
     text(b" made");
-    print_left(way, tally.left);
     print_refusals(tally);
     text(b", ");
     number(tally.differ);
     text(b" differ\n");
 }
 
-// In the plain way nothing is left out.
-fn print_left(way: Way, left: u64) {
-    if way.is_plain() {
-        return;
-    }
-    text(b", ");
-    number(left);
-    text(b" left out");
-}
-
 fn print_refusals(tally: Tally) {
     let mut i = 1;
-    while i < NUMBERS {
+    while i < 10 {
         print_refusal(i, tally.refused[i]);
         i += 1;
     }

@@ -65,22 +65,6 @@ pub(crate) fn front(bytes: &[u8], n: usize) -> &[u8] {
     &bytes[0..0]
 }
 
-// The bytes from a place on; none where it is past the run.
-pub(crate) fn rest(bytes: &[u8], n: usize) -> &[u8] {
-    if n <= bytes.len() {
-        return &bytes[n..bytes.len()];
-    }
-    &bytes[0..0]
-}
-
-// The first numbers of a run; none where it has fewer.
-pub(crate) fn numbers_front(numbers: &[u32], n: usize) -> &[u32] {
-    if n <= numbers.len() {
-        return &numbers[0..n];
-    }
-    &numbers[0..0]
-}
-
 // The old text with the replacement in the place of what stands between the cuts.
 pub(crate) fn edited(old: Short, first: usize, second: usize, text: Short) -> Short {
     let mut bytes = [0u8; ROOM];

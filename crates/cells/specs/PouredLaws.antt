@@ -1,5 +1,5 @@
--- Laws of lists poured into a run of bytes: that a promise leaves one result, what it leaves, and the ways out of pouring and of building. Assumes nothing.
-use Rattle.std.specs.Prelude.{◌≡◌, Bool, true, not, ◌||◌, List, [], ◌∷◌, ◌⊎◌, ℕ, suc, ◌/◌, ◌%◌, ◌≤◌, ◌<◌, eqb, leb, length}
+-- Laws of lists poured into a run of bytes: that a promise leaves one result, and the ways out of pouring and of building. Assumes nothing.
+use Rattle.std.specs.Prelude.{◌≡◌, Bool, true, not, ◌||◌, List, [], ◌∷◌, ◌⊎◌, ℕ, ◌/◌, ◌%◌, ◌≤◌, ◌<◌, eqb, leb, length}
 use Rattle.std.proofs.Math.Path.{refl, sym, subst}
 use Rattle.std.proofs.Common.{◌∙◌, inl, inr}
 use Rattle.std.proofs.Math.Bool.{false}
@@ -7,13 +7,12 @@ use Rattle.std.proofs.Math.Dec.{ltb}
 use borrow.Author.Tests.{lt-ltb, le-ltb, leb-true, leb-false, eq-eqb, ne_eqb}
 use Rattle.search.specs.Promise.{Gives}
 use Rattle.search.specs.SearchLaws.{decide}
-use Rattle.common.specs.Entry.{flatten, over}
-use Rattle.common.specs.Refusals.{Outcome, given, refused, refuse}
-use Rattle.common.specs.Lists.{Wrote, filled_beside, barred, build_answer, count_answer}
+use Rattle.common.specs.Entry.{flatten}
+use Rattle.common.specs.Refusals.{Outcome, given, refused}
+use Rattle.common.specs.Lists.{Wrote, filled_answer, build_answer, count_answer}
 use Rattle.cells.specs.Reply.{fitted, Replied}
-use Rattle.cells.specs.Poured.{ListRuns, Poured, PouredBeside, BarredAs, BuiltAs, CountedAs}
+use Rattle.cells.specs.Poured.{ListRuns, Poured, PouredAs, BuiltAs, CountedAs}
 use Rattle.cells.specs.ByteRules.{RuleRuns, uneven, uneven_rules}
-use Rattle.cells.specs.BackLaws.{reply_served}
 use Rattle.cells.specs.ReplyLaws.{replied_unique, refused_by, reply_short, enough, too_short}
 
 -- two results for the same arguments are one
@@ -22,11 +21,7 @@ poured_unique a b =
     let e = replied_unique a.reply b.reply in
     (e.0, e.1, a.left ∙ sym b.left)
 
--- an entry that returns 0 has left the list's bytes over the front of the run
-pub poured_over : {o : Outcome} {l : List ℕ} {before after : ListRuns} → Poured o l before after 0 → after.list ≡ over l before.list
-poured_over {o} {l} {before} w = w.left ∙ rw (reply_served o before.answer (sym w.reply.number)).0
-
--- ---- the ways out of pouring: m is how many numbers the answer run has room for, y whether the list has room for all, `beside` what is told behind the count
+-- ---- the ways out of pouring: m is how many numbers the answer run has room for, y whether the list has room for all
 pub poured_off : (n : ℕ) (l : List ℕ) (lent : ListRuns) → eqb n 0 ≡ false → Poured (refused n) l lent lent n
 unfolding fitted
 poured_off n l lent e = record { reply = refused_by n lent.answer e; left = simp e }
@@ -35,77 +30,65 @@ poured_off n l lent e = record { reply = refused_by n lent.answer e; left = simp
 pub pour_room : {A : Type 0} (l : List A) (w : ℕ) (out : List ℕ) (y : Bool) → y ≡ true → Gives (leb (length l) (length out / w)) y → length l ≤ length out / w
 pour_room l w out y e f = leb-true (length l) (length out / w) (sym f.answer ∙ e)
 
-module _ {A : Type 0} (flat : A → List ℕ) (w : ℕ) (l : List A) (beside : List ℕ) (lent : ListRuns) where
+module _ {A : Type 0} (flat : A → List ℕ) (w : ℕ) (l : List A) (lent : ListRuns) where
   -- the answer run is too short: then it is 3, whatever the list's room
-  pub pour_short : (m : ℕ) → m ≤ suc (length beside) → Gives (length lent.answer / 4) m → PouredBeside flat w l beside lent lent 3
+  pub pour_short : (m : ℕ) → m ≤ 1 → Gives (length lent.answer / 4) m → PouredAs flat w l lent lent 3
   unfolding fitted
   pour_short m k room = by (decide (ltb (length lent.list / w) (length l)))
     where
-      by : (ltb (length lent.list / w) (length l) ≡ true) ⊎ (ltb (length lent.list / w) (length l) ≡ false) → PouredBeside flat w l beside lent lent 3
+      by : (ltb (length lent.list / w) (length l) ≡ true) ⊎ (ltb (length lent.list / w) (length l) ≡ false) → PouredAs flat w l lent lent 3
       by (inl u) = rw u (poured_off 3 (flatten flat l) lent refl)
-      by (inr u) = rw u (record { reply = reply_short (length l ∷ beside) lent.answer m room k; left = simp (too_short (length l ∷ beside) lent.answer m room k) })
+      by (inr u) = rw u (record { reply = reply_short (length l ∷ []) lent.answer m room k; left = simp (too_short (length l ∷ []) lent.answer m room k) })
 
   module _ (y : Bool) (f : Gives (leb (length l) (length lent.list / w)) y) where
-    pub pour_full : y ≡ false → PouredBeside flat w l beside lent lent 3
+    pub pour_full : y ≡ false → PouredAs flat w l lent lent 3
     pour_full e =
         let t : ltb (length lent.list / w) (length l) ≡ true = lt-ltb (length lent.list / w) (length l) (leb-false (length l) (length lent.list / w) (sym f.answer ∙ e)) in
         rw t (poured_off 3 (flatten flat l) lent refl)
 
-    pub pour_done : (after : ListRuns) (m k r : ℕ) → y ≡ true → suc (length beside) < m → Gives (length lent.answer / 4) m → Wrote flat l lent.list after.list k → Replied (given (k ∷ beside)) lent.answer after.answer r → PouredBeside flat w l beside lent after r
+    pub pour_done : (after : ListRuns) (m k r : ℕ) → y ≡ true → 1 < m → Gives (length lent.answer / 4) m → Wrote flat l lent.list after.list k → Replied (given (k ∷ [])) lent.answer after.answer r → PouredAs flat w l lent after r
     unfolding fitted
     pour_done after m k r e q n v d =
         let t : ltb (length lent.list / w) (length l) ≡ false = le-ltb (length lent.list / w) (length l) (pour_room l w lent.list y e f) in
-        let o : filled_beside w l beside lent.list ≡ given (k ∷ beside) = rw (t, v.count) in
-        subst (λ (x : Outcome). Poured x (flatten flat l) lent after r) (sym o) (record { reply = d; left = v.list ∙ simp (enough (k ∷ beside) lent.answer m n q) })
-
--- ---- the ways out past 1 and 6: b says whether a strict way is barred
-module _ {A : Type 0} (flat : A → List ℕ) (w : ℕ) (strict : Bool) (dropped : ℕ) (l : List A) (lent : ListRuns) (b : Bool) (g : Gives (barred strict dropped) b) where
-  pub bar_shut : b ≡ true → BarredAs flat w strict dropped l lent lent 11
-  bar_shut e =
-      let t : barred strict dropped ≡ true = sym g.answer ∙ e in
-      rw t (poured_off 11 (flatten flat l) lent refl)
-
-  pub bar_open : (after : ListRuns) (r : ℕ) → b ≡ false → PouredBeside flat w l (dropped ∷ []) lent after r → BarredAs flat w strict dropped l lent after r
-  bar_open after r e d =
-      let t : barred strict dropped ≡ false = sym g.answer ∙ e in
-      rw t d
+        let o : filled_answer w l lent.list ≡ given (k ∷ []) = rw (t, v.count) in
+        subst (λ (x : Outcome). Poured x (flatten flat l) lent after r) (sym o) (record { reply = d; left = v.list ∙ simp (enough (k ∷ []) lent.answer m n q) })
 
 -- ---- the ways out of building: b says whether a rule's columns differ
-module _ {A : Type 0} (flat : A → List ℕ) (w : ℕ) (strict bad : Bool) (dropped : ℕ) (l : List A) (s : List ℕ) (lent : ListRuns) where
-  off : (n : ℕ) → eqb n 0 ≡ false → build_answer w strict bad dropped l s lent.list ≡ refused n → BuiltAs flat w strict bad dropped l s lent lent n
+module _ {A : Type 0} (flat : A → List ℕ) (w : ℕ) (bad : Bool) (l : List A) (s : List ℕ) (lent : ListRuns) where
+  off : (n : ℕ) → eqb n 0 ≡ false → build_answer w bad l s lent.list ≡ refused n → BuiltAs flat w bad l s lent lent n
   off n e x = subst (λ (o : Outcome). Poured o (flatten flat l) lent lent n) (sym x) (poured_off n (flatten flat l) lent e)
 
-  pub build_long : 4294967295 < length s → BuiltAs flat w strict bad dropped l s lent lent 1
+  pub build_long : 4294967295 < length s → BuiltAs flat w bad l s lent lent 1
   unfolding build_answer
   build_long h = off 1 refl (simp (lt-ltb 4294967295 (length s) h))
 
-  pub build_bad : (b : Bool) → length s ≤ 4294967295 → b ≡ true → Gives bad b → BuiltAs flat w strict bad dropped l s lent lent 6
+  pub build_bad : (b : Bool) → length s ≤ 4294967295 → b ≡ true → Gives bad b → BuiltAs flat w bad l s lent lent 6
   unfolding build_answer
   build_bad b h e g = off 6 refl (simp (le-ltb 4294967295 (length s) h, sym g.answer ∙ e))
 
-  pub build_good : (b : Bool) (after : ListRuns) (r : ℕ) → length s ≤ 4294967295 → b ≡ false → Gives bad b → BarredAs flat w strict dropped l lent after r → BuiltAs flat w strict bad dropped l s lent after r
+  pub build_good : (b : Bool) (after : ListRuns) (r : ℕ) → length s ≤ 4294967295 → b ≡ false → Gives bad b → PouredAs flat w l lent after r → BuiltAs flat w bad l s lent after r
   unfolding build_answer
   build_good b after r h e g d =
-      let x : build_answer w strict bad dropped l s lent.list ≡ refuse 11 (barred strict dropped) (filled_beside w l (dropped ∷ []) lent.list) = simp (le-ltb 4294967295 (length s) h, sym g.answer ∙ e) in
+      let x : build_answer w bad l s lent.list ≡ filled_answer w l lent.list = simp (le-ltb 4294967295 (length s) h, sym g.answer ∙ e) in
       subst (λ (o : Outcome). Poured o (flatten flat l) lent after r) (sym x) d
 
 -- ---- the ways out of counting
-module _ {A : Type 0} (bad : Bool) (dropped : ℕ) (l : List A) (s run : List ℕ) where
-  not_counted : (n : ℕ) → eqb n 0 ≡ false → count_answer bad dropped l s ≡ refused n → CountedAs bad dropped l s run run n
+module _ {A : Type 0} (bad : Bool) (l : List A) (s run : List ℕ) where
+  not_counted : (n : ℕ) → eqb n 0 ≡ false → count_answer bad l s ≡ refused n → CountedAs bad l s run run n
   not_counted n e x = subst (λ (o : Outcome). Replied o run run n) (sym x) (refused_by n run e)
 
-  pub count_long : 4294967295 < length s → CountedAs bad dropped l s run run 1
+  pub count_long : 4294967295 < length s → CountedAs bad l s run run 1
   unfolding count_answer
   count_long h = not_counted 1 refl (simp (lt-ltb 4294967295 (length s) h))
 
-  pub count_bad : (b : Bool) → length s ≤ 4294967295 → b ≡ true → Gives bad b → CountedAs bad dropped l s run run 6
+  pub count_bad : (b : Bool) → length s ≤ 4294967295 → b ≡ true → Gives bad b → CountedAs bad l s run run 6
   unfolding count_answer
   count_bad b h e g = not_counted 6 refl (simp (le-ltb 4294967295 (length s) h, sym g.answer ∙ e))
 
-  pub count_good : (b : Bool) (run' : List ℕ) (r : ℕ) → length s ≤ 4294967295 → b ≡ false → Gives bad b → Replied (given (length l ∷ dropped ∷ [])) run run' r → CountedAs bad dropped l s run run' r
+  pub count_good : (b : Bool) (run' : List ℕ) (r : ℕ) → length s ≤ 4294967295 → b ≡ false → Gives bad b → Replied (given (length l ∷ [])) run run' r → CountedAs bad l s run run' r
   unfolding count_answer
   count_good b run' r h e g d =
-      let x : count_answer bad dropped l s ≡ given (length l ∷ dropped ∷ []) = simp (le-ltb 4294967295 (length s) h, sym g.answer ∙ e) in
+      let x : count_answer bad l s ≡ given (length l ∷ []) = simp (le-ltb 4294967295 (length s) h, sym g.answer ∙ e) in
       subst (λ (o : Outcome). Replied o run run' r) (sym x) d
 
 or_right : (a b : Bool) → b ≡ true → (a || b) ≡ true
@@ -113,19 +96,19 @@ or_right true b e = refl
 or_right false b e = e
 
 -- ---- by fence rules of two bytes each: b says whether an inline rule's columns are uneven
-module _ {A : Type 0} (flat : A → List ℕ) (w : ℕ) (strict : Bool) (c : RuleRuns) (dropped : ℕ) (l : List A) (s : List ℕ) (lent : ListRuns) where
-  bad_rules : length s ≤ 4294967295 → uneven_rules c ≡ true → BuiltAs flat w strict (uneven_rules c) dropped l s lent lent 6
-  bad_rules h e = build_bad flat w strict (uneven_rules c) dropped l s lent (uneven_rules c) h e (record { answer = refl })
+module _ {A : Type 0} (flat : A → List ℕ) (w : ℕ) (c : RuleRuns) (l : List A) (s : List ℕ) (lent : ListRuns) where
+  bad_rules : length s ≤ 4294967295 → uneven_rules c ≡ true → BuiltAs flat w (uneven_rules c) l s lent lent 6
+  bad_rules h e = build_bad flat w (uneven_rules c) l s lent (uneven_rules c) h e (record { answer = refl })
 
-  pub rules_odd : length s ≤ 4294967295 → (length c.fence_rules % 2 ≡ 0 → ⊥) → BuiltAs flat w strict (uneven_rules c) dropped l s lent lent 6
+  pub rules_odd : length s ≤ 4294967295 → (length c.fence_rules % 2 ≡ 0 → ⊥) → BuiltAs flat w (uneven_rules c) l s lent lent 6
   unfolding uneven_rules
   rules_odd h d = bad_rules h (rw (ne_eqb (length c.fence_rules % 2) 0 d))
 
-  pub rules_uneven : (b : Bool) → length s ≤ 4294967295 → b ≡ true → Gives (uneven c.inline) b → BuiltAs flat w strict (uneven_rules c) dropped l s lent lent 6
+  pub rules_uneven : (b : Bool) → length s ≤ 4294967295 → b ≡ true → Gives (uneven c.inline) b → BuiltAs flat w (uneven_rules c) l s lent lent 6
   unfolding uneven_rules
   rules_uneven b h e u = bad_rules h (or_right (not (eqb (length c.fence_rules % 2) 0)) (uneven c.inline) (sym u.answer ∙ e))
 
-  pub rules_built : (b : Bool) (after : ListRuns) (r : ℕ) → length s ≤ 4294967295 → length c.fence_rules % 2 ≡ 0 → b ≡ false → Gives (uneven c.inline) b → BarredAs flat w strict dropped l lent after r → BuiltAs flat w strict (uneven_rules c) dropped l s lent after r
+  pub rules_built : (b : Bool) (after : ListRuns) (r : ℕ) → length s ≤ 4294967295 → length c.fence_rules % 2 ≡ 0 → b ≡ false → Gives (uneven c.inline) b → PouredAs flat w l lent after r → BuiltAs flat w (uneven_rules c) l s lent after r
   unfolding uneven_rules
   rules_built b after r h e u x v =
-      build_good flat w strict (uneven_rules c) dropped l s lent (uneven_rules c) after r h (rw (eq-eqb (length c.fence_rules % 2) 0 e) (sym x.answer ∙ u)) (record { answer = refl }) v
+      build_good flat w (uneven_rules c) l s lent (uneven_rules c) after r h (rw (eq-eqb (length c.fence_rules % 2) 0 e) (sym x.answer ∙ u)) (record { answer = refl }) v

@@ -11,10 +11,9 @@ use Rattle.common.specs.Entry.{rows}
 use Rattle.common.specs.EntryLaws.{rows_at, length-rows}
 use Rattle.common.specs.declared.grammar.Grammar.{Grammar}
 use Rattle.lines.specs.Fences.{fence_table}
-use Rattle.rules.specs.Columns.{alphabet_of, left_out, gram_of}
+use Rattle.rules.specs.Columns.{alphabet_of, gram_of}
 use Rattle.rules.specs.Rows.{gram_by, Folded}
 use Rattle.rules.specs.RowLaws.{gram_same}
-use Rattle.rules.specs.LeftOutLaws.{alphabet_left}
 use Rattle.rules.specs.declared.search_bytes.Alphabet.{Alphabet}
 use Rattle.rules.specs.Records.{no_rule, OneMore, AllGathered}
 use Rattle.rules.specs.RecordLaws.{Gathering, gather_again, gather-all}
@@ -94,8 +93,3 @@ unfolding columns_in
 gram_folded g c a fences rules ha hf hr =
     let i = c.inline in
     gram_same c.fence_bytes i.sym_bytes (cells i.sym_counts) i.openers i.closers (cells i.open_counts) rules hr g c.fence_mins a fences ha hf
-
--- and as many bytes are left out as the columns leave
-pub left_folded : (g : Grammar) (c : ColumnRuns) (a : Alphabet) → Gives (alphabet_of g c.fence_bytes c.inline.sym_bytes c.inline.openers) a → a.left ≡ left_out (columns_in c)
-unfolding columns_in
-left_folded g c a ha = alphabet_left g (columns_in c) a ha

@@ -1,5 +1,6 @@
 // What an entry answers.
 ghost use Rattle.std.specs.Prelude.{◌++◌, ◌+◌, ◌*◌, ◌/◌, ◌≤◌, ltb, length};
+ghost use Rattle.common.specs.Sets.{as_flag};
 ghost use Rattle.search.specs.Promise.{Gives};
 ghost use Rattle.common.specs.Entry.{flatten};
 ghost use Rattle.common.specs.Refusals.{given, told, told_found};
@@ -66,6 +67,16 @@ pub fn put_numbers(out: &mut [u8], from: usize, all: &[usize])
         return;
     }
     lay_numbers(out, from, all);
+}
+
+// A flag as a number.
+pub fn flag(on: bool) -> usize
+    ensures { Gives (as_flag on) result }
+{
+    if on {
+        return 1;
+    }
+    0
 }
 
 // How many numbers a run of `len` bytes has room for.

@@ -2,13 +2,11 @@
 use Rattle.std.specs.Prelude.{◌≡◌, refl, Bool, true, false, not, List, [], ◌∷◌, ℕ, eqb, get_or}
 use Rattle.std.proofs.Common.{sym, ap, ◌∙◌, lt-ltb, le-ltb, eq-eqb, ne_eqb}
 use Rattle.search.specs.Promise.{Gives, gives_unique}
-use Rattle.common.specs.Refusals.{Outcome, given, refused, refuse, number_of, refusal_of, read, unless_none, told, told_made, told_found, span_back, told_span}
+use Rattle.common.specs.Refusals.{Outcome, given, refused, refuse, number_of, refusal_of, read, unless_none, told, told_found, span_back, told_span}
 use Rattle.common.specs.declared.refusal.Refusal.{Refusal}
-use Rattle.common.specs.declared.refusal.Refusal.TheVariants.{TextTooLong, PlaceOutside, NoRoom, CutsOutOfOrder, ListMisshapen, ColumnsDiffer, NotAtJoint, ReplacementOpen, LineEndMark, NotRecords, TriggersDropped}
+use Rattle.common.specs.declared.refusal.Refusal.TheVariants.{TextTooLong, PlaceOutside, NoRoom, CutsOutOfOrder, ListMisshapen, ColumnsDiffer, NotAtJoint, ReplacementOpen, LineEndMark, NotRecords}
 use Rattle.common.specs.declared.refusal.Answer.{Answer}
 use Rattle.common.specs.declared.refusal.Answer.TheVariants as answer
-use Rattle.common.specs.declared.refusal.Made.{Made}
-use Rattle.common.specs.declared.refusal.Made.TheVariants as made
 use Rattle.common.specs.declared.refusal.Found.{Found}
 use Rattle.common.specs.declared.refusal.Found.TheVariants as found
 use Rattle.common.specs.declared.span.SpanFound.{SpanFound}
@@ -46,7 +44,6 @@ number_is NotAtJoint = (refl, refl)
 number_is ReplacementOpen = (refl, refl)
 number_is LineEndMark = (refl, refl)
 number_is NotRecords = (refl, refl)
-number_is TriggersDropped = (refl, refl)
 
 pub number_some : (r : Refusal) → eqb (number_of r) 0 ≡ false
 number_some r = (number_is r).1
@@ -63,14 +60,6 @@ answer_back : (r : Answer) → read (λ l. answer.Value (get_or l 0 0)) answer.R
 unfolding read
 answer_back (answer.Value v) = refl
 answer_back (answer.Refused r) = read-refused (λ l. answer.Value (get_or l 0 0)) answer.Refused r
-
-made_of : List ℕ → Made
-made_of l = made.List (get_or l 0 0) (get_or l 1 0)
-
-made_back : (r : Made) → read made_of made.Refused (told_made r) ≡ r
-unfolding read made_of
-made_back (made.List n left) = refl
-made_back (made.Refused r) = read-refused made_of made.Refused r
 
 found_at : List ℕ → Found
 found_at = unless_none found.Nothing (λ l. found.At (get_or l 0 0))
@@ -92,9 +81,6 @@ span-back (spanned.Refused r) = read-refused span_at spanned.Refused r
 
 pub answer_unique : {o : Outcome} {r r' : Answer} → Gives o (told r) → Gives o (told r') → r ≡ r'
 answer_unique = told_unique told (read (λ l. answer.Value (get_or l 0 0)) answer.Refused) answer_back
-
-pub made_unique : {o : Outcome} {r r' : Made} → Gives o (told_made r) → Gives o (told_made r') → r ≡ r'
-made_unique = told_unique told_made (read made_of made.Refused) made_back
 
 pub found_unique : {o : Outcome} {r r' : Found} → Gives o (told_found r) → Gives o (told_found r') → r ≡ r'
 found_unique = told_unique told_found (read found_at found.Refused) found_back

@@ -1,12 +1,10 @@
 -- The numbers of refusals, and what an answer says: its number, 0 where the input is served, and its values. Assumes nothing.
--- The page: the table of refusals, and "A refusal returns its number alone"; document 02 has 10 (request 4) and 11 (request 5).
+-- The page: the table of refusals, and "A refusal returns its number alone".
 use Rattle.std.specs.Prelude.{Bool, true, false, not, cond, List, [], ◌∷◌, ℕ, eqb, ltb, length, get_or}
 use Rattle.common.specs.declared.refusal.Refusal.{Refusal}
-use Rattle.common.specs.declared.refusal.Refusal.TheVariants.{TextTooLong, PlaceOutside, NoRoom, CutsOutOfOrder, ListMisshapen, ColumnsDiffer, NotAtJoint, ReplacementOpen, LineEndMark, NotRecords, TriggersDropped}
+use Rattle.common.specs.declared.refusal.Refusal.TheVariants.{TextTooLong, PlaceOutside, NoRoom, CutsOutOfOrder, ListMisshapen, ColumnsDiffer, NotAtJoint, ReplacementOpen, LineEndMark, NotRecords}
 use Rattle.common.specs.declared.refusal.Answer.{Answer}
 use Rattle.common.specs.declared.refusal.Answer.TheVariants as answer
-use Rattle.common.specs.declared.refusal.Made.{Made}
-use Rattle.common.specs.declared.refusal.Made.TheVariants as made
 use Rattle.common.specs.declared.refusal.Found.{Found}
 use Rattle.common.specs.declared.refusal.Found.TheVariants as found
 use Rattle.common.specs.declared.span.Span.{Span}
@@ -25,7 +23,6 @@ number_of NotAtJoint = 7
 number_of ReplacementOpen = 8
 number_of LineEndMark = 9
 number_of NotRecords = 10
-number_of TriggersDropped = 11
 
 -- what the page says of an answer
 pub record Outcome : Type 0 where
@@ -56,11 +53,6 @@ abbrev pub told : Answer → Outcome
 told (answer.Value v) = given (v ∷ [])
 told (answer.Refused r) = refused (number_of r)
 
--- a list that was made: how many regions, and how many bytes were left out
-abbrev pub told_made : Made → Outcome
-told_made (made.List n left) = given (n ∷ left ∷ [])
-told_made (made.Refused r) = refused (number_of r)
-
 abbrev pub told_found : Found → Outcome
 told_found (found.At q) = given (q ∷ [])
 told_found found.Nothing = given []
@@ -82,7 +74,7 @@ told_span (spanned.Refused r) = refused (number_of r)
 -- the refusal of a number
 unfoldable pub refusal_of : ℕ → Refusal
 refusal_of n =
-    get_or (TextTooLong ∷ TextTooLong ∷ PlaceOutside ∷ NoRoom ∷ CutsOutOfOrder ∷ ListMisshapen ∷ ColumnsDiffer ∷ NotAtJoint ∷ ReplacementOpen ∷ LineEndMark ∷ NotRecords ∷ TriggersDropped ∷ []) n TriggersDropped
+    get_or (TextTooLong ∷ TextTooLong ∷ PlaceOutside ∷ NoRoom ∷ CutsOutOfOrder ∷ ListMisshapen ∷ ColumnsDiffer ∷ NotAtJoint ∷ ReplacementOpen ∷ LineEndMark ∷ NotRecords ∷ []) n NotRecords
 
 -- served by its values, or refused by its number
 unfoldable pub read : {A : Type 0} → (List ℕ → A) → (Refusal → A) → Outcome → A

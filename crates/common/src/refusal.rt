@@ -1,6 +1,5 @@
 // Refusals, and the answers that may be one.
 ghost use Rattle.search.specs.Promise.{Gives};
-ghost use Rattle.common.specs.Lists.{barred};
 ghost use Rattle.common.specs.Refusals.{number_of};
 
 // Why an input is not served, each by the page's number.
@@ -16,20 +15,12 @@ pub enum Refusal {
     ReplacementOpen,
     LineEndMark,
     NotRecords,
-    TriggersDropped,
 }
 
 // A number, or a refusal.
 #[derive(Drop)]
 pub enum Answer {
     Value(usize),
-    Refused(Refusal),
-}
-
-// How many regions a list has got, and how many bytes that open one were left out of the search; or a refusal.
-#[derive(Drop)]
-pub enum Made {
-    List(usize, usize),
     Refused(Refusal),
 }
 
@@ -57,17 +48,6 @@ impl Refusal {
             Refusal::ReplacementOpen => 8,
             Refusal::LineEndMark => 9,
             Refusal::NotRecords => 10,
-            Refusal::TriggersDropped => 11,
         }
     }
-}
-
-// Whether a strict way is barred: it serves no rules of which a byte was left out of the search.
-pub fn is_barred(strict: bool, left: usize) -> bool
-    ensures { Gives (barred strict left) result }
-{
-    if strict {
-        return left > 0;
-    }
-    false
 }

@@ -2,7 +2,7 @@
 ghost use Rattle.std.specs.Prelude.{false};
 ghost use Rattle.search.specs.Promise.{Gives};
 ghost use Rattle.common.specs.Rules.{entry};
-ghost use Rattle.common.specs.Sets.{Index, as_flag, set_of, class_of, class_set, probe};
+ghost use Rattle.common.specs.Sets.{Index, set_of, class_of, class_set, probe};
 
 use crate::classes::CLASSES;
 
@@ -11,16 +11,6 @@ pub fn index(b: u8) -> usize
     ensures { Index b result }
 {
     b as usize
-}
-
-// A flag as a number.
-pub fn flag(on: bool) -> usize
-    ensures { Gives (as_flag on) result }
-{
-    if on {
-        return 1;
-    }
-    0
 }
 
 // Whether a set accepts a byte.

@@ -2,18 +2,18 @@
 pub mod records; // fence rules as records
 
 ghost use Rattle.std.specs.Prelude.{[], ◌∷◌, ◌≤◌, length};
-ghost use Rattle.common.specs.Refusals.{told_made};
+ghost use Rattle.common.specs.Refusals.{told};
 ghost use Rattle.common.specs.Entry.{room, wide};
 ghost use Rattle.rules.specs.Rows.{gram_by};
 ghost use Rattle.region.specs.Region.{row_of};
 ghost use Rattle.region.specs.Regions.{regions};
-ghost use Rattle.common.specs.Lists.{RowPut, Wrote, FilledBeside};
+ghost use Rattle.common.specs.Lists.{RowPut, Wrote, Filled};
 ghost use Rattle.region.specs.Room.{RowFits};
 ghost use Rattle.context.specs.Build.{Built};
 
 use common::grammar::Grammar;
 use common::list::{END, WIDE};
-use common::refusal::{Made, Refusal, is_barred};
+use common::refusal::{Answer, Refusal};
 use common::span::MAX_INPUT_LEN;
 use lines::fence_tests::fence_table;
 use region::{Next, count_regions, next_region};
@@ -63,35 +63,26 @@ fn write_regions(
 
 // Writes the regions of a text within the limit, or refuses where there is too little room. Where the room is surely enough, since
 // there are at most half as many regions as bytes and one more, no counting pass runs.
-fn fill(src: &[u8], alphabet: Alphabet, fences: &[u16; 256], rows: &Rows, out: &mut [u32]) -> Made
+fn fill(src: &[u8], alphabet: Alphabet, fences: &[u16; 256], rows: &Rows, out: &mut [u32]) -> Answer
     requires { length src.now ≤ 4294967295 }
-    ensures { FilledBeside row_of wide (regions (gram_by alphabet fences.now rows.now) src.now)
-        (alphabet.left ∷ []) out.old out.new (told_made result) }
+    ensures { Filled row_of wide (regions (gram_by alphabet fences.now rows.now) src.now) out.old
+        out.new (told result) }
 {
     let most = out.len() / WIDE;
     if src.len() / 2 < most {
-        return Made::List(
-            write_regions(src, alphabet, fences, rows, out),
-            alphabet.left,
-        );
+        return Answer::Value(write_regions(src, alphabet, fences, rows, out));
     }
     let found = count_regions(src, alphabet, fences, rows);
     if most < found {
-        return Made::Refused(Refusal::NoRoom);
+        return Answer::Refused(Refusal::NoRoom);
     }
-    Made::List(
-        write_regions(src, alphabet, fences, rows, out),
-        alphabet.left,
-    )
+    Answer::Value(write_regions(src, alphabet, fences, rows, out))
 }
 
 // Builds the list of the opaque regions of a text by rules given as columns: fence bytes and minimums; symmetric bytes and counts;
-// asymmetric openers, closers and counts. Region k goes to places 2k and 2k + 1 of `out`, the answer is how many there are and how
-// many bytes that open one were left out of the search, and nothing beyond the regions is changed. Where it is strict, every byte is to be
-// searched for. A refusal (1 the text is too long, 6 columns differ, 11 a byte was left out and it is strict, 3 too little room) changes
-// nothing.
+// asymmetric openers, closers and counts. Region k goes to places 2k and 2k + 1 of `out`, the answer is how many there are, and
+// nothing beyond them is changed. A refusal (1 the text is too long, 6 columns differ, 3 too little room) changes nothing.
 pub fn build(
-    strict: bool,
     src: &[u8],
     g: Grammar,
     fences: &[u8],
@@ -102,8 +93,8 @@ pub fn build(
     closers: &[u8],
     counts: &[u32],
     out: &mut [u32],
-) -> Made
-    ensures { Built strict g (record {
+) -> Answer
+    ensures { Built g (record {
       fence_bytes = fences.now;
       fence_mins = mins.now;
       inline = record {
@@ -113,20 +104,15 @@ pub fn build(
         closers = closers.now;
         open_counts = counts.now;
       };
-    }) src.now out.old out.new (told_made result) }
+    }) src.now out.old out.new (told result) }
 {
-    let alphabet = Alphabet::of(g, fences, symmetric, openers);
-    let unequal = columns_differ(fences, mins, symmetric, times, openers, closers, counts);
-    let barred = is_barred(strict, alphabet.left);
     if src.len() > MAX_INPUT_LEN {
-        return Made::Refused(Refusal::TextTooLong);
+        return Answer::Refused(Refusal::TextTooLong);
     }
-    if unequal {
-        return Made::Refused(Refusal::ColumnsDiffer);
+    if columns_differ(fences, mins, symmetric, times, openers, closers, counts) {
+        return Answer::Refused(Refusal::ColumnsDiffer);
     }
-    if barred {
-        return Made::Refused(Refusal::TriggersDropped);
-    }
+    let alphabet = Alphabet::of(g, fences, symmetric, openers);
     let table = fence_table(fences, mins);
     let rows = rule_rows(fences, symmetric, times, openers, closers, counts);
     fill(src, alphabet, &table, &rows, out)

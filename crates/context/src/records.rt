@@ -1,18 +1,17 @@
 // Building by a lent run of fence rule records.
 ghost use Rattle.std.specs.Prelude.{take};
-ghost use Rattle.common.specs.Refusals.{told_made};
+ghost use Rattle.common.specs.Refusals.{told};
 ghost use Rattle.rules.specs.Records.{rule_bytes, rule_mins, kept_bytes, kept_mins};
 ghost use Rattle.context.specs.Build.{Built};
 
 use crate::build;
 use common::grammar::Grammar;
-use common::refusal::Made;
+use common::refusal::Answer;
 use rules::records::{FenceRule, Gathered, gather};
 use search::lesser;
 
 // Building by the first `used` fence rules of two columns, by all of a column where it is more.
 fn build_front(
-    strict: bool,
     src: &[u8],
     g: Grammar,
     fences: &[u8],
@@ -24,8 +23,8 @@ fn build_front(
     closers: &[u8],
     counts: &[u32],
     out: &mut [u32],
-) -> Made
-    ensures { Built strict g (record {
+) -> Answer
+    ensures { Built g (record {
       fence_bytes = take used fences.now;
       fence_mins = take used mins.now;
       inline = record {
@@ -35,12 +34,11 @@ fn build_front(
         closers = closers.now;
         open_counts = counts.now;
       };
-    }) src.now out.old out.new (told_made result) }
+    }) src.now out.old out.new (told result) }
 {
     let n = lesser(used, fences.len());
     let m = lesser(used, mins.len());
     build(
-        strict,
         src,
         g,
         &fences[0..n],
@@ -56,7 +54,6 @@ fn build_front(
 
 // Building by the columns of the rules that are kept.
 fn build_gathered(
-    strict: bool,
     src: &[u8],
     g: Grammar,
     fences: Gathered,
@@ -66,8 +63,8 @@ fn build_gathered(
     closers: &[u8],
     counts: &[u32],
     out: &mut [u32],
-) -> Made
-    ensures { Built strict g (record {
+) -> Answer
+    ensures { Built g (record {
       fence_bytes = kept_bytes fences;
       fence_mins = kept_mins fences;
       inline = record {
@@ -77,12 +74,11 @@ fn build_gathered(
         closers = closers.now;
         open_counts = counts.now;
       };
-    }) src.now out.old out.new (told_made result) }
+    }) src.now out.old out.new (told result) }
 {
     let bytes = fences.bytes;
     let mins = fences.mins;
     build_front(
-        strict,
         src,
         g,
         &bytes,
@@ -99,7 +95,6 @@ fn build_gathered(
 
 // Builds as `build` does on the columns of the rules' bytes and minimums, for every number of rules.
 pub fn build_records(
-    strict: bool,
     src: &[u8],
     g: Grammar,
     rules: &[FenceRule],
@@ -109,8 +104,8 @@ pub fn build_records(
     closers: &[u8],
     counts: &[u32],
     out: &mut [u32],
-) -> Made
-    ensures { Built strict g (record {
+) -> Answer
+    ensures { Built g (record {
       fence_bytes = rule_bytes rules.now;
       fence_mins = rule_mins rules.now;
       inline = record {
@@ -120,10 +115,9 @@ pub fn build_records(
         closers = closers.now;
         open_counts = counts.now;
       };
-    }) src.now out.old out.new (told_made result) }
+    }) src.now out.old out.new (told result) }
 {
     build_gathered(
-        strict,
         src,
         g,
         gather(rules),
@@ -138,7 +132,6 @@ pub fn build_records(
 
 // Building by the first `used` of sixteen records, by all of them where it is more: for callers that hold no run of records.
 pub fn build_few(
-    strict: bool,
     src: &[u8],
     g: Grammar,
     rules: [FenceRule; 16],
@@ -149,8 +142,8 @@ pub fn build_few(
     closers: &[u8],
     counts: &[u32],
     out: &mut [u32],
-) -> Made
-    ensures { Built strict g (record {
+) -> Answer
+    ensures { Built g (record {
       fence_bytes = rule_bytes (take used rules);
       fence_mins = rule_mins (take used rules);
       inline = record {
@@ -160,11 +153,10 @@ pub fn build_few(
         closers = closers.now;
         open_counts = counts.now;
       };
-    }) src.now out.old out.new (told_made result) }
+    }) src.now out.old out.new (told result) }
 {
     let n = lesser(used, 16);
     build_records(
-        strict,
         src,
         g,
         &rules[..n],

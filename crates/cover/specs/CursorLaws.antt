@@ -154,9 +154,9 @@ module _ (w : ℕ) (wide : 2 ≤ w) (l : List ℕ) (count from len : ℕ) (shape
     passed-within = first_le (ends_after w l place) index count low
 
     -- so do those that the query skips
-    passed-ended : (j : ℕ) → j < passed w l count index place → stop_at w l j ≤ place
+    passed_ended : (j : ℕ) → j < passed w l count index place → stop_at w l j ≤ place
     unfolding passed
-    passed-ended j h = by (decide (ltb j index))
+    passed_ended j h = by (decide (ltb j index))
       where
         by : (ltb j index ≡ true) ⊎ (ltb j index ≡ false) → stop_at w l j ≤ place
         by (inl u) = ended j (ltb-true j index u)
@@ -168,7 +168,7 @@ module _ (w : ℕ) (wide : 2 ≤ w) (l : List ℕ) (count from len : ℕ) (shape
 
     query_plain : end_at w l count (passed w l count index place) place ≡ coverage place (rows w count l)
     unfolding end_at
-    query_plain = by (decide (ltb m count)) ∙ sym (coverage-next place from len m (rows w count l) shape (omega (arith, passed-within, length-rows w count l)) (λ j h. omega (arith, row_stop j (omega (arith, passed-within)), passed-ended j h)) (λ h. let k : m < count = omega (arith, length-rows w count l) in omega (arith, row_stop m k, passed-at k)))
+    query_plain = by (decide (ltb m count)) ∙ sym (coverage-next place from len m (rows w count l) shape (omega (arith, passed-within, length-rows w count l)) (λ j h. omega (arith, row_stop j (omega (arith, passed-within)), passed_ended j h)) (λ h. let k : m < count = omega (arith, length-rows w count l) in omega (arith, row_stop m k, passed-at k)))
       where
         m : ℕ
         m = passed w l count index place
@@ -191,7 +191,7 @@ module _ (w : ℕ) (wide : 2 ≤ w) (l : List ℕ) (count from len : ℕ) (shape
     query_ended {index} {place} {i} e q =
         let n : i ≡ passed w l count index place = q.next ∙ simp (le-ltb (room w l) count fits) in (
           q.answer ∙ simp (le-ltb (room w l) count fits) (ap given (query_plain index place e.within e.before)),
-          rw n (record { within = passed-within index place e.within e.before; before = passed-ended index place e.within e.before }),
+          rw n (record { within = passed-within index place e.within e.before; before = passed_ended index place e.within e.before }),
         )
 
     run_plain : (index low : ℕ) (ps : List ℕ) → index ≤ count → ((j : ℕ) → j < index → stop_at w l j ≤ low) → Rising low ps → cover_run w l count index ps ≡ map (λ p. given (coverage p (rows w count l))) ps
@@ -200,7 +200,7 @@ module _ (w : ℕ) (wide : 2 ≤ w) (l : List ℕ) (count from len : ℕ) (shape
     run_plain index low (p ∷ ps) h ended up =
         let now : (j : ℕ) → j < index → stop_at w l j ≤ p = λ j k. omega (arith, ended j k, up.0) in
         rw (le-ltb (room w l) count fits, query_plain index p h now)
-        (ap (λ (z : List Outcome). given (coverage p (rows w count l)) ∷ z) (run_plain (passed w l count index p) p ps (passed-within index p h now) (passed-ended index p h now) up.1))
+        (ap (λ (z : List Outcome). given (coverage p (rows w count l)) ∷ z) (run_plain (passed w l count index p) p ps (passed-within index p h now) (passed_ended index p h now) up.1))
 
     -- "With a list as built, a fresh cursor and places that never fall, that is plain coverage."
     pub fresh_plain : (low : ℕ) (ps : List ℕ) → Rising low ps → cover_run w l count 0 ps ≡ map (λ p. given (coverage p (rows w count l))) ps

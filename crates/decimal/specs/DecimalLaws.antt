@@ -89,9 +89,9 @@ unfolding digits_of
 digits_long n = omega (arith, length-append (decimal n) (replicate (10 - length (decimal n)) 0))
 
 -- a number of 32 bits has ten at the most
-pub digits-ten : (n : ℕ) → n < 4294967296 → (digits_of n).count ≤ 10
+pub digits_ten : (n : ℕ) → n < 4294967296 → (digits_of n).count ≤ 10
 unfolding digits_of
-digits-ten n h = decimal-few 9 n (omega arith)
+digits_ten n h = decimal-few 9 n (omega arith)
 
 -- ---- what digits are worth
 -- digits behind others: the others come first

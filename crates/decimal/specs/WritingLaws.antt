@@ -9,11 +9,11 @@ use Rattle.std.specs.Int.{w32}
 use Rattle.std.proofs.Math.ListN.{length, replicate}
 use Rattle.search.specs.Promise.{Gives}
 use Rattle.decimal.specs.Decimal.{decimal, digits_of}
-use Rattle.decimal.specs.DecimalLaws.{decimal_small, decimal_size, digits-ten, by_tenths}
+use Rattle.decimal.specs.DecimalLaws.{decimal_small, decimal_size, digits_ten, by_tenths}
 
 ten : (x : ℕ) → Fits w32 x → length (decimal x) ≤ 10
 unfolding digits_of
-ten x b = digits-ten x (omega (arith, b.fits))
+ten x b = digits_ten x (omega (arith, b.fits))
 
 -- ---- the digits are counted
 -- the digits that are counted and those of what is left are all, and share one

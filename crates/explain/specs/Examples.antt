@@ -29,9 +29,9 @@ no_delimiter_lem : explain_answer list 2 text 3 ≡ given (4 ∷ [])
 unfolding is either one_of holds first_of first_place find line_start gather leading beyond digit valued_from misshapen starts_from line_at led_from led_by line_led hiders why explain_answer
 no_delimiter_lem = refl
 
-ten-digits : explain_answer list 2 text 4 ≡ given (3 ∷ [])
+ten_digits_lem : explain_answer list 2 text 4 ≡ given (3 ∷ [])
 unfolding is either one_of holds first_of first_place find line_start gather leading beyond digit valued_from misshapen starts_from line_at led_from led_by line_led hiders why explain_answer
-ten-digits = refl
+ten_digits_lem = refl
 
 no_blank_lem : explain_answer list 2 text 5 ≡ given (5 ∷ [])
 unfolding is either one_of holds first_of first_place find line_start gather leading beyond digit valued_from misshapen starts_from line_at led_from led_by line_led hiders why explain_answer

@@ -32,9 +32,9 @@ twelve_three t = fun_ext (λ x. four (of_three t x))
     four false = refl
 
 -- ---- what the tests tell
-pub twelve-told : (k : Twelve) (x : ℕ) (a b c d : Bool) → Gives (of_three k.first x) a → Gives (of_three k.second x) b → Gives (of_three k.third x) c → Gives (of_three k.fourth x) d → (((a || b) || c) || d) ≡ of_twelve k x
+pub twelve_told : (k : Twelve) (x : ℕ) (a b c d : Bool) → Gives (of_three k.first x) a → Gives (of_three k.second x) b → Gives (of_three k.third x) c → Gives (of_three k.fourth x) d → (((a || b) || c) || d) ≡ of_twelve k x
 unfolding of_twelve
-twelve-told k x a b c d ga gb gc gd = rw (ga.answer, gb.answer, gc.answer, gd.answer)
+twelve_told k x a b c d ga gb gc gd = rw (ga.answer, gb.answer, gc.answer, gd.answer)
 
 pub trio_told : (l : List ℕ) (k a b c : ℕ) → Gives (needle_at l k) a → Gives (needle_at l (k + 1)) b → Gives (needle_at l (k + 2)) c → record { a = a; b = b; c = c } ≡ trio_of l k
 trio_told l k a b c ga gb gc = rw (ga.answer, gb.answer, gc.answer)

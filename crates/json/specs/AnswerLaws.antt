@@ -35,8 +35,8 @@ module _ (w : ℕ) (out : List ℕ) where
       by (inr e) = rw e
 
   -- what 10 says: no list has the text as its file
-  pub read-ten : (s : List ℕ) → (read_answer w s out).number ≡ number_of NotRecords → (l : List Span) → File l s → ⊥
-  read-ten s e l f = other (not (list_shaped l)) (crowded w l out) (rw (← (read_file f)) e)
+  pub read_ten : (s : List ℕ) → (read_answer w s out).number ≡ number_of NotRecords → (l : List Span) → File l s → ⊥
+  read_ten s e l f = other (not (list_shaped l)) (crowded w l out) (rw (← (read_file f)) e)
     where
       other : (a b : Bool) → (refuse 5 a (refuse 3 b (given (length l ∷ [])))).number ≡ 10 → ⊥
       other true b h = omega arith
@@ -45,7 +45,7 @@ module _ (w : ℕ) (out : List ℕ) where
 
   -- and its place is as PlaceLaws has it
   pub ten_place : (s : List ℕ) → (read_answer w s out).number ≡ number_of NotRecords → read_answer w s out ≡ broken (broken_at outset s)
-  ten_place s e = read-other s (read-ten s e)
+  ten_place s e = read-other s (read_ten s e)
 
   -- the bytes before p begin a file and with the byte there they begin none: 10 with p
   pub read_stops : (s : List ℕ) (p : ℕ) → p < length s → BeginsFile (take p s) → (BeginsFile (take (suc p) s) → ⊥) → read_answer w s out ≡ broken p

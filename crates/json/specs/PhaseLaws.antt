@@ -136,8 +136,8 @@ module _ (h : Had) (w : Name) (n : ℕ) where
   pub ended_both : (m : ℕ) → h ≡ had.Start m → part.Both m n ≡ part_gained h w n
   ended_both m e = rw e refl
 
-  pub ended-other : (m : ℕ) → h ≡ had.End m → part.Both n m ≡ part_gained h w n
-  ended-other m e = rw e refl
+  pub ended_other : (m : ℕ) → h ≡ had.End m → part.Both n m ≡ part_gained h w n
+  ended_other m e = rw e refl
 
 module _ (q : Part) (x : ℕ) (m : Move) where
   pub after_start : (n : ℕ) → q ≡ part.Start n → Gives (await_move 44 (On (phase.Member (part.Start n))) (On (phase.Opened (had.Start n))) x) m → m ≡ part_move q x
@@ -233,7 +233,7 @@ pub ruleset value_rules = (value_white, value_digit, value_bad)
 
 pub ruleset grown_rules = (grown_zero, grown_over, grown_on)
 
-pub ruleset ended_rules = (ended_start, ended_end, ended_both, ended-other)
+pub ruleset ended_rules = (ended_start, ended_end, ended_both, ended_other)
 
 pub ruleset after_rules = (after_start, after_end, after_both)
 

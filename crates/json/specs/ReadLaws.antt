@@ -93,11 +93,11 @@ module _ (flat : Span → List ℕ) (w : ℕ) (s out : List ℕ) (r : Checked) w
 -- ---- the ways out of pouring a file's regions: n is how many there are
 module _ {A : Type 0} (flat : A → List ℕ) (w : ℕ) (l : List A) (lent : ListRuns) (n : ℕ) (c : n ≡ length l) where
   pub file_full : length lent.list / w < n → PouredAs flat w l lent lent 3
-  file_full h = pour_full flat w l [] lent (leb (length l) (length lent.list / w)) (record { answer = refl }) (lt-leb (length l) (length lent.list / w) (omega (arith, c)))
+  file_full h = pour_full flat w l lent (leb (length l) (length lent.list / w)) (record { answer = refl }) (lt-leb (length l) (length lent.list / w) (omega (arith, c)))
 
   pub file_poured : (after : ListRuns) (m k r : ℕ) → n ≤ length lent.list / w → 1 < m → Gives (length lent.answer / 4) m → Wrote flat l lent.list after.list k → Replied (given (k ∷ [])) lent.answer after.answer r → PouredAs flat w l lent after r
   file_poured after m k r h q room v d =
-      pour_done flat w l [] lent (leb (length l) (length lent.list / w)) (record { answer = refl }) after m k r (le-leb (length l) (length lent.list / w) (omega (arith, c))) q room v d
+      pour_done flat w l lent (leb (length l) (length lent.list / w)) (record { answer = refl }) after m k r (le-leb (length l) (length lent.list / w) (omega (arith, c))) q room v d
 
 -- ---- the ways out of reading into bytes
 module _ (s : List ℕ) (lent : ListRuns) (r : Checked) where

@@ -1,8 +1,8 @@
 -- By the list that building left, the listed sheet is the one that the rules give at once. Assumes nothing.
 -- The page: "The work sheet takes a text, the grammar bytes, the marker and delimiter sets and a list, but no rule columns."
-use Rattle.std.specs.Prelude.{◌≡◌, Bool, ℕ, drop}
-use Rattle.std.proofs.Math.Path.{refl, sym, ap, subst}
-use Rattle.std.proofs.Common.{◌∙◌, arith}
+use Rattle.std.specs.Prelude.{◌≡◌, ℕ, drop}
+use Rattle.std.proofs.Math.Path.{refl, sym, ap}
+use Rattle.std.proofs.Common.{subst, ◌∙◌, arith}
 use Rattle.std.proofs.Math.Bool.{false}
 use mathlib.Core.List.{List, map}
 use Rattle.std.proofs.Math.ListN.{length, length-append}
@@ -13,7 +13,7 @@ use Rattle.common.specs.Lists.{filled_answer}
 use Rattle.common.specs.Sets.{set_of}
 use Rattle.common.specs.declared.grammar.Grammar.{Grammar}
 use Rattle.cover.specs.Shape.{misshapen}
-use Rattle.rules.specs.Columns.{left_out, gram_of}
+use Rattle.rules.specs.Columns.{gram_of}
 use Rattle.region.specs.Region.{row_of}
 use Rattle.region.specs.Regions.{built_by}
 use Rattle.region.specs.Ahead.{regions-shaped}
@@ -23,52 +23,46 @@ use Rattle.sheet.specs.Sheet.{sheet_of, sheet_answer}
 use Rattle.sheet.specs.SheetLaws.{judged_on}
 use Rattle.cells.specs.Bytes.{cells}
 use Rattle.cells.specs.ByteRules.{ColumnRuns, columns_in, uneven_columns}
-use Rattle.cells.specs.Poured.{ListRuns, PouredAs}
-use Rattle.cells.specs.PouredLaws.{poured_over}
+use Rattle.cells.specs.Poured.{ListRuns}
+use Rattle.cells.specs.PouredLaws.{build_good}
 use Rattle.pour.specs.Building.{BuiltBytes}
-use Rattle.pour.specs.BackLaws.{built-back, built-passed}
-use Rattle.sheeting.specs.Sheeting.{item_bytes, sheet_with, SheetBytes}
+use Rattle.pour.specs.BackLaws.{built_back, built_passed}
+use Rattle.sheeting.specs.Sheeting.{item_bytes, sheet_with, SheetPoured, SheetBytes}
 use Rattle.sheeting.specs.SheetingLaws.{region_rows}
 use Rattle.listed.specs.Listed.{listed_items, ListedSheet}
 
--- building, strict or not, returned 0 and left `built`
-module _ (strict : Bool) (g : Grammar) (c : ColumnRuns) (s : List ℕ) (before built : ListRuns) (w : BuiltBytes strict g c s before built 0) where
-  list-built : cells built.list ≡ over (flatten row_of (built_by g (columns_in c) s)) (cells before.list)
-  list-built = built-back (gram_of g (columns_in c)) strict (uneven_columns c) (left_out (columns_in c)) s before built w
+-- building returned 0 and left `built`
+module _ (g : Grammar) (c : ColumnRuns) (s : List ℕ) (before built : ListRuns) (w : BuiltBytes g c s before built 0) where
+  list_built : cells built.list ≡ over (flatten row_of (built_by g (columns_in c) s)) (cells before.list)
+  list_built = built_back (gram_of g (columns_in c)) (uneven_columns c) s before built w
 
-  rows-built : rows wide (length (built_by g (columns_in c) s)) (cells built.list) ≡ map row_of (built_by g (columns_in c) s)
-  rows-built =
+  rows_built : rows wide (length (built_by g (columns_in c) s)) (cells built.list) ≡ map row_of (built_by g (columns_in c) s)
+  rows_built =
       let R = built_by g (columns_in c) s in
-      ap (rows wide (length R)) list-built ∙ rows-flatten row_of wide row-wide R (drop (length (flatten row_of R)) (cells before.list))
+      ap (rows wide (length R)) list_built ∙ rows-flatten row_of wide row-wide R (drop (length (flatten row_of R)) (cells before.list))
 
   -- its list is accepted
   pub shape_built : misshapen (cells built.list) (length (built_by g (columns_in c) s)) (length s) ≡ false
   unfolding misshapen
   shape_built =
       let R = built_by g (columns_in c) s in
-      let long = ap length list-built ∙ length-append (flatten row_of R) (drop (length (flatten row_of R)) (cells before.list)) in
+      let long = ap length list_built ∙ length-append (flatten row_of R) (drop (length (flatten row_of R)) (cells before.list)) in
       let fits : overfull wide (cells built.list) (length R) ≡ false = le-ltb (room wide (cells built.list)) (length R) (omega (arith, long, length-flatten row_of wide row-wide R)) in
-      rw (fits, rows-built, holds-shaped 0 (length s) (map row_of R) (regions-shaped (gram_of g (columns_in c)) s))
+      rw (fits, rows_built, holds-shaped 0 (length s) (map row_of R) (regions-shaped (gram_of g (columns_in c)) s))
 
   module _ (markers delims : List ℕ) where
     -- by it the items are those that the rules leave
-    pub items-built : listed_items g markers delims built.list (length (built_by g (columns_in c) s)) s ≡ sheet_with g (set_of markers) (set_of delims) (built_by g (columns_in c) s) s
+    pub items_built : listed_items g markers delims built.list (length (built_by g (columns_in c) s)) s ≡ sheet_with g (set_of markers) (set_of delims) (built_by g (columns_in c) s) s
     unfolding sheet_of
-    items-built = rw (rows-built, region_rows (built_by g (columns_in c) s))
+    items_built = rw (rows_built, region_rows (built_by g (columns_in c) s))
 
-    -- what the entry by a list pours is the sheet of the entry by rules. It tells the count alone: no list says how many bytes were left out
-    pub sheet-built : (lent after : ListRuns) (r : ℕ) → ListedSheet g markers delims built.list (length (built_by g (columns_in c) s)) s lent after r
-        → PouredAs item_bytes 20 (sheet_with g (set_of markers) (set_of delims) (built_by g (columns_in c) s) s) lent after r
+    -- and what the entry by a list does is what the entry by rules promises
+    pub sheet_built : (lent after : ListRuns) (r : ℕ) → ListedSheet g markers delims built.list (length (built_by g (columns_in c) s)) s lent after r → SheetBytes g c markers delims s lent after r
     unfolding sheet_answer
-    sheet-built lent after r v =
+    sheet_built lent after r v =
         let R = built_by g (columns_in c) s in
-        let p = built-passed R strict (uneven_columns c) (left_out (columns_in c)) s before built w in
+        let p = built_passed R (uneven_columns c) s before built w in
         let items = listed_items g markers delims built.list (length R) s in
         let on = judged_on (cells built.list) (length R) s (filled_answer 20 items lent.list) p.0 false refl (record { answer = sym shape_built }) in
-        subst (λ (x : List SheetItem). PouredAs item_bytes 20 x lent after r) items-built (rw on at v)
-
-    -- so both entries, where they return 0, leave the same list
-    pub sheet_agrees : (lent after lent' after' : ListRuns) → lent.list ≡ lent'.list → ListedSheet g markers delims built.list (length (built_by g (columns_in c) s)) s lent after 0
-        → SheetBytes g c markers delims s lent' after' 0 → after.list ≡ after'.list
-    sheet_agrees lent after lent' after' e v u =
-        poured_over (sheet-built lent after 0 v) ∙ ap (over (flatten item_bytes (sheet_with g (set_of markers) (set_of delims) (built_by g (columns_in c) s) s))) e ∙ sym (poured_over u)
+        build_good item_bytes 20 (uneven_columns c) (sheet_with g (set_of markers) (set_of delims) R s) s lent (uneven_columns c) after r p.0 p.1 (record { answer = refl })
+        (subst (λ (x : List SheetItem). SheetPoured x lent after r) items_built (rw on at v))

@@ -18,9 +18,9 @@ use Rattle.sheet.specs.SheetLaws.{started_left, judged_long, judged-misshapen, j
 use Rattle.cells.specs.Bytes.{cells}
 use Rattle.cells.specs.Reply.{Replied}
 use Rattle.cells.specs.ReplyLaws.{replied_unique, refused_by}
-use Rattle.cells.specs.Poured.{ListRuns, PouredAs}
+use Rattle.cells.specs.Poured.{ListRuns}
 use Rattle.cells.specs.PouredLaws.{poured_unique, poured_off, pour_full, pour_done}
-use Rattle.sheeting.specs.Sheeting.{item_bytes}
+use Rattle.sheeting.specs.Sheeting.{item_bytes, SheetPoured}
 use Rattle.listed.specs.Listed.{listed_items, ListedSheet, ListedCount}
 
 -- ---- two results for the same arguments are one
@@ -38,13 +38,13 @@ module _ (g : Grammar) (markers delims : List Bool) (l : List ℕ) (n : ℕ) (s 
   all_left = started_left g markers delims l n s a short d
 
   module _ (lent : ListRuns) (y : Bool) (f : Gives (leb (length (left markers delims s (rows wide n l) a)) (length lent.list / 20)) y) where
-    pub fill_full : y ≡ false → PouredAs item_bytes 20 (sheet_of g markers delims l n s) lent lent 3
-    fill_full e = subst (λ (x : List SheetItem). PouredAs item_bytes 20 x lent lent 3) all_left (pour_full item_bytes 20 (left markers delims s (rows wide n l) a) [] lent y f e)
+    pub fill_full : y ≡ false → SheetPoured (sheet_of g markers delims l n s) lent lent 3
+    fill_full e = subst (λ (x : List SheetItem). SheetPoured x lent lent 3) all_left (pour_full item_bytes 20 (left markers delims s (rows wide n l) a) lent y f e)
 
     pub fill_done : (after : ListRuns) (m k r : ℕ) → y ≡ true → 1 < m → Gives (length lent.answer / 4) m → Wrote item_bytes (left markers delims s (rows wide n l) a) lent.list after.list k
-        → Replied (given (k ∷ [])) lent.answer after.answer r → PouredAs item_bytes 20 (sheet_of g markers delims l n s) lent after r
+        → Replied (given (k ∷ [])) lent.answer after.answer r → SheetPoured (sheet_of g markers delims l n s) lent after r
     fill_done after m k r e q h v w =
-        subst (λ (x : List SheetItem). PouredAs item_bytes 20 x lent after r) all_left (pour_done item_bytes 20 (left markers delims s (rows wide n l) a) [] lent y f after m k r e q h v w)
+        subst (λ (x : List SheetItem). SheetPoured x lent after r) all_left (pour_done item_bytes 20 (left markers delims s (rows wide n l) a) lent y f after m k r e q h v w)
 
   pub count_told : (run run' : List ℕ) (k r : ℕ) → Gives (length (left markers delims s (rows wide n l) a)) k → Replied (given (k ∷ [])) run run' r → Replied (given (length (sheet_of g markers delims l n s) ∷ [])) run run' r
   count_told run run' k r c w = subst (λ (x : ℕ). Replied (given (x ∷ [])) run run' r) (c.answer ∙ ap length all_left) w
@@ -104,9 +104,9 @@ module _ (g : Grammar) (mb db l : List ℕ) (n : ℕ) (s : List ℕ) (k : ℕ) w
     same-items : sheet_of g markers delims (cells l) n s ≡ listed_items g mb db l n s
     same-items = ap (λ (x : List Bool). sheet_of g x delims (cells l) n s) hm.answer ∙ ap (λ (x : List Bool). sheet_of g (set_of mb) x (cells l) n s) hd.answer
 
-    pub sheet-filled : (lent after : ListRuns) → PouredAs item_bytes 20 (sheet_of g markers delims (cells l) n s) lent after r → ListedSheet g mb db l n s lent after r
+    pub sheet-filled : (lent after : ListRuns) → SheetPoured (sheet_of g markers delims (cells l) n s) lent after r → ListedSheet g mb db l n s lent after r
     unfolding sheet_answer
-    sheet-filled lent after v = rw (judge_goes (cells l) n s k z j _) (subst (λ (x : List SheetItem). PouredAs item_bytes 20 x lent after r) same-items v)
+    sheet-filled lent after v = rw (judge_goes (cells l) n s k z j _) (subst (λ (x : List SheetItem). SheetPoured x lent after r) same-items v)
 
     pub count_replied : (run run' : List ℕ) → Replied (given (length (sheet_of g markers delims (cells l) n s) ∷ [])) run run' r → ListedCount g mb db l n s run run' r
     count_replied run run' v = rw (judge_goes (cells l) n s k z j _) (subst (λ (x : List SheetItem). Replied (given (length x ∷ [])) run run' r) same-items v)

@@ -12,8 +12,7 @@ ghost use Rattle.sheet.specs.Sheet.{sheet_of, sheet_judged};
 ghost use Rattle.sheet.specs.Parts.{SortedRows, Hid, left, Ready, TurnedBy};
 ghost use Rattle.cells.specs.Bytes.{cells};
 ghost use Rattle.cells.specs.Reply.{Replied};
-ghost use Rattle.cells.specs.Poured.{PouredAs};
-ghost use Rattle.sheeting.specs.Sheeting.{item_bytes};
+ghost use Rattle.sheeting.specs.Sheeting.{item_bytes, SheetPoured};
 ghost use Rattle.listed.specs.Listed.{ListedSheet, ListedCount};
 
 use byte_list::{covering_end, is_misshapen};
@@ -189,7 +188,7 @@ fn fill(
 ) -> u32
     requires text_len_bound { length text.now ≤ 4294967295 }
     requires text_value { misshapen (cells list.now) count (length text.now) ≡ false }
-    ensures { PouredAs item_bytes 20 (sheet_of g markers.now delims.now (cells list.entry.now) count text.now)
+    ensures { SheetPoured (sheet_of g markers.now delims.now (cells list.entry.now) count text.now)
         (record { list = out.old; answer = answer.old })
         (record { list = out.new; answer = answer.new }) result }
 {

@@ -10,17 +10,14 @@ use Rattle.common.specs.Grammars.{house}
 use Rattle.common.specs.Entry.{flatten, rows, over, wide}
 use Rattle.common.specs.Lists.{build_answer}
 use Rattle.common.specs.EntryLaws.{length-flatten, rows-flatten, holds-shaped}
-use Rattle.common.specs.Refusals.{Outcome, given, refused, number_of, told, told_made}
+use Rattle.common.specs.Refusals.{Outcome, given, refused, number_of, told}
 use Rattle.common.specs.RefusalLaws.{number_some}
 use Rattle.common.specs.declared.grammar.Grammar.{Grammar}
 use Rattle.common.specs.declared.refusal.Answer.{Answer}
 use Rattle.common.specs.declared.refusal.Answer.TheVariants.{Value, Refused}
-use Rattle.common.specs.declared.refusal.Made.{Made}
-use Rattle.common.specs.declared.refusal.Made.TheVariants as made
 use Rattle.common.specs.declared.refusal.Refusal.{Refusal}
 use Rattle.region.specs.Region.{row_of}
 use Rattle.region.specs.Regions as region
-use Rattle.rules.specs.Columns.{left_out}
 use Rattle.context.specs.Build.{built_answer, built_list, Built}
 use Rattle.region.specs.Ahead.{regions-few, regions-shaped}
 use Rattle.cover.specs.Shape.{misshapen}
@@ -33,8 +30,8 @@ use Rattle.listing.specs.Listing.{house_rules, house_gram, house_regions, house_
 use Rattle.listing.specs.Held.{RegionsIn, ItemsIn}
 
 -- an answer that says given is no refusal, and its value is the given one
-value_is : (n : ℕ) (more l : List ℕ) → given (n ∷ more) ≡ given l → get_or l 0 0 ≡ n
-value_is n more l e = sym (ap (λ (o : Outcome). get_or o.values 0 0) e)
+value_is : (n : ℕ) (l : List ℕ) → given (n ∷ []) ≡ given l → get_or l 0 0 ≡ n
+value_is n l e = sym (ap (λ (o : Outcome). get_or o.values 0 0) e)
 
 never : {A : Type 0} (x : Refusal) (l : List ℕ) → refused (number_of x) ≡ given l → A
 never x l e = absurd (clash (eq-eqb (number_of x) 0 (ap (λ (o : Outcome). o.number) e)) (number_some x))
@@ -48,26 +45,26 @@ pub few-regions : (s : List ℕ) → length s ≤ 8192 → length (house_regions
 unfolding house_regions
 few-regions s h = omega (arith, regions-few (house_gram) s)
 
-module _ (s list list' : List ℕ) (g : Grammar) (a : Made) (e : Gives house g) (h : length s ≤ 8192) (size : length list ≡ wide * 4097) (w : Built false g house_rules s list list' (told_made a)) where
-  built-is : (told_made a ≡ given (length (house_regions s) ∷ left_out house_rules ∷ [])) × (list' ≡ over (flatten row_of (house_regions s)) list)
+module _ (s list list' : List ℕ) (g : Grammar) (a : Answer) (e : Gives house g) (h : length s ≤ 8192) (size : length list ≡ wide * 4097) (w : Built g house_rules s list list' (told a)) where
+  built_is : (told a ≡ given (length (house_regions s) ∷ [])) × (list' ≡ over (flatten row_of (house_regions s)) list)
   unfolding built_answer build_answer built_list house_regions
-  built-is =
+  built_is =
       let short = le-ltb 4294967295 (length s) (omega arith) in
       let roomy = le-ltb (length list / wide) (length (region.regions (house_gram) s)) (omega (arith, few-regions s h)) in
       (w.answer ∙ rw (e.answer, short, roomy), w.list ∙ rw (e.answer, short, roomy))
 
-  pub regions_found : (n left : ℕ) → a ≡ made.List n left → RegionsIn s list' n
-  regions_found n left v =
-      let b = built-is in
-      let z : length (house_regions s) ≡ n = value_is n (left ∷ []) (length (house_regions s) ∷ left_out house_rules ∷ []) (ap told_made (sym v) ∙ b.0) in
+  pub regions_found : (n : ℕ) → a ≡ Value n → RegionsIn s list' n
+  regions_found n v =
+      let b = built_is in
+      let z : length (house_regions s) ≡ n = value_is n (length (house_regions s) ∷ []) (ap told (sym v) ∙ b.0) in
       record {
         same = rw (b.1, ← z) (rows-flatten row_of wide (λ r. refl) (house_regions s) (drop (length (flatten row_of (house_regions s))) list));
         few = omega (arith, few-regions s h);
         long = ap length b.1 ∙ over-length (flatten row_of (house_regions s)) list (omega (arith, few-regions s h, length-flatten row_of wide (λ r. refl) (house_regions s))) ∙ size;
       }
 
-  pub regions-refused : (x : Refusal) (n : ℕ) → a ≡ made.Refused x → RegionsIn s list' n
-  regions-refused x n v = never x (length (house_regions s) ∷ left_out house_rules ∷ []) (ap told_made (sym v) ∙ built-is.0)
+  pub regions-refused : (x : Refusal) (n : ℕ) → a ≡ Refused x → RegionsIn s list' n
+  regions-refused x n v = never x (length (house_regions s) ∷ []) (ap told (sym v) ∙ built_is.0)
 
 -- ---- the list of a text's regions is in order
 module _ {s list : List ℕ} {n : ℕ} (w : RegionsIn s list n) where
@@ -101,7 +98,7 @@ module _ (s list items items' : List ℕ) (markers delims : List Bool) (count : 
   pub items_found : (n : ℕ) → a ≡ Value n → ItemsIn s items' n
   items_found n v =
       let b = sheeted_is in
-      let z : length (house_sheet s) ≡ n = value_is n [] (length (house_sheet s) ∷ []) (ap told (sym v) ∙ b.0) in
+      let z : length (house_sheet s) ≡ n = value_is n (length (house_sheet s) ∷ []) (ap told (sym v) ∙ b.0) in
       record {
         same = rw (b.1, ← z) (rows-flatten five 5 five-numbers (house_sheet s) (drop (length (flatten five (house_sheet s))) items));
         few = omega (arith, few-shown s);

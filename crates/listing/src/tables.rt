@@ -11,7 +11,7 @@ ghost use Rattle.common.specs.Entry.{wide};
 use crate::put_line::{put_four, put_three, put_two};
 use common::grammar::Grammar;
 use common::list::{END, WIDE};
-use common::refusal::{Answer, Made};
+use common::refusal::Answer;
 use context::build;
 use sheet::sheet;
 
@@ -33,7 +33,6 @@ pub(crate) fn find_regions(text: &[u8], list: &mut [u32; REGION_ROOM]) -> usize
     let closers = [Grammar::CLOSER];
     let once = [Grammar::PAIR_COUNT];
     match build(
-        false,
         text,
         Grammar::house(),
         &fences,
@@ -45,8 +44,8 @@ pub(crate) fn find_regions(text: &[u8], list: &mut [u32; REGION_ROOM]) -> usize
         &once,
         list,
     ) {
-        Made::List(n, _) => n,
-        Made::Refused(_) => 0, // never: there is room, and no column is longer than its others
+        Answer::Value(n) => n,
+        Answer::Refused(_) => 0, // never: there is room, and no column is longer than its others
     }
 }
 

@@ -1,4 +1,3 @@
 pub mod Page
 pub mod Marked
 pub mod Requests
-pub mod Dropped

@@ -8,7 +8,7 @@ use Rattle.lines.specs.Paragraph.{ends_at, paragraph_end, next_in}
 use Rattle.common.specs.Turn.{scan, collect, gather}
 use Rattle.common.specs.Turning.{Each}
 use Rattle.region.specs.Regions.{shut_place, odd_before, sym_turn, asym_turn, inline, region_turn, regions_from, regions}
-use Rattle.rules.specs.Columns.{searched, how_many, left_out, open_rule, sym_rule}
+use Rattle.rules.specs.Columns.{searched, open_rule, sym_rule}
 use Rattle.fence.specs.Fence.{begins, opens, closes, close_end, next_fence, fences}
 use Rattle.common.specs.Items.{leading, beyond, item_at, items_of}
 use Rattle.decimal.specs.Decimal.{valued_from}
@@ -22,5 +22,5 @@ use Rattle.listing.specs.Listing.{house_regions}
 use Rattle.marked.specs.Page.{Says, page}
 
 pub marked : Each Says page
-unfolding is either one_of other holds first_of first_place find back line_start opens_line closes_to closing shuts reader ends_at paragraph_end next_in scan collect shut_place odd_before sym_turn asym_turn inline region_turn regions_from regions house_regions searched how_many left_out open_rule sym_rule begins opens closes close_end next_fence fences leading beyond item_at items_of digit valued_from number_line mark_at after_mark marks_from line_marks open_start ending frames gather reaches keep_before keep_from joint regions_in amended_regions misshapen off_joint left_open judged_edit judged settled_answer amend_answer amended_answer
+unfolding is either one_of other holds first_of first_place find back line_start opens_line closes_to closing shuts reader ends_at paragraph_end next_in scan collect shut_place odd_before sym_turn asym_turn inline region_turn regions_from regions house_regions searched open_rule sym_rule begins opens closes close_end next_fence fences leading beyond item_at items_of digit valued_from number_line mark_at after_mark marks_from line_marks open_start ending frames gather reaches keep_before keep_from joint regions_in amended_regions misshapen off_joint left_open judged_edit judged settled_answer amend_answer amended_answer
 marked = (refl, (refl, (refl, (refl, (refl, (refl, (refl, (refl, (refl, (refl, (refl, (refl, (refl, (refl, (refl, (refl, (refl, (refl, (record { answer = refl; list = refl }, (record { answer = refl; list = refl }, (record { answer = refl; list = refl }, (record { answer = refl; list = refl }, (refl, (record { answer = refl; list = refl }, tt))))))))))))))))))))))))

@@ -1,6 +1,6 @@
 -- The marked examples as rows of one table, and what a row says. Assumes nothing.
 -- The page: the section "Marked examples".
-use Rattle.std.specs.Prelude.{◌≡◌, false, List, [], ◌∷◌, ℕ}
+use Rattle.std.specs.Prelude.{◌≡◌, List, [], ◌∷◌, ℕ}
 use Rattle.common.specs.Entry.{flatten, room, over, wide}
 use Rattle.common.specs.Grammars.{house, house_numbers}
 use Rattle.common.specs.Refusals.{given, refused, span_values}
@@ -13,7 +13,7 @@ use Rattle.region.specs.Region.{row_of}
 
 -- a text with the list of its regions; with its fences of a byte, start and end each; with its numbered items, start, end, delimiter and
 -- number each; with its frames to a depth, start and end each; with two cuts, a replacement and the list that amending its own list
--- leaves, with no byte left out, or the refusal
+-- leaves, or the refusal
 pub data Row : Type 0 where
   listed : List ℕ → List ℕ → Row
   has_fences : ℕ → List ℕ → List ℕ → Row
@@ -36,8 +36,8 @@ Says (listed s l) = own s ≡ l
 Says (has_fences byte s l) = flatten span_values (fences (house_fence byte) s) ≡ l
 Says (has_numbers s l) = flatten values (numbers house_numbers s) ≡ l
 Says (framed nest s l) = flatten span_values (frames (house_framing nest) s) ≡ l
-Says (mended s a b r l) = Amended false house house_rules s (own s) (room wide (own s)) (edit a b r) zeros (over l zeros) (given (room wide l ∷ 0 ∷ []))
-Says (refusing s a b r n) = Amended false house house_rules s (own s) (room wide (own s)) (edit a b r) zeros zeros (refused n)
+Says (mended s a b r l) = Amended house house_rules s (own s) (room wide (own s)) (edit a b r) zeros (over l zeros) (given (room wide l ∷ []))
+Says (refusing s a b r n) = Amended house house_rules s (own s) (room wide (own s)) (edit a b r) zeros zeros (refused n)
 
 -- the texts of P11 (`a`, an empty line, ~~~, b, ~~~, an empty line, <c>) and of P12 (~~~, an empty line, ~~~)
 abbrev pub eleventh : List ℕ

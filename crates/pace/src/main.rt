@@ -1,7 +1,7 @@
 // Builds a note of 1,000,000 bytes afresh, or amends its list by 100 bytes, as often as standard input says, and prints how many regions
 // the edited note has. `tools/pace` times both. The input is `b` or `a`, a blank and a number.
 use common::grammar::Grammar;
-use common::refusal::Made;
+use common::refusal::Answer;
 use libc::{STDIN_FILENO, STDOUT_FILENO};
 
 const NOTE: usize = 1000000;
@@ -101,16 +101,15 @@ fn put(note: &mut [u8], i: usize, byte: u8) {
     }
 }
 
-fn count_of(made: Made) -> usize {
-    match made {
-        Made::List(n, _) => n,
-        Made::Refused(_) => 0,
+fn value(a: Answer) -> usize {
+    match a {
+        Answer::Value(n) => n,
+        Answer::Refused(_) => 0,
     }
 }
 
 fn build(note: &[u8], list: &mut [u32]) -> usize {
-    count_of(context::build(
-        false,
+    value(context::build(
         note,
         Grammar::house(),
         b"`~",
@@ -150,8 +149,7 @@ fn amend_often(note: &[u8], list: &mut [u32], times: u32) -> usize {
 }
 
 fn amend(note: &[u8], list: &[u32], held: usize, own: &[u8], out: &mut [u32]) -> usize {
-    count_of(amend::amend(
-        false,
+    value(amend::amend(
         note,
         list,
         held,

@@ -31,7 +31,7 @@ use Rattle.cells.specs.Bytes.{four, cells, fourfold, within, readable}
 use Rattle.cells.specs.ByteLaws.{length-four}
 use Rattle.cells.specs.BackLaws.{Narrow, cells-four, reply_served}
 use Rattle.cells.specs.CellLaws.{within-at}
-use Rattle.panel.specs.State.{StateMade, StateRuns, Stepper, step_answer, Stepped, fence_limits, fence_cells, fence_from, item_limits, item_cells, item_fields, item_show, item_read, marker_cells, marker_from, numbered_cells, numbered_from}
+use Rattle.panel.specs.State.{Made, StateRuns, Stepper, step_answer, Stepped, fence_limits, fence_cells, fence_from, item_limits, item_cells, item_fields, item_show, item_read, marker_cells, marker_from, numbered_cells, numbered_from}
 use Rattle.panel.specs.Back.{Small, Held, Holds}
 
 -- ---- cells within limits
@@ -88,7 +88,7 @@ module _ {G : Type 0} (from : List ℕ → G) (show : G → List ℕ) (limits : 
     held_back = record { bytes = refl; readable = readable-back limits (show g) small w.fits; reads = ap from (cells-back limits (show g) small w.fits) ∙ w.same }
 
     -- what `new` wrote
-    pub made_back : (run run' : List ℕ) → StateMade (show g) run run' 0 → Holds from show limits run' g
+    pub made_back : (run run' : List ℕ) → Made (show g) run run' 0 → Holds from show limits run' g
     made_back run run' d = subst (λ (x : List ℕ). Holds from show limits x g) (sym (d.left ∙ by (decide (fourfold run (show g))))) held_back
       where
         by : (fourfold run (show g) ≡ true) ⊎ (fourfold run (show g) ≡ false) → cond (fourfold run (show g)) (flatten four (show g)) run ≡ flatten four (show g)

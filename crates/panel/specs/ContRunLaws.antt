@@ -11,7 +11,7 @@ use Rattle.cont.specs.Cont as cont
 use Rattle.cont.specs.Frames as frames
 use Rattle.cont.specs.Steps.{Served}
 use Rattle.cont.specs.Run.{run_said}
-use Rattle.panel.specs.State.{StateMade, Stepped}
+use Rattle.panel.specs.State.{Made, Stepped}
 use Rattle.panel.specs.ContState.{cont_limits, cont_cells, cont_from, cont_stepper}
 use Rattle.panel.specs.Back.{values_in}
 use Rattle.panel.specs.BackLaws.{made_back}
@@ -46,7 +46,7 @@ module _ (byte eol sep tab nest : ℕ) (s run : List ℕ) (short : length s ≤ 
   cont_on g p = subst (Good s) (sym (state-is g s p.1)) (cont_steps g s p.0 p.1).0
 
   -- a state run that `new` wrote, stepped by an entry that keeps its promise, gives the frames of the text
-  pub cont_run : byte ≤ 255 → eol ≤ 255 → sep ≤ 255 → tab ≤ 255 → (first state : List ℕ) → StateMade (cont_cells (cont.fresh byte eol sep tab nest)) first state 0
+  pub cont_run : byte ≤ 255 → eol ≤ 255 → sep ≤ 255 → tab ≤ 255 → (first state : List ℕ) → Made (cont_cells (cont.fresh byte eol sep tab nest)) first state 0
       → (after reply : List ℕ → List ℕ) (number : List ℕ → ℕ) → ((state : List ℕ) → Stepped cont_stepper s (record { state = state; answer = run }) (record { state = after state; answer = reply state }) (number state))
       → (n : ℕ) → length (frames.frames (cont.framing_of (cont.fresh byte eol sep tab nest)) s) ≤ n → drain (λ r. step_for span_back (values_in (reply r)) (after r)) n state ≡ frames.frames (cont.framing_of (cont.fresh byte eol sep tab nest)) s
   cont_run a b c d first state made after reply number keeps n enough =

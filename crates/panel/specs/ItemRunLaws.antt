@@ -20,7 +20,7 @@ use Rattle.block_marker.specs.MarkerRun.{lawful as marker-lawful, turn_heads as 
 use Rattle.block_numbered.specs.Numbered as numbered
 use Rattle.block_numbered.specs.NumberedLaws.{Delimits}
 use Rattle.block_numbered.specs.NumberedRun.{lawful as numbered-lawful, turn_heads as numbered-heads, fresh-items as numbered-items}
-use Rattle.panel.specs.State.{StateMade, Stepped, item_limits, item_show, item_read, item_stepper, marker_cells, marker_from, marker_stepper, numbered_cells, numbered_from, numbered_stepper}
+use Rattle.panel.specs.State.{Made, Stepped, item_limits, item_show, item_read, item_stepper, marker_cells, marker_from, marker_stepper, numbered_cells, numbered_from, numbered_stepper}
 use Rattle.panel.specs.Back.{Holds, Byte, ByteRun, values_in}
 use Rattle.common.specs.EachLaws.{each_get_or}
 use Rattle.panel.specs.BackLaws.{ItemHeld, made_back, item_small, item-fresh, item-next}
@@ -70,7 +70,7 @@ module _ (s : List ℕ) (text : ByteRun s) where
 
   -- a state run that `new` wrote, stepped by an entry that keeps its promise, gives the marker items of the text's lines
   pub marker_run : (eol sep tab : ℕ) (bytes run₀ : List ℕ) → eol ≤ 255 → sep ≤ 255 → tab ≤ 255 → length s ≤ 4294967295 → 16 ≤ length run₀ → (length (accepted (set_of bytes)) ≤ 3 → Apart (grammar eol sep tab (has (set_of bytes))))
-      → (first state : List ℕ) → StateMade (marker_cells (marker.fresh eol sep tab (set_of bytes))) first state 0
+      → (first state : List ℕ) → Made (marker_cells (marker.fresh eol sep tab (set_of bytes))) first state 0
       → (after reply : List ℕ → List ℕ) (number : List ℕ → ℕ) → ((state : List ℕ) → Stepped (marker_stepper (set_of bytes)) s (record { state = state; answer = run₀ }) (record { state = after state; answer = reply state }) (number state))
       → (n : ℕ) → drain (λ r. step_for (marker.scanner).back (values_in (reply r)) (after r)) n state ≡ take n (marker.markers (grammar eol sep tab (has (set_of bytes))) s)
   marker_run eol sep tab bytes run₀ a b c short room apart first state made after reply number keeps n =
@@ -83,7 +83,7 @@ module _ (s : List ℕ) (text : ByteRun s) where
 
   -- a state run that `new` wrote, stepped by an entry that keeps its promise, gives the numbered items of the text's lines
   pub numbered_run : (eol sep tab : ℕ) (bytes run₀ : List ℕ) → eol ≤ 255 → sep ≤ 255 → tab ≤ 255 → length s ≤ 4294967295 → 20 ≤ length run₀ → (length (accepted (set_of bytes)) ≤ 3 → numbered.DigitsApart (grammar eol sep tab (has (set_of bytes))))
-      → numbered.NoDigit (grammar eol sep tab (has (set_of bytes))) → (first state : List ℕ) → StateMade (numbered_cells (numbered.fresh eol sep tab (set_of bytes))) first state 0
+      → numbered.NoDigit (grammar eol sep tab (has (set_of bytes))) → (first state : List ℕ) → Made (numbered_cells (numbered.fresh eol sep tab (set_of bytes))) first state 0
       → (after reply : List ℕ → List ℕ) (number : List ℕ → ℕ) → ((state : List ℕ) → Stepped (numbered_stepper (set_of bytes)) s (record { state = state; answer = run₀ }) (record { state = after state; answer = reply state }) (number state))
       → (n : ℕ) → drain (λ r. step_for (numbered.scanner).back (values_in (reply r)) (after r)) n state ≡ take n (numbered.numbers (grammar eol sep tab (has (set_of bytes))) s)
   numbered_run eol sep tab bytes run₀ a b c short room apart none first state made after reply number keeps n =

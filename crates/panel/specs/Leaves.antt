@@ -4,8 +4,8 @@ use Rattle.std.specs.Prelude.{List, ◌∷◌, ℕ}
 use Rattle.common.specs.Refusals.{Outcome, given}
 use Rattle.common.specs.Sets.{set_of, probe, as_flag}
 use Rattle.common.specs.declared.sets.Probe.{Probe}
-use Rattle.rules.specs.Columns.{collected_of}
-use Rattle.rules.specs.declared.search_bytes.Collected.{Collected}
+use Rattle.rules.specs.Columns.{search_bytes}
+use Rattle.rules.specs.declared.search_bytes.SearchBytes.{SearchBytes}
 
 -- a probe's values: the flag, the count, and the needles
 abbrev pub probe_values : Probe → List ℕ
@@ -15,11 +15,10 @@ probe_values p = as_flag p.streaming ∷ p.nn ∷ p.needles
 unfoldable pub probe_answer : List ℕ → Outcome
 probe_answer accepted = given (probe_values (probe (set_of accepted)))
 
--- what collecting gives: how many bytes are kept, how many were left out, and the eleven cells
-abbrev pub search_values : Collected → List ℕ
-search_values w = w.searched.count ∷ w.left ∷ w.searched.bytes
+-- search bytes' values: how many, and the eleven cells
+abbrev pub search_values : SearchBytes → List ℕ
+search_values w = w.count ∷ w.bytes
 
--- "fence bytes, symmetric bytes, asymmetric openers, in that order, without repeats, the first eleven kept" and "how many distinct bytes were left
--- out"
+-- "fence bytes, symmetric bytes, asymmetric openers, in that order, without repeats, the first eleven kept"
 unfoldable pub search_answer : List ℕ → List ℕ → List ℕ → Outcome
-search_answer fences symmetric openers = given (search_values (collected_of fences symmetric openers))
+search_answer fences symmetric openers = given (search_values (search_bytes fences symmetric openers))

@@ -21,7 +21,7 @@ use Rattle.fence.specs.Run.{kept_step, run_from}
 use Rattle.cells.specs.Bytes.{cells, readable}
 use Rattle.cells.specs.BackLaws.{Narrow, reply_back}
 use Rattle.cells.specs.Reply.{fitted, written, Replied}
-use Rattle.panel.specs.State.{StateMade, StateRuns, Stepper, step_answer, Stepped, fence_limits, fence_cells, fence_from, fence_stepper}
+use Rattle.panel.specs.State.{Made, StateRuns, Stepper, step_answer, Stepped, fence_limits, fence_cells, fence_from, fence_stepper}
 use Rattle.panel.specs.Back.{Small, Held, Holds, Few, values_in}
 use Rattle.common.specs.EachLaws.{each_get_or}
 use Rattle.panel.specs.BackLaws.{FenceHeld, made_back, stepped-back, place_inside, fence_small, fence_fresh, fence_next}
@@ -114,7 +114,7 @@ module _ (byte min eol sep tab : ℕ) (s run : List ℕ) (short : length s ≤ 4
   fence_on g p = (fence_next g s p.0, rw (le-ltb 4294967295 (length s) short, le-ltb (length s) g.pos p.1) (place_inside (turn_adv g s) g.pos p.1))
 
   -- a state run that `new` wrote, stepped by an entry that keeps its promise, gives the fences of the text
-  pub fence_run : byte ≤ 255 → min ≤ 255 → eol ≤ 255 → sep ≤ 255 → tab ≤ 255 → (first state : List ℕ) → StateMade (fence_cells (fence.fresh byte min eol sep tab)) first state 0
+  pub fence_run : byte ≤ 255 → min ≤ 255 → eol ≤ 255 → sep ≤ 255 → tab ≤ 255 → (first state : List ℕ) → Made (fence_cells (fence.fresh byte min eol sep tab)) first state 0
       → (after reply : List ℕ → List ℕ) (number : List ℕ → ℕ) → ((state : List ℕ) → Stepped fence_stepper s (record { state = state; answer = run }) (record { state = after state; answer = reply state }) (number state))
       → (n : ℕ) → length (fence.fences (fence.fresh byte min eol sep tab) s) ≤ n → drain (λ r. step_for span_back (values_in (reply r)) (after r)) n state ≡ fence.fences (fence.fresh byte min eol sep tab) s
   unfolding FenceIn fence.fences

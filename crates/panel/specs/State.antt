@@ -17,7 +17,7 @@ use Rattle.cells.specs.Bytes.{four, cells, fourfold, readable}
 use Rattle.cells.specs.Reply.{fitted, Replied}
 
 -- ---- `new`: it writes the cells of a fresh state
-pub record StateMade (next run run' : List ℕ) (r : ℕ) : Type 0 where
+pub record Made (next run run' : List ℕ) (r : ℕ) : Type 0 where
   pub number : r ≡ cond (fourfold run next) 0 2
   pub left : run' ≡ cond (fourfold run next) (flatten four next) run
 

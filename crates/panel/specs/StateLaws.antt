@@ -17,14 +17,14 @@ use Rattle.block_numbered.specs.declared.BlockNumberedIter.{BlockNumberedIter}
 use Rattle.block_numbered.specs.Numbered as numbered
 use Rattle.cells.specs.Bytes.{four, cells, fourfold, readable}
 use Rattle.cells.specs.Reply.{LaidIf, fitted, Replied}
-use Rattle.panel.specs.State.{StateMade, StateRuns, Moved, Stepper, step_answer, Stepped, fence_limits, fence_from, item_limits, marker_cells, marker_from, numbered_cells, numbered_from, item_cells, item_fields, item_read}
+use Rattle.panel.specs.State.{Made, StateRuns, Moved, Stepper, step_answer, Stepped, fence_limits, fence_from, item_limits, marker_cells, marker_from, numbered_cells, numbered_from, item_cells, item_fields, item_read}
 use Rattle.cells.specs.ByteLaws.{length-four}
 use Rattle.cells.specs.ReplyLaws.{replied_unique, laid_there, too_short, enough, reply_short, refused_by}
 use Rattle.cells.specs.CellLaws.{readable_long, byte_field}
 
 -- two results for the same arguments are one
-pub state_made_unique : {next run run' run'' : List ℕ} {r r' : ℕ} → StateMade next run run' r → StateMade next run run'' r' → (r ≡ r') × (run' ≡ run'')
-state_made_unique a b = (a.number ∙ sym b.number, a.left ∙ sym b.left)
+pub made_unique : {next run run' run'' : List ℕ} {r r' : ℕ} → Made next run run' r → Made next run run'' r' → (r ≡ r') × (run' ≡ run'')
+made_unique a b = (a.number ∙ sym b.number, a.left ∙ sym b.left)
 
 pub moved_unique : {o : Outcome} {next : List ℕ} {before after after' : StateRuns} {r r' : ℕ} → Moved o next before after r → Moved o next before after' r' → (r ≡ r') × (after.answer ≡ after'.answer) × (after.state ≡ after'.state)
 moved_unique a b =
@@ -39,24 +39,24 @@ whole next run run' h d =
 
 -- ---- `new`
 module _ (next run run' : List ℕ) where
-  pub made_not : (length run ≡ length next * 4 → ⊥) → StateMade next run run 2
+  pub made_not : (length run ≡ length next * 4 → ⊥) → Made next run run 2
   made_not h = record { number = simp (ne_eqb (length run) (length next * 4) h); left = simp (ne_eqb (length run) (length next * 4) h) }
 
-  pub made_whole : length run ≡ length next * 4 → LaidIf 0 (flatten four next) run run' → StateMade next run run' 0
+  pub made_whole : length run ≡ length next * 4 → LaidIf 0 (flatten four next) run run' → Made next run run' 0
   made_whole h d =
       let t : fourfold run next ≡ true = eq-eqb (length run) (length next * 4) h in
       record { number = simp t; left = whole next run run' (sym h) d ∙ simp t }
 
 module _ {G : Type 0} (show : G → List ℕ) where
-  pub made_as : (x g : G) (next run run' : List ℕ) (n : ℕ) → Gives x g → Gives (show g) next → StateMade next run run' n → StateMade (show x) run run' n
-  made_as x g next run run' n a b d = subst (λ (l : List ℕ). StateMade l run run' n) (b.answer ∙ ap show a.answer) d
+  pub made_as : (x g : G) (next run run' : List ℕ) (n : ℕ) → Gives x g → Gives (show g) next → Made next run run' n → Made (show x) run run' n
+  made_as x g next run run' n a b d = subst (λ (l : List ℕ). Made l run run' n) (b.answer ∙ ap show a.answer) d
 
-pub made_marker : (eol sep tab : ℕ) (accepted : List ℕ) (set : List Bool) (g : BlockMarkerIter) (next run run' : List ℕ) (n : ℕ) → Gives (set_of accepted) set → Gives (marker.fresh eol sep tab set) g → Gives (marker_cells g) next → StateMade next run run' n
-    → StateMade (marker_cells (marker.fresh eol sep tab (set_of accepted))) run run' n
+pub made_marker : (eol sep tab : ℕ) (accepted : List ℕ) (set : List Bool) (g : BlockMarkerIter) (next run run' : List ℕ) (n : ℕ) → Gives (set_of accepted) set → Gives (marker.fresh eol sep tab set) g → Gives (marker_cells g) next → Made next run run' n
+    → Made (marker_cells (marker.fresh eol sep tab (set_of accepted))) run run' n
 made_marker eol sep tab accepted set g next run run' n s a b d = made_as marker_cells (marker.fresh eol sep tab (set_of accepted)) g next run run' n (record { answer = a.answer ∙ ap (marker.fresh eol sep tab) s.answer }) b d
 
-pub made_numbered : (eol sep tab : ℕ) (accepted : List ℕ) (set : List Bool) (g : BlockNumberedIter) (next run run' : List ℕ) (n : ℕ) → Gives (set_of accepted) set → Gives (numbered.fresh eol sep tab set) g → Gives (numbered_cells g) next → StateMade next run run' n
-    → StateMade (numbered_cells (numbered.fresh eol sep tab (set_of accepted))) run run' n
+pub made_numbered : (eol sep tab : ℕ) (accepted : List ℕ) (set : List Bool) (g : BlockNumberedIter) (next run run' : List ℕ) (n : ℕ) → Gives (set_of accepted) set → Gives (numbered.fresh eol sep tab set) g → Gives (numbered_cells g) next → Made next run run' n
+    → Made (numbered_cells (numbered.fresh eol sep tab (set_of accepted))) run run' n
 made_numbered eol sep tab accepted set g next run run' n s a b d = made_as numbered_cells (numbered.fresh eol sep tab (set_of accepted)) g next run run' n (record { answer = a.answer ∙ ap (numbered.fresh eol sep tab) s.answer }) b d
 
 -- ---- a step's values and next state

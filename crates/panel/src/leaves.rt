@@ -5,7 +5,7 @@ ghost use Rattle.cells.specs.Reply.{Replied};
 ghost use Rattle.panel.specs.Leaves.{probe_answer, search_answer};
 
 use cells::reply;
-use common::sets::{byte_set, flag, probe_matcher};
+use common::sets::{byte_set, probe_matcher};
 use rules::search_bytes::search_bytes;
 
 // The first line end at or after a place, else the text's length.
@@ -52,11 +52,11 @@ pub extern "C" fn rack_probe_matcher(accepted: &[u8], answer: &mut [u8]) -> u32
     let set = byte_set(accepted);
     let probe = probe_matcher(&set);
     let needles = probe.needles;
-    let head = [flag(probe.streaming), probe.nn];
+    let head = [reply::flag(probe.streaming), probe.nn];
     reply::mixed(&head, &needles, answer)
 }
 
-// The bytes that a builder searches for: how many are kept, how many others were left out, and the eleven cells.
+// The bytes that a builder searches for: how many, and the eleven cells.
 #[unsafe(no_mangle)]
 pub extern "C" fn rack_search_bytes(
     fences: &[u8],
@@ -68,8 +68,7 @@ pub extern "C" fn rack_search_bytes(
         answer.new result }
 {
     let all = search_bytes(fences, symmetric, openers);
-    let searched = all.searched;
-    let bytes = searched.bytes;
-    let head = [searched.count, all.left];
+    let bytes = all.bytes;
+    let head = [all.count];
     reply::mixed(&head, &bytes, answer)
 }

@@ -1,5 +1,4 @@
 // Lists in bytes: regions by their rules, and the work sheet; each written, or counted.
-ghost use Rattle.std.specs.Prelude.{true, false};
 ghost use Rattle.pour.specs.Building.{BuiltBytes, BuiltRules, CountedBytes};
 ghost use Rattle.listed.specs.Listed.{ListedSheet, ListedCount};
 ghost use Rattle.sheeting.specs.Sheeting.{SheetBytes, SheetCounted};
@@ -9,8 +8,7 @@ use pour::building::{build_columns, build_rules};
 use sheeting::sheet_columns;
 
 // Building by rules given as columns: fence bytes and minimums; symmetric bytes and counts; asymmetric openers, closers and counts. A
-// count column has four bytes for each byte of its byte column. The answer is how many regions there are, and how many bytes that open one
-// were left out of the search.
+// count column has four bytes for each byte of its byte column.
 #[unsafe(no_mangle)]
 pub extern "C" fn rack_build(
     text: &[u8],
@@ -28,7 +26,7 @@ pub extern "C" fn rack_build(
     out: &mut [u8],
     answer: &mut [u8],
 ) -> u32
-    ensures { BuiltBytes false (record { eol = eol; escape = escape; sep = sep; tab = tab })
+    ensures { BuiltBytes (record { eol = eol; escape = escape; sep = sep; tab = tab })
         (record {
           fence_bytes = fences.now;
           fence_mins = mins.now;
@@ -44,51 +42,12 @@ pub extern "C" fn rack_build(
         (record { list = out.new; answer = answer.new }) result }
 {
     build_columns(
-        false, text, eol, escape, sep, tab, fences, mins, symmetric, times, openers, closers,
-        counts, out, answer,
+        text, eol, escape, sep, tab, fences, mins, symmetric, times, openers, closers, counts, out,
+        answer,
     )
 }
 
-// The same where every byte is to be searched for: 11 where one was left out, after 6 and before 3.
-#[unsafe(no_mangle)]
-pub extern "C" fn rack_build_strict(
-    text: &[u8],
-    eol: u8,
-    escape: u8,
-    sep: u8,
-    tab: u8,
-    fences: &[u8],
-    mins: &[u8],
-    symmetric: &[u8],
-    times: &[u8],
-    openers: &[u8],
-    closers: &[u8],
-    counts: &[u8],
-    out: &mut [u8],
-    answer: &mut [u8],
-) -> u32
-    ensures { BuiltBytes true (record { eol = eol; escape = escape; sep = sep; tab = tab })
-        (record {
-          fence_bytes = fences.now;
-          fence_mins = mins.now;
-          inline = record {
-            sym_bytes = symmetric.now;
-            sym_counts = times.now;
-            openers = openers.now;
-            closers = closers.now;
-            open_counts = counts.now;
-          };
-        })
-        text.now (record { list = out.old; answer = answer.old })
-        (record { list = out.new; answer = answer.new }) result }
-{
-    build_columns(
-        true, text, eol, escape, sep, tab, fences, mins, symmetric, times, openers, closers,
-        counts, out, answer,
-    )
-}
-
-// How many regions building by these columns would write, the room that a list needs; and how many bytes were left out.
+// How many regions building by these columns would write: the room that a list needs.
 #[unsafe(no_mangle)]
 pub extern "C" fn rack_build_count(
     text: &[u8],
@@ -143,7 +102,7 @@ pub extern "C" fn rack_build_rules(
     out: &mut [u8],
     answer: &mut [u8],
 ) -> u32
-    ensures { BuiltRules false (record { eol = eol; escape = escape; sep = sep; tab = tab })
+    ensures { BuiltRules (record { eol = eol; escape = escape; sep = sep; tab = tab })
         (record {
           fence_rules = rules.now;
           inline = record {
@@ -158,52 +117,13 @@ pub extern "C" fn rack_build_rules(
         (record { list = out.new; answer = answer.new }) result }
 {
     build_rules(
-        false, text, eol, escape, sep, tab, rules, symmetric, times, openers, closers, counts, out,
-        answer,
-    )
-}
-
-// The same where every byte is to be searched for: 11 where one was left out, after 6 and before 3.
-#[unsafe(no_mangle)]
-pub extern "C" fn rack_build_rules_strict(
-    text: &[u8],
-    eol: u8,
-    escape: u8,
-    sep: u8,
-    tab: u8,
-    rules: &[u8],
-    symmetric: &[u8],
-    times: &[u8],
-    openers: &[u8],
-    closers: &[u8],
-    counts: &[u8],
-    out: &mut [u8],
-    answer: &mut [u8],
-) -> u32
-    ensures { BuiltRules true (record { eol = eol; escape = escape; sep = sep; tab = tab })
-        (record {
-          fence_rules = rules.now;
-          inline = record {
-            sym_bytes = symmetric.now;
-            sym_counts = times.now;
-            openers = openers.now;
-            closers = closers.now;
-            open_counts = counts.now;
-          };
-        })
-        text.now (record { list = out.old; answer = answer.old })
-        (record { list = out.new; answer = answer.new }) result }
-{
-    build_rules(
-        true, text, eol, escape, sep, tab, rules, symmetric, times, openers, closers, counts, out,
-        answer,
+        text, eol, escape, sep, tab, rules, symmetric, times, openers, closers, counts, out, answer,
     )
 }
 
 // The work sheet of a text by rules given as columns, as building takes them, and by the accepted marker and delimiter bytes: the items
 // whose marker or delimiter is in none of the regions that building finds. Item k goes to bytes 20k to 20k + 19 of `out`, and the answer is how
-// many there are, and how many bytes that open a region were left out. A refusal (1 the text is too long, 6 columns differ, 3 too little room)
-// changes nothing.
+// many there are. A refusal (1 the text is too long, 6 columns differ, 3 too little room) changes nothing.
 #[unsafe(no_mangle)]
 pub extern "C" fn rack_sheet(
     text: &[u8],
@@ -245,7 +165,7 @@ pub extern "C" fn rack_sheet(
     )
 }
 
-// How many items that work sheet would have, and how many bytes were left out.
+// How many items that work sheet would have.
 #[unsafe(no_mangle)]
 pub extern "C" fn rack_sheet_count(
     text: &[u8],

@@ -6,7 +6,7 @@ ghost use Rattle.block_marker.specs.Marker.{fresh as freshMarker};
 ghost use Rattle.block_numbered.specs.Numbered.{fresh as freshNumbered};
 ghost use Rattle.cont.specs.Cont.{fresh as freshCont};
 ghost use Rattle.panel.specs.ContState.{cont_cells, cont_stepper};
-ghost use Rattle.panel.specs.State.{StateMade, Stepped, fence_cells, fence_stepper, marker_cells, marker_stepper, numbered_cells, numbered_stepper};
+ghost use Rattle.panel.specs.State.{Made, Stepped, fence_cells, fence_stepper, marker_cells, marker_stepper, numbered_cells, numbered_stepper};
 
 use crate::{cont_state, states};
 use block_marker::BlockMarkerIter;
@@ -27,7 +27,7 @@ pub extern "C" fn rack_fence_new(
     tab: u8,
     state: &mut [u8],
 ) -> u32
-    ensures { StateMade (fence_cells (freshFence byte min eol sep tab)) state.old state.new result }
+    ensures { Made (fence_cells (freshFence byte min eol sep tab)) state.old state.new result }
 {
     let all = states::fence_cells(FenceIter::new(byte, min, eol, sep, tab));
     states::made(&all, state)
@@ -63,7 +63,7 @@ pub extern "C" fn rack_marker_new(
     accepted: &[u8],
     state: &mut [u8],
 ) -> u32
-    ensures { StateMade (marker_cells (freshMarker eol sep tab (set_of accepted.now))) state.old state.new result }
+    ensures { Made (marker_cells (freshMarker eol sep tab (set_of accepted.now))) state.old state.new result }
 {
     let set = byte_set(accepted);
     let all = states::marker_cells(BlockMarkerIter::new(eol, sep, tab, &set));
@@ -106,7 +106,7 @@ pub extern "C" fn rack_numbered_new(
     accepted: &[u8],
     state: &mut [u8],
 ) -> u32
-    ensures { StateMade (numbered_cells (freshNumbered eol sep tab (set_of accepted.now))) state.old state.new
+    ensures { Made (numbered_cells (freshNumbered eol sep tab (set_of accepted.now))) state.old state.new
         result }
 {
     let set = byte_set(accepted);
@@ -151,7 +151,7 @@ pub extern "C" fn rack_cont_new(
     nest: usize,
     state: &mut [u8],
 ) -> u32
-    ensures { StateMade (cont_cells (freshCont byte eol sep tab nest)) state.old state.new result }
+    ensures { Made (cont_cells (freshCont byte eol sep tab nest)) state.old state.new result }
 {
     let all = cont_state::cont_cells(ContIter::new(byte, eol, sep, tab, nest));
     states::made(&all, state)

@@ -5,20 +5,20 @@ ghost use Rattle.common.specs.Refusals.{given, told_span};
 ghost use Rattle.block_marker.specs.Marker.{told as toldMarker};
 ghost use Rattle.block_numbered.specs.Numbered.{told as toldNumbered};
 ghost use Rattle.cells.specs.Bytes.{cells, readable};
-ghost use Rattle.panel.specs.State.{StateMade, Moved, fence_limits, fence_cells, fence_from, item_limits, marker_cells, marker_from, numbered_cells, numbered_from};
+ghost use Rattle.panel.specs.State.{Made, Moved, fence_limits, fence_cells, fence_from, item_limits, marker_cells, marker_from, numbered_cells, numbered_from};
 
 use block_marker::{BlockMarkerIter, MarkerFound};
 use block_numbered::{BlockNumberedIter, NumberedFound};
 use cells::cell;
-use cells::reply::{put_numbers, room_of, values};
-use common::sets::{flag, index};
+use cells::reply::{flag, put_numbers, room_of, values};
+use common::sets::index;
 use common::span::SpanFound;
 use fence::FenceIter;
 use search::byte_at;
 
 // Writes a fresh state; 2 where the run is not one cell for each number.
 pub(crate) fn made(all: &[usize], state: &mut [u8]) -> u32
-    ensures { StateMade all.now state.old state.new result }
+    ensures { Made all.now state.old state.new result }
 {
     if state.len() != all.len() * 4 {
         return 2;

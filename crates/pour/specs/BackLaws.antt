@@ -4,7 +4,7 @@ use Rattle.std.specs.Prelude.{◌≡◌, refl, Bool, true, false, List, [], ◌�
 use Rattle.std.proofs.Common.{sym, ap, ◌∙◌, arith, ltb-false}
 use Rattle.common.specs.Entry.{flatten, room, over, wide}
 use Rattle.common.specs.EntryLaws.{flatten-append}
-use Rattle.common.specs.Lists.{crowded, barred, build_answer}
+use Rattle.common.specs.Lists.{crowded, build_answer}
 use Rattle.common.specs.Refusals.{Outcome, given, refuse, too_long}
 use Rattle.region.specs.Region.{Caused, InOrder, row_of}
 use Rattle.region.specs.Regions.{regions}
@@ -13,7 +13,6 @@ use Rattle.rules.specs.Grammar.{Gram}
 use Rattle.cells.specs.Bytes.{four, cells, row_bytes}
 use Rattle.cells.specs.BackLaws.{Narrow, cells_over, reply_served}
 use Rattle.cells.specs.Poured.{ListRuns, BuiltAs}
-use Rattle.cells.specs.PouredLaws.{poured_over}
 use Rattle.cells.specs.CellLaws.{length-cells}
 use Rattle.pour.specs.Building.{region_bytes}
 
@@ -44,19 +43,18 @@ refused_none : (n : ℕ) (b : Bool) (o : Outcome) → (refuse (suc n) b o).numbe
 refused_none n true o e = absurd (omega (arith, e))
 refused_none n false o e = (refl, e)
 
--- building that returns 0 has passed every test, and answers how many regions there are and how many bytes were left out
-pub built-passed : (l : List Caused) (strict bad : Bool) (dropped : ℕ) (s : List ℕ) (before after : ListRuns) → BuiltAs region_bytes row_bytes strict bad dropped l s before after 0
-    → (length s ≤ 4294967295) × (bad ≡ false) × (crowded row_bytes l before.list ≡ false) × (barred strict dropped ≡ false)
-    × (build_answer row_bytes strict bad dropped l s before.list ≡ given (length l ∷ dropped ∷ []))
+-- building that returns 0 has passed every test, and answers how many regions there are
+pub built_passed : (l : List Caused) (bad : Bool) (s : List ℕ) (before after : ListRuns) → BuiltAs region_bytes row_bytes bad l s before after 0
+    → (length s ≤ 4294967295) × (bad ≡ false) × (crowded row_bytes l before.list ≡ false) × (build_answer row_bytes bad l s before.list ≡ given (length l ∷ []))
 unfolding build_answer
-built-passed l strict bad dropped s before after w =
-    let p = refused_none 0 (too_long s) _ (reply_served (build_answer row_bytes strict bad dropped l s before.list) before.answer (sym w.reply.number)).1 in
+built_passed l bad s before after w =
+    let p = refused_none 0 (too_long s) _ (reply_served (build_answer row_bytes bad l s before.list) before.answer (sym w.reply.number)).1 in
     let q = refused_none 5 bad _ p.1 in
-    let b = refused_none 10 (barred strict dropped) _ q.1 in
-    let r = refused_none 2 (crowded row_bytes l before.list) _ b.1 in
-    (ltb-false 4294967295 (length s) p.0, q.0, r.0, b.0, simp (p.0, q.0, b.0, r.0))
+    let r = refused_none 2 (crowded row_bytes l before.list) _ q.1 in
+    (ltb-false 4294967295 (length s) p.0, q.0, r.0, simp (p.0, q.0, r.0))
 
 -- building into a list in bytes that returns 0 has left, read as numbers, the regions over the front of the run's numbers
-pub built-back : (g : Gram) (strict bad : Bool) (dropped : ℕ) (s : List ℕ) (before after : ListRuns) → BuiltAs region_bytes row_bytes strict bad dropped (regions g s) s before after 0
-    → cells after.list ≡ over (flatten row_of (regions g s)) (cells before.list)
-built-back g strict bad dropped s before after w = ap cells (poured_over w) ∙ regions-back g s before.list (built-passed (regions g s) strict bad dropped s before after w).0
+pub built_back : (g : Gram) (bad : Bool) (s : List ℕ) (before after : ListRuns) → BuiltAs region_bytes row_bytes bad (regions g s) s before after 0 → cells after.list ≡ over (flatten row_of (regions g s)) (cells before.list)
+built_back g bad s before after w =
+    let v = reply_served (build_answer row_bytes bad (regions g s) s before.list) before.answer (sym w.reply.number) in
+    ap cells (w.left ∙ rw v.0) ∙ regions-back g s before.list (built_passed (regions g s) bad s before after w).0

@@ -1,5 +1,5 @@
-// Building into a list in bytes, strict or not: region k has its start at byte 8k and its exclusive end at byte 8k + 4. The answer is how
-// many there are, and how many bytes that open one were left out of the search; where it is strict, it is refused with 11 where there is one.
+// Building into a list in bytes: region k has its start at byte 8k and its exclusive end at byte 8k + 4. The answer is how many there
+// are.
 ghost use Rattle.std.specs.Prelude.{take};
 ghost use Rattle.pour.specs.Building.{PouredBy, BuiltBytes, BuiltRules};
 ghost use Rattle.cells.specs.ByteRules.{columns_in, rule_columns_in};
@@ -7,15 +7,13 @@ ghost use Rattle.cells.specs.ByteRules.{columns_in, rule_columns_in};
 use crate::pouring::pour;
 use cells::columns::{columns_differ, gather_rules, is_uneven, rule_rows};
 use common::grammar::Grammar;
-use common::refusal::is_barred;
 use common::span::MAX_INPUT_LEN;
 use lines::fence_tests::fence_table;
 use rules::search_bytes::Alphabet;
 use search::lesser;
 
-// All rules of columns into tables, once, and on; a strict way may be barred.
+// All rules of columns into tables, once, and on.
 fn with_columns(
-    strict: bool,
     text: &[u8],
     g: Grammar,
     fences: &[u8],
@@ -28,7 +26,7 @@ fn with_columns(
     out: &mut [u8],
     answer: &mut [u8],
 ) -> u32
-    ensures { PouredBy strict g
+    ensures { PouredBy g
         (columns_in (record {
           fence_bytes = fences.now;
           fence_mins = mins.now;
@@ -44,9 +42,6 @@ fn with_columns(
         (record { list = out.new; answer = answer.new }) result }
 {
     let alphabet = Alphabet::of(g, fences, symmetric, openers);
-    if is_barred(strict, alphabet.left) {
-        return 11;
-    }
     let table = fence_table(fences, mins);
     let rows = rule_rows(fences, symmetric, times, openers, closers, counts);
     pour(text, alphabet, &table, &rows, out, answer)
@@ -54,7 +49,6 @@ fn with_columns(
 
 // By the first `used` fence rules of two columns, by all of a column where it is more.
 fn with_front(
-    strict: bool,
     text: &[u8],
     g: Grammar,
     fences: &[u8],
@@ -68,7 +62,7 @@ fn with_front(
     out: &mut [u8],
     answer: &mut [u8],
 ) -> u32
-    ensures { PouredBy strict g
+    ensures { PouredBy g
         (columns_in (record {
           fence_bytes = take used fences.now;
           fence_mins = take used mins.now;
@@ -86,7 +80,6 @@ fn with_front(
     let n = lesser(used, fences.len());
     let m = lesser(used, mins.len());
     with_columns(
-        strict,
         text,
         g,
         &fences[0..n],
@@ -103,7 +96,6 @@ fn with_front(
 
 // Fence rules of two bytes each, by the columns of those that are kept.
 fn with_rules(
-    strict: bool,
     text: &[u8],
     g: Grammar,
     rules: &[u8],
@@ -115,7 +107,7 @@ fn with_rules(
     out: &mut [u8],
     answer: &mut [u8],
 ) -> u32
-    ensures { PouredBy strict g
+    ensures { PouredBy g
         (rule_columns_in (record {
           fence_rules = rules.now;
           inline = record {
@@ -133,7 +125,6 @@ fn with_rules(
     let bytes = fences.bytes;
     let mins = fences.mins;
     with_front(
-        strict,
         text,
         g,
         &bytes,
@@ -150,10 +141,8 @@ fn with_rules(
 }
 
 // Building by rules given as columns: fence bytes and minimums; symmetric bytes and counts; asymmetric openers, closers and counts. A
-// count column has four bytes for each byte of its byte column. A refusal (1 the text is too long, 6 columns differ, 11 a byte was left out
-// and it is strict, 3 too little room in `out` or in `answer`) changes nothing.
+// count column has four bytes for each byte of its byte column.
 pub fn build_columns(
-    strict: bool,
     text: &[u8],
     eol: u8,
     escape: u8,
@@ -169,7 +158,7 @@ pub fn build_columns(
     out: &mut [u8],
     answer: &mut [u8],
 ) -> u32
-    ensures { BuiltBytes strict (record { eol = eol; escape = escape; sep = sep; tab = tab })
+    ensures { BuiltBytes (record { eol = eol; escape = escape; sep = sep; tab = tab })
         (record {
           fence_bytes = fences.now;
           fence_mins = mins.now;
@@ -197,14 +186,13 @@ pub fn build_columns(
         tab,
     };
     with_columns(
-        strict, text, g, fences, mins, symmetric, times, openers, closers, counts, out, answer,
+        text, g, fences, mins, symmetric, times, openers, closers, counts, out, answer,
     )
 }
 
 // Building by fence rules of two bytes each, a byte and a minimum, and by the inline rules' columns. An odd number of bytes is refused as
 // columns that differ.
 pub fn build_rules(
-    strict: bool,
     text: &[u8],
     eol: u8,
     escape: u8,
@@ -219,7 +207,7 @@ pub fn build_rules(
     out: &mut [u8],
     answer: &mut [u8],
 ) -> u32
-    ensures { BuiltRules strict (record { eol = eol; escape = escape; sep = sep; tab = tab })
+    ensures { BuiltRules (record { eol = eol; escape = escape; sep = sep; tab = tab })
         (record {
           fence_rules = rules.now;
           inline = record {
@@ -249,6 +237,6 @@ pub fn build_rules(
         tab,
     };
     with_rules(
-        strict, text, g, rules, symmetric, times, openers, closers, counts, out, answer,
+        text, g, rules, symmetric, times, openers, closers, counts, out, answer,
     )
 }

@@ -1,6 +1,10 @@
-// How many regions building would write, whatever the room, and how many bytes were left out: a host that was refused with 3 learns what it needs.
+// How many regions building would write, whatever the room: a host that was refused with 3 learns what it needs.
+ghost use Rattle.std.specs.Prelude.{[], ◌∷◌, length};
+ghost use Rattle.common.specs.Refusals.{given};
+ghost use Rattle.region.specs.Regions.{built_by};
 ghost use Rattle.cells.specs.ByteRules.{columns_in};
-ghost use Rattle.pour.specs.Building.{CountedBy, CountedBytes};
+ghost use Rattle.cells.specs.Reply.{Replied};
+ghost use Rattle.pour.specs.Building.{CountedBytes};
 
 use cells::columns::{columns_differ, rule_rows};
 use cells::reply;
@@ -23,7 +27,7 @@ fn count_by(
     counts: &[u8],
     answer: &mut [u8],
 ) -> u32
-    ensures { CountedBy g
+    ensures { Replied (given (length (built_by g
         (columns_in (record {
           fence_bytes = fences.now;
           fence_mins = mins.now;
@@ -35,12 +39,12 @@ fn count_by(
             open_counts = counts.now;
           };
         }))
-        text.now answer.old answer.new result }
+        text.now) ∷ [])) answer.old answer.new result }
 {
     let alphabet = Alphabet::of(g, fences, symmetric, openers);
     let table = fence_table(fences, mins);
     let rows = rule_rows(fences, symmetric, times, openers, closers, counts);
-    let all = [count_regions(text, alphabet, &table, &rows), alphabet.left];
+    let all = [count_regions(text, alphabet, &table, &rows)];
     reply::values(&all, answer)
 }
 

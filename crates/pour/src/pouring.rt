@@ -7,7 +7,7 @@ ghost use Rattle.region.specs.Regions.{regions};
 ghost use Rattle.common.specs.Lists.{RowPut, Wrote};
 ghost use Rattle.rules.specs.Rows.{gram_by};
 ghost use Rattle.cells.specs.Bytes.{four, row_bytes};
-ghost use Rattle.cells.specs.Poured.{PouredBeside};
+ghost use Rattle.cells.specs.Poured.{PouredAs};
 ghost use Rattle.pour.specs.Building.{region_bytes};
 
 use cells::reply::put_numbers;
@@ -74,8 +74,8 @@ fn fits(len: usize, text: &[u8], alphabet: Alphabet, fences: &[u16; 256], rows: 
     count_regions(text, alphabet, fences, rows) <= most
 }
 
-// Writes the regions of a text, and replies how many there are and how many bytes were left out; or refuses where the list or the answer run
-// is too short. Both are refused with 3, so that the answer run may be looked at first.
+// Writes the regions of a text, and replies how many there are; or refuses where the list or the answer run is too short. Both are
+// refused with 3, so that the answer run may be looked at first.
 pub(crate) fn pour(
     text: &[u8],
     alphabet: Alphabet,
@@ -84,15 +84,14 @@ pub(crate) fn pour(
     out: &mut [u8],
     answer: &mut [u8],
 ) -> u32
-    ensures { PouredBeside region_bytes row_bytes
-        (regions (gram_by alphabet fences.now rows.now) text.now) (alphabet.left ∷ [])
+    ensures { PouredAs region_bytes row_bytes (regions (gram_by alphabet fences.now rows.now) text.now)
         (record { list = out.old; answer = answer.old })
         (record { list = out.new; answer = answer.new }) result }
 {
-    if 2 < reply::room_of(answer.len()) {
+    if 1 < reply::room_of(answer.len()) {
         if fits(out.len(), text, alphabet, fences, rows) {
             let found = write_regions(text, alphabet, fences, rows, out);
-            let all = [found, alphabet.left];
+            let all = [found];
             return reply::values(&all, answer);
         }
         return 3;

@@ -1,7 +1,7 @@
 // Section 10: why a line is not on the work sheet.
 use crate::cells;
 use common::grammar::Grammar;
-use common::refusal::Made;
+use common::refusal::Answer;
 use explain::{Explained, Reason, explain};
 use stored::form::Question;
 use stored::numbers::Numbers;
@@ -41,7 +41,6 @@ fn by_house(text: &[u8], line: usize, reply: Numbers) -> Numbers {
     let mut space = [0u32; cells::ROOM];
     let list: &mut [u32] = &mut space;
     let built = context::build(
-        false,
         text,
         Grammar::house(),
         &fences,
@@ -54,8 +53,8 @@ fn by_house(text: &[u8], line: usize, reply: Numbers) -> Numbers {
         list,
     );
     match built {
-        Made::List(count, _) => told(explain(text, &list[..], count, line), reply),
-        Made::Refused(r) => reply.and(0).and(r.number()),
+        Answer::Value(count) => told(explain(text, &list[..], count, line), reply),
+        Answer::Refused(r) => reply.and(0).and(r.number()),
     }
 }
 

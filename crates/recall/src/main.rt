@@ -1,6 +1,5 @@
-// Replays stored answers: regions, the cursor, the work sheet, explanations, records, bytes left out of the search, and what the page
-// says by itself. Standard input holds lists of questions with their answers; ours are asked the same, and each line whose answer isn't
-// the same is told. The head of each list says how to read it.
+// Replays stored answers: regions, the cursor, the work sheet, explanations, records, and what the page says by itself. Standard input holds lists of
+// questions with their answers; ours are asked the same, and each line whose answer isn't the same is told. The head of each list says how to read it.
 mod cells; // lists of so many cells
 mod covers; // section 7: the cursor
 mod explains; // section 10: why a line is not on the work sheet
@@ -12,7 +11,6 @@ mod regions; // section 6: regions, and the bytes that are searched for
 mod report; // what is printed
 mod sections; // which section asks what
 mod sheets; // section 8: the work sheet
-mod triggers; // section 12: bytes that are left out of the search
 
 use libc::STDIN_FILENO;
 use stored::parts::bytes_part;

@@ -1,12 +1,12 @@
 // Section 6: regions, and the bytes that are searched for.
 use crate::cells;
 use common::grammar::Grammar;
-use common::refusal::{Answer, Made};
+use common::refusal::Answer;
 use lines::fence_tests::fence_table;
 use region::{Cause, Next, Region, next_region};
 use rules::records::FenceRule;
 use rules::rows::{Rows, rule_rows};
-use rules::search_bytes::{Alphabet, SearchBytes, search_bytes};
+use rules::search_bytes::{Alphabet, search_bytes};
 use search::byte_at;
 use stored::answers::STEPS;
 use stored::form::Question;
@@ -39,7 +39,7 @@ pub(crate) fn ask(
 }
 
 // The grammar whose bytes begin at place `i`.
-pub(crate) fn grammar_of(bytes: &[u8], i: usize) -> Grammar {
+fn grammar_of(bytes: &[u8], i: usize) -> Grammar {
     if i > 1 {
         return Grammar::house();
     }
@@ -88,14 +88,6 @@ fn build_first(
     Answer::Value(0)
 }
 
-// What the answer is without the number of bytes left out, which the Rust doesn't tell.
-fn counted(made: Made) -> Answer {
-    match made {
-        Made::List(count, _) => Answer::Value(count),
-        Made::Refused(r) => Answer::Refused(r),
-    }
-}
-
 fn build(
     question: Question,
     asked: &[u32],
@@ -107,8 +99,7 @@ fn build(
     if question.letter == b'd' {
         return build_recorded(question, asked, bytes, g, text, list);
     }
-    counted(context::build(
-        false,
+    context::build(
         text,
         g,
         question.bytes(bytes, 0),
@@ -119,7 +110,7 @@ fn build(
         question.bytes(bytes, 5),
         question.list(asked, 6),
         list,
-    ))
+    )
 }
 
 fn build_recorded(
@@ -131,8 +122,7 @@ fn build_recorded(
     list: &mut [u32],
 ) -> Answer {
     let fences = question.bytes(bytes, 0);
-    counted(context::records::build_few(
-        false,
+    context::records::build_few(
         text,
         g,
         records_of(fences, question.bytes(bytes, 1)),
@@ -143,11 +133,11 @@ fn build_recorded(
         question.bytes(bytes, 5),
         question.list(asked, 6),
         list,
-    ))
+    )
 }
 
 // The fence rules as records.
-pub(crate) fn records_of(bytes: &[u8], mins: &[u8]) -> [FenceRule; 16] {
+fn records_of(bytes: &[u8], mins: &[u8]) -> [FenceRule; 16] {
     let mut rules = [FenceRule { byte: 0, min: 0 }; 16];
     let mut i = 0;
     while i < 16 {
@@ -161,19 +151,13 @@ pub(crate) fn records_of(bytes: &[u8], mins: &[u8]) -> [FenceRule; 16] {
 }
 
 fn searched(question: Question, bytes: &[u8], reply: Numbers) -> Numbers {
-    let all = search_bytes(
+    let searched = search_bytes(
         question.bytes(bytes, 0),
         question.bytes(bytes, 2),
         question.bytes(bytes, 4),
     );
-    let searched = all.searched;
-    buffer(searched, reply.value(searched.count))
-}
-
-// All cells of the buffer.
-pub(crate) fn buffer(searched: SearchBytes, reply: Numbers) -> Numbers {
     let needles = searched.bytes;
-    reply.bytes(&needles)
+    reply.value(searched.count).bytes(&needles)
 }
 
 // The rules by byte that a step takes, and all steps from place 0 on.

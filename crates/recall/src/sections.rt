@@ -1,5 +1,5 @@
 // The sections whose questions have a text: the forms of these, and which section asks what.
-use crate::{covers, explains, files, page, regions, sheets, triggers};
+use crate::{covers, explains, files, page, regions, sheets};
 use stored::form::{Form, Question};
 use stored::numbers::Numbers;
 use stored::texts::{BEYOND, FROM_START, WHOLE};
@@ -33,12 +33,6 @@ pub(crate) fn form(section: u32, letter: u8) -> Form {
             b'w' => Form::new(2, 2, 1, WHOLE).free(0),
             _ => Form::unknown(),
         },
-        12 => match letter {
-            b'b' => Form::new(2, 2, 3, WHOLE),
-            b'l' => Form::new(3, 6, 0, WHOLE),
-            b'k' | b'd' | b's' | b't' => Form::new(1, 5, 7, WHOLE).free(3).free(6),
-            _ => Form::unknown(),
-        },
         _ => Form::unknown(),
     }
 }
@@ -61,7 +55,6 @@ pub(crate) fn ask(
         8 => sheets::ask(question, asked, bytes, text, reply),
         10 => explains::ask(question, asked, text, place, reply),
         11 => files::ask(question, asked, bytes, text, reply),
-        12 => triggers::ask(question, asked, bytes, text, reply),
         _ => reply,
     }
 }

@@ -7,9 +7,8 @@ use Rattle.search.specs.Search.{one_of}
 use Rattle.search.specs.SearchLaws.{decide}
 use Rattle.common.specs.Sets.{padded}
 use Rattle.common.specs.declared.grammar.Grammar.{Grammar}
-use Rattle.rules.specs.Columns.{gained, gained_all, no_bytes, with_byte, gathered, as_bytes, search_bytes, collected_of, alphabet_of}
+use Rattle.rules.specs.Columns.{gained, gained_all, no_bytes, with_byte, gathered, as_bytes, search_bytes, alphabet_of}
 use Rattle.rules.specs.declared.search_bytes.SearchBytes.{SearchBytes}
-use Rattle.rules.specs.declared.search_bytes.Collected.{Collected}
 
 -- ---- one byte more
 module _ (w : SearchBytes) (b : ℕ) where
@@ -80,8 +79,8 @@ gathered-list l (b ∷ bs) h =
     (ap (λ (z : SearchBytes). gathered z bs) (with_list l b h) ∙ i.0, i.1)
 
 -- with a grammar's bytes
-pub alphabet_is : (g : Grammar) (f s o : List ℕ) (w : Collected) → Gives (collected_of f s o) w → record { grammar = g; searched = w.searched; left = w.left } ≡ alphabet_of g f s o
-alphabet_is g f s o w h = ap (λ (z : Collected). record { grammar = g; searched = z.searched; left = z.left }) h.answer
+pub alphabet_is : (g : Grammar) (f s o : List ℕ) (w : SearchBytes) → Gives (search_bytes f s o) w → record { grammar = g; searched = w } ≡ alphabet_of g f s o
+alphabet_is g f s o w h = ap (λ (z : SearchBytes). record { grammar = g; searched = z }) h.answer
 
 pub searches : (f s o : List ℕ) (n a b c : SearchBytes) → Gives no_bytes n → Gives (gathered n f) a → Gives (gathered a s) b → Gives (gathered b o) c → c ≡ search_bytes f s o
 searches f s o n a b c hn ha hb hc =

@@ -1,15 +1,9 @@
-// The bytes a builder searches for: an array of eleven and a count, handed over and handed back whole, without repeats; and how many
-// others would open a region and were left out.
-ghost use Rattle.std.specs.Prelude.{not, ◌&&◌, ltb, take};
+// The bytes a builder searches for: an array of eleven and a count, handed over and handed back whole, without repeats.
 ghost use Rattle.search.specs.Promise.{Gives};
-ghost use Rattle.search.specs.Search.{one_of};
-ghost use Rattle.common.specs.Sets.{as_flag};
-ghost use Rattle.rules.specs.Columns.{no_bytes, with_byte, gathered, search_bytes, sets_with, how_many, left_of, collected_of, alphabet_of};
+ghost use Rattle.rules.specs.Columns.{no_bytes, with_byte, gathered, search_bytes, alphabet_of};
 
 use common::grammar::Grammar;
-use common::sets::{accepts, byte_set, flag};
 use find::is_one_of;
-use search::lesser;
 
 #[derive(Drop)]
 pub struct SearchBytes {
@@ -60,7 +54,7 @@ impl SearchBytes {
 }
 
 // Fence bytes, symmetric bytes, asymmetric openers, in that order, without repeats, the first eleven kept.
-fn kept_bytes(fences: &[u8], symmetric: &[u8], openers: &[u8]) -> SearchBytes
+pub fn search_bytes(fences: &[u8], symmetric: &[u8], openers: &[u8]) -> SearchBytes
     ensures { Gives (search_bytes fences.now symmetric.now openers.now) result }
 {
     SearchBytes::new()
@@ -69,74 +63,11 @@ fn kept_bytes(fences: &[u8], symmetric: &[u8], openers: &[u8]) -> SearchBytes
         .gather(openers)
 }
 
-// How many of three sets have a byte.
-fn sets_with(a: &[bool; 256], b: &[bool; 256], c: &[bool; 256], x: u8) -> usize
-    ensures { Gives (sets_with a.now b.now c.now x) result }
-{
-    flag(accepts(a, x)) + flag(accepts(b, x)) + flag(accepts(c, x))
-}
-
-// 1 where a byte of one of three sets is left out, since it isn't one of those kept, else 0: however many have it, it counts once.
-fn left_by(kept: SearchBytes, a: &[bool; 256], b: &[bool; 256], c: &[bool; 256], x: u8) -> usize
-    ensures { Gives (as_flag (ltb 0 (sets_with a.now b.now c.now x)
-        && not (one_of (take kept.count kept.bytes) x))) result }
-{
-    let bytes = kept.bytes;
-    if is_one_of(&bytes, kept.count, x) {
-        return 0;
-    }
-    lesser(sets_with(a, b, c, x), 1)
-}
-
-// How many of the 256 bytes are left out.
-fn count_left(kept: SearchBytes, a: &[bool; 256], b: &[bool; 256], c: &[bool; 256]) -> usize
-    ensures { Gives (how_many (λ x. ltb 0 (sets_with a.now b.now c.now x)
-        && not (one_of (take kept.count kept.bytes) x)) 256) result }
-{
-    let mut n: usize = 0;
-    let mut x: usize = 0;
-    while x < 256 {
-        n += left_by(kept, a, b, c, x as u8);
-        x += 1;
-    }
-    n
-}
-
-// How many bytes open by these columns and aren't kept.
-fn left_out(kept: SearchBytes, fences: &[u8], symmetric: &[u8], openers: &[u8]) -> usize
-    ensures { Gives (left_of (take kept.count kept.bytes) fences.now symmetric.now openers.now) result }
-{
-    let fenced = byte_set(fences);
-    let paired = byte_set(symmetric);
-    let opening = byte_set(openers);
-    count_left(kept, &fenced, &paired, &opening)
-}
-
-// What collecting the bytes to search for gives: them, and how many others were left out.
-#[derive(Drop)]
-pub struct Collected {
-    pub searched: SearchBytes,
-    pub left: usize,
-}
-
-// The bytes to search for, and how many distinct bytes were left out since eleven were kept already.
-pub fn search_bytes(fences: &[u8], symmetric: &[u8], openers: &[u8]) -> Collected
-    ensures { Gives (collected_of fences.now symmetric.now openers.now) result }
-{
-    let searched = kept_bytes(fences, symmetric, openers);
-    if searched.count < Grammar::MAX_NEEDLES {
-        return Collected { searched, left: 0 }; // each byte has found a place
-    }
-    let left = left_out(searched, fences, symmetric, openers);
-    Collected { searched, left }
-}
-
-// The bytes that a scan for regions goes by: the grammar's, and those searched for; and how many were left out.
+// The bytes that a scan for regions goes by: the grammar's, and those searched for.
 #[derive(Drop)]
 pub struct Alphabet {
     pub grammar: Grammar,
     pub searched: SearchBytes,
-    pub left: usize,
 }
 
 impl Alphabet {
@@ -144,12 +75,9 @@ impl Alphabet {
     pub fn of(grammar: Grammar, fences: &[u8], symmetric: &[u8], openers: &[u8]) -> Self
         ensures { Gives (alphabet_of grammar fences.now symmetric.now openers.now) result }
     {
-        let all = search_bytes(fences, symmetric, openers);
-        let searched = all.searched;
         Alphabet {
             grammar,
-            searched,
-            left: all.left,
+            searched: search_bytes(fences, symmetric, openers),
         }
     }
 }

@@ -61,8 +61,8 @@ module _ (markers delims : List Bool) (l : List ℕ) (n : ℕ) (s : List ℕ) (f
 
   module _ (i : SheetItem) (e : t.head ≡ head.Item i) (g : Gives (taken markers delims s f.feed) t) (r : Ready markers delims l n s f) where
     -- the item's place is not before the last one
-    pub item-ended : Ended wide l n f.index (tested_place i)
-    item-ended = record { within = r.ended.within; before = λ j h. omega (arith, r.ended.before j h, item_later markers delims s (rows wide n l) r.low f.feed r.onward t g i e) }
+    pub item_ended : Ended wide l n f.index (tested_place i)
+    item_ended = record { within = r.ended.within; before = λ j h. omega (arith, r.ended.before j h, item_later markers delims s (rows wide n l) r.low f.feed r.onward t g i e) }
 
     module _ (q : Query) (h : Hid l n (tested_place i) q) where
       -- what comes after it, with the cursor moved on

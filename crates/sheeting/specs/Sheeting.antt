@@ -1,22 +1,18 @@
 -- What the work sheet of a text by its rules answers and writes. Assumes nothing.
 -- The page: "It holds the marker and numbered items, both scanned from place 0", without those whose tested byte (request 2) is inside one of
 -- the regions of the text's own rules.
--- Document 02, request 5: "Building passes that number on": so does a sheet that builds.
-use Rattle.std.specs.Prelude.{◌≡◌, Bool, false, cond, List, [], ◌∷◌, map, ℕ, ◌+◌, ◌*◌, ltb, length}
+use Rattle.std.specs.Prelude.{◌≡◌, Bool, cond, List, map, ℕ, ◌+◌, ◌*◌, ltb, length}
 use Rattle.common.specs.Entry.{flatten, room, put_at}
-use Rattle.common.specs.Refusals.{given}
 use Rattle.common.specs.Sets.{set_of}
 use Rattle.common.specs.declared.grammar.Grammar.{Grammar}
 use Rattle.region.specs.Region.{Caused, row_of}
-use Rattle.rules.specs.Columns.{Columns, left_out}
 use Rattle.rules.specs.Grammar.{Gram}
 use Rattle.region.specs.Regions.{regions, built_by}
 use Rattle.sheet.specs.Sheet.{five, sheet_of}
 use Rattle.sheet.specs.Parts.{left, Onward, Turned}
 use Rattle.feed.specs.declared.item.SheetItem.{SheetItem}
 use Rattle.cells.specs.Bytes.{four}
-use Rattle.cells.specs.Reply.{Replied}
-use Rattle.cells.specs.Poured.{ListRuns, PouredBeside, BuiltAs, CountedAs}
+use Rattle.cells.specs.Poured.{ListRuns, PouredAs, BuiltAs, CountedAs}
 use Rattle.cells.specs.ByteRules.{ColumnRuns, uneven_columns, columns_in}
 use Rattle.region.specs.MemoryLaws.{Sound}
 use Rattle.sheeting.specs.Hiding.{HidesFrom}
@@ -36,25 +32,20 @@ pub record ItemPut (i : SheetItem) (n : ℕ) (out out' : List ℕ) (r : ℕ) : T
 abbrev pub sheet_with : Grammar → List Bool → List Bool → List Caused → List ℕ → List SheetItem
 sheet_with g markers delims l s = sheet_of g markers delims (flatten row_of l) (length l) s
 
--- a sheet that is past the refusals of text and rules, of which so many bytes were left out
-abbrev pub SheetPoured : List SheetItem → ℕ → ListRuns → ListRuns → ℕ → Type 0
-SheetPoured l dropped before after r = PouredBeside item_bytes 20 l (dropped ∷ []) before after r
+-- a sheet that is past the refusals of text and rules
+abbrev pub SheetPoured : List SheetItem → ListRuns → ListRuns → ℕ → Type 0
+SheetPoured l before after r = PouredAs item_bytes 20 l before after r
 
 -- the promise of the entry, in building's order: the sheet, by the accepted marker and delimiter bytes, with the list of the regions that the
--- columns build; like building it passes on how many bytes were left out
+-- columns build
 abbrev pub SheetBytes : Grammar → ColumnRuns → List ℕ → List ℕ → List ℕ → ListRuns → ListRuns → ℕ → Type 0
 SheetBytes g c markers delims s before after r =
-    BuiltAs item_bytes 20 false (uneven_columns c) (left_out (columns_in c)) (sheet_with g (set_of markers) (set_of delims) (built_by g (columns_in c) s) s) s before after r
+    BuiltAs item_bytes 20 (uneven_columns c) (sheet_with g (set_of markers) (set_of delims) (built_by g (columns_in c) s) s) s before after r
 
--- how many items that sheet would have, past 1 and 6, and how many bytes were left out
-abbrev pub SheetTold : Grammar → Columns → List ℕ → List ℕ → List ℕ → List ℕ → List ℕ → ℕ → Type 0
-SheetTold g c markers delims s run run' r =
-    Replied (given (length (sheet_with g (set_of markers) (set_of delims) (built_by g c s) s) ∷ left_out c ∷ [])) run run' r
-
--- the same with 1 and 6
+-- how many items that sheet would have
 abbrev pub SheetCounted : Grammar → ColumnRuns → List ℕ → List ℕ → List ℕ → List ℕ → List ℕ → ℕ → Type 0
 SheetCounted g c markers delims s run run' r =
-    CountedAs (uneven_columns c) (left_out (columns_in c)) (sheet_with g (set_of markers) (set_of delims) (built_by g (columns_in c) s) s) s run run' r
+    CountedAs (uneven_columns c) (sheet_with g (set_of markers) (set_of delims) (built_by g (columns_in c) s) s) s run run' r
 
 -- ---- the parts
 module _ (g : Gram) (markers delims : List Bool) (s : List ℕ) where

@@ -11,7 +11,7 @@ use Rattle.common.specs.declared.grammar.Grammar.{Grammar}
 use Rattle.rules.specs.Grammar.{Gram}
 use Rattle.region.specs.Regions.{regions, built_by}
 use Rattle.lines.specs.Fences.{fence_table}
-use Rattle.rules.specs.Columns.{alphabet_of, left_out}
+use Rattle.rules.specs.Columns.{alphabet_of}
 use Rattle.rules.specs.Rows.{gram_by, Folded}
 use Rattle.region.specs.LoopLaws.{row-wide}
 use Rattle.region.specs.MemoryLaws.{sound_zeros}
@@ -34,11 +34,11 @@ use Rattle.cells.specs.Reply.{LaidIf, Replied}
 use Rattle.cells.specs.ReplyLaws.{laid_there}
 use Rattle.cells.specs.Poured.{ListRuns}
 use Rattle.cells.specs.ByteRules.{ColumnRuns, inline_in, columns_in}
-use Rattle.cells.specs.RuleLaws.{gram_folded, left_folded}
+use Rattle.cells.specs.RuleLaws.{gram_folded}
 use Rattle.cells.specs.PouredLaws.{pour_full, pour_done}
 use Rattle.sheeting.specs.Hiding.{HidesFrom, PassedOn}
 use Rattle.sheeting.specs.HidingLaws.{hides_first, hides_later}
-use Rattle.sheeting.specs.Sheeting.{item_bytes, ItemPut, sheet_with, SheetPoured, SheetTold, left_by, SieveReady, ReadyBy, SieveTurned}
+use Rattle.sheeting.specs.Sheeting.{item_bytes, ItemPut, sheet_with, SheetPoured, left_by, SieveReady, ReadyBy, SieveTurned}
 use Rattle.sheeting.specs.declared.hiding.Hider.{Hider}
 use Rattle.sheeting.specs.declared.Sieve.{Sieve}
 use Rattle.sheeting.specs.declared.Sieved.{Sieved}
@@ -138,14 +138,14 @@ module _ (g : Grammar) (z : Gram) (markers delims : List Bool) (s : List ℕ) (a
   pub shown-counted : (k : ℕ) → Gives (length (left_by z markers delims s (record { feed = a; hider = record { start = 0; stop = 0; next = 0 } }))) k → Gives (length (sheet_with g markers delims (regions z s) s)) k
   shown-counted k c = record { answer = c.answer ∙ ap length sheet-left }
 
-  module _ (dropped : ℕ) (lent : ListRuns) (y : Bool) (f : Gives (leb (length (left markers delims s (map row_of (regions z s)) a)) (length lent.list / 20)) y) where
-    pub sheet_full : y ≡ false → SheetPoured (sheet_with g markers delims (regions z s) s) dropped lent lent 3
-    sheet_full e = subst (λ (x : List SheetItem). SheetPoured x dropped lent lent 3) sheet-left (pour_full item_bytes 20 (left markers delims s (map row_of (regions z s)) a) (dropped ∷ []) lent y f e)
+  module _ (lent : ListRuns) (y : Bool) (f : Gives (leb (length (left markers delims s (map row_of (regions z s)) a)) (length lent.list / 20)) y) where
+    pub sheet_full : y ≡ false → SheetPoured (sheet_with g markers delims (regions z s) s) lent lent 3
+    sheet_full e = subst (λ (x : List SheetItem). SheetPoured x lent lent 3) sheet-left (pour_full item_bytes 20 (left markers delims s (map row_of (regions z s)) a) lent y f e)
 
-    pub sheet_done : (after : ListRuns) (m k r : ℕ) → y ≡ true → 2 < m → Gives (length lent.answer / 4) m → Wrote item_bytes (left markers delims s (map row_of (regions z s)) a) lent.list after.list k
-        → Replied (given (k ∷ dropped ∷ [])) lent.answer after.answer r → SheetPoured (sheet_with g markers delims (regions z s) s) dropped lent after r
+    pub sheet_done : (after : ListRuns) (m k r : ℕ) → y ≡ true → 1 < m → Gives (length lent.answer / 4) m → Wrote item_bytes (left markers delims s (map row_of (regions z s)) a) lent.list after.list k
+        → Replied (given (k ∷ [])) lent.answer after.answer r → SheetPoured (sheet_with g markers delims (regions z s) s) lent after r
     sheet_done after m k r e q n v d =
-        subst (λ (x : List SheetItem). SheetPoured x dropped lent after r) sheet-left (pour_done item_bytes 20 (left markers delims s (map row_of (regions z s)) a) (dropped ∷ []) lent y f after m k r e q n v d)
+        subst (λ (x : List SheetItem). SheetPoured x lent after r) sheet-left (pour_done item_bytes 20 (left markers delims s (map row_of (regions z s)) a) lent y f after m k r e q n v d)
 
 -- ---- by the rules and sets, folded
 module _ (g : Grammar) (c : ColumnRuns) (mb db s : List ℕ) (markers delims : List Bool) (a : Alphabet) (fences : List ℕ) (rules : List (List ℕ))
@@ -156,10 +156,10 @@ module _ (g : Grammar) (c : ColumnRuns) (mb db s : List ℕ) (markers delims : L
       ap (λ (x : Alphabet). sheet_with x.grammar markers delims (regions (gram_by a fences rules) s) s) ha.answer ∙ ap (λ (x : Gram). sheet_with g markers delims (regions x s) s) (gram_folded g c a fences rules ha hf hr)
       ∙ ap (λ (x : List Bool). sheet_with g x delims (built_by g (columns_in c) s) s) hm.answer ∙ ap (λ (x : List Bool). sheet_with g (set_of mb) x (built_by g (columns_in c) s) s) hd.answer
 
-  pub sheet_folded : (before after : ListRuns) (r : ℕ) → SheetPoured (sheet_with a.grammar markers delims (regions (gram_by a fences rules) s) s) a.left before after r
-      → SheetPoured (sheet_with g (set_of mb) (set_of db) (built_by g (columns_in c) s) s) (left_out (columns_in c)) before after r
-  sheet_folded before after r v = rw (← (left_folded g c a ha)) (subst (λ (x : List SheetItem). SheetPoured x a.left before after r) sheet-same v)
+  pub sheet_folded : (before after : ListRuns) (r : ℕ) → SheetPoured (sheet_with a.grammar markers delims (regions (gram_by a fences rules) s) s) before after r
+      → SheetPoured (sheet_with g (set_of mb) (set_of db) (built_by g (columns_in c) s) s) before after r
+  sheet_folded before after r v = subst (λ (x : List SheetItem). SheetPoured x before after r) sheet-same v
 
-  pub count_folded : (k r : ℕ) (run run' : List ℕ) → Gives (length (sheet_with a.grammar markers delims (regions (gram_by a fences rules) s) s)) k → Replied (given (k ∷ a.left ∷ [])) run run' r
-      → SheetTold g (columns_in c) mb db s run run' r
-  count_folded k r run run' n d = rw (← (left_folded g c a ha)) (subst (λ (x : ℕ). Replied (given (x ∷ a.left ∷ [])) run run' r) (n.answer ∙ ap length sheet-same) d)
+  pub count_folded : (k r : ℕ) (run run' : List ℕ) → Gives (length (sheet_with a.grammar markers delims (regions (gram_by a fences rules) s) s)) k → Replied (given (k ∷ [])) run run' r
+      → Replied (given (length (sheet_with g (set_of mb) (set_of db) (built_by g (columns_in c) s) s) ∷ [])) run run' r
+  count_folded k r run run' n d = subst (λ (x : ℕ). Replied (given (x ∷ [])) run run' r) (n.answer ∙ ap length sheet-same) d

@@ -1,10 +1,13 @@
-// How many items a work sheet would have, whatever the room, and how many bytes were left out: a host that was refused with 3 learns what it needs.
-ghost use Rattle.std.specs.Prelude.{◌≤◌, length};
+// How many items a work sheet would have, whatever the room: a host that was refused with 3 learns what it needs.
+ghost use Rattle.std.specs.Prelude.{[], ◌∷◌, ◌≤◌, length};
 ghost use Rattle.search.specs.Promise.{Gives};
-ghost use Rattle.region.specs.Regions.{regions};
+ghost use Rattle.common.specs.Refusals.{given};
+ghost use Rattle.common.specs.Sets.{set_of};
+ghost use Rattle.region.specs.Regions.{regions, built_by};
 ghost use Rattle.rules.specs.Rows.{gram_by};
 ghost use Rattle.cells.specs.ByteRules.{columns_in};
-ghost use Rattle.sheeting.specs.Sheeting.{sheet_with, SheetTold, SheetCounted};
+ghost use Rattle.cells.specs.Reply.{Replied};
+ghost use Rattle.sheeting.specs.Sheeting.{sheet_with, SheetCounted};
 
 use crate::hiding::Hider;
 use crate::{Sieve, count_items};
@@ -58,28 +61,26 @@ fn count_by(
     answer: &mut [u8],
 ) -> u32
     requires { length text.now ≤ 4294967295 }
-    ensures { SheetTold g (columns_in (record {
-      fence_bytes = fences.now;
-      fence_mins = mins.now;
-      inline = record {
-        sym_bytes = symmetric.now;
-        sym_counts = times.now;
-        openers = openers.now;
-        closers = closers.now;
-        open_counts = counts.now;
-      };
-    }))
-        markers.now delims.now text.now answer.old answer.new result }
+    ensures { Replied (given (length (sheet_with g (set_of markers.now) (set_of delims.now) (built_by g
+        (columns_in (record {
+          fence_bytes = fences.now;
+          fence_mins = mins.now;
+          inline = record {
+            sym_bytes = symmetric.now;
+            sym_counts = times.now;
+            openers = openers.now;
+            closers = closers.now;
+            open_counts = counts.now;
+          };
+        }))
+        text.now) text.now) ∷ [])) answer.old answer.new result }
 {
     let alphabet = Alphabet::of(g, fences, symmetric, openers);
     let table = fence_table(fences, mins);
     let rows = rule_rows(fences, symmetric, times, openers, closers, counts);
     let marker_set = byte_set(markers);
     let delim_set = byte_set(delims);
-    let all = [
-        count_shown(text, &marker_set, &delim_set, alphabet, &table, &rows),
-        alphabet.left,
-    ];
+    let all = [count_shown(text, &marker_set, &delim_set, alphabet, &table, &rows)];
     reply::values(&all, answer)
 }
 

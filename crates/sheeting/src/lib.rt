@@ -8,7 +8,6 @@ ghost use Rattle.search.specs.Promise.{Gives};
 ghost use Rattle.common.specs.Sets.{set_of};
 ghost use Rattle.region.specs.Regions.{regions, built_by};
 ghost use Rattle.common.specs.Lists.{Wrote};
-ghost use Rattle.rules.specs.Columns.{left_out};
 ghost use Rattle.rules.specs.Rows.{gram_by};
 ghost use Rattle.cells.specs.ByteRules.{columns_in};
 ghost use Rattle.sheeting.specs.Sheeting.{item_bytes, ItemPut, left_by, SieveReady, ReadyBy, SieveTurned, sheet_with, SheetPoured, SheetBytes};
@@ -211,8 +210,8 @@ fn fits(
     count_items(walk, text, markers, delims, alphabet, fences, rows) <= most
 }
 
-// Writes the sheet of a text within the limit, and replies how many items there are and how many bytes were left out; or refuses where the list or
-// the answer run is too short.
+// Writes the sheet of a text within the limit, and replies how many items there are; or refuses where the list or the answer run is too
+// short.
 fn pour_sheet(
     text: &[u8],
     markers: &[bool; 256],
@@ -225,7 +224,7 @@ fn pour_sheet(
 ) -> u32
     requires { length text.now ≤ 4294967295 }
     ensures { SheetPoured (sheet_with alphabet.grammar markers.now delims.now (regions
-        (gram_by alphabet fences.now rows.now) text.now) text.now) alphabet.left
+        (gram_by alphabet fences.now rows.now) text.now) text.now)
         (record { list = out.old; answer = answer.old })
         (record { list = out.new; answer = answer.new }) result }
 {
@@ -237,7 +236,7 @@ fn pour_sheet(
             next: 0,
         },
     };
-    if 2 < reply::room_of(answer.len()) {
+    if 1 < reply::room_of(answer.len()) {
         if fits(
             walk,
             out.len(),
@@ -249,7 +248,7 @@ fn pour_sheet(
             rows,
         ) {
             let found = write_items(walk, text, markers, delims, alphabet, fences, rows, out);
-            let all = [found, alphabet.left];
+            let all = [found];
             return reply::values(&all, answer);
         }
         return 3;
@@ -287,17 +286,6 @@ fn by_columns(
           };
         }))
         text.now) text.now)
-        (left_out (columns_in (record {
-          fence_bytes = fences.now;
-          fence_mins = mins.now;
-          inline = record {
-            sym_bytes = symmetric.now;
-            sym_counts = times.now;
-            openers = openers.now;
-            closers = closers.now;
-            open_counts = counts.now;
-          };
-        })))
         (record { list = out.old; answer = answer.old })
         (record { list = out.new; answer = answer.new }) result }
 {
@@ -320,8 +308,7 @@ fn by_columns(
 
 // The work sheet of a text by rules given as columns, as building takes them, and by the accepted marker and delimiter bytes: the items
 // whose marker or delimiter is in none of the regions that building finds. Item k goes to bytes 20k to 20k + 19 of `out`, and the answer is how
-// many there are, and how many bytes that open a region were left out of the search. A refusal (1 the text is too long, 6 columns differ, 3
-// too little room) changes nothing.
+// many there are. A refusal (1 the text is too long, 6 columns differ, 3 too little room) changes nothing.
 pub fn sheet_columns(
     text: &[u8],
     eol: u8,

@@ -203,7 +203,7 @@ impl Sheet {
 }
 impl Row for Sheet {
     fn ours(&mut self, text: &[u8], sink: &mut impl Sink) {
-        let mut answer = [0u32; 3];
+        let mut answer = [0u32; 2];
         let (out, lent) = (bytes(&mut self.list), bytes(&mut answer));
         #[rustfmt::skip]
         let refusal = unsafe {
@@ -263,7 +263,7 @@ fn numbered(text: &[u8]) -> impl Iterator<Item = ((u32, u8), Span)> + '_ {
 
 /// Builds by the panel's entry, and gives the count.
 fn built(text: &[u8], list: &mut [u32]) -> usize {
-    let mut answer = [0u32; 3];
+    let mut answer = [0u32; 2];
     let (out, lent) = (bytes(list), bytes(&mut answer));
     #[rustfmt::skip]
     let refusal = unsafe {

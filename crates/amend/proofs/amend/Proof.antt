@@ -1,17 +1,11 @@
 -- `amend` meets its contract. Assumes nothing.
 use borrow.Author.Rules.{rules}
-use Rattle.amend.specs.AmendedLaws.{ready_told, amended-refused, amended_settled}
+use Rattle.amend.specs.AmendedLaws.{ready_told, amended_refused, amended_settled}
 use Rattle.amend.proofs.amend.Statement.{statement}
 use Rattle.amend.proofs.amend.Tie as tie
 
-of-requires : tie.Need-of-requires
-of-requires c κs = search rules
-
 columns-differ-requires : tie.Need-columns-differ-requires
 columns-differ-requires c κs = search rules
-
-is-barred-requires : tie.Need-is-barred-requires
-is-barred-requires c κs = search rules
 
 marks-line-end-requires : tie.Need-marks-line-end-requires
 marks-line-end-requires c κs = search rules
@@ -25,6 +19,9 @@ enum-known-r c = search rules
 enum_told : tie.Need-enum-told
 enum_told c = search rules
 
+of-requires : tie.Need-of-requires
+of-requires c κs = search rules
+
 fence-table-requires : tie.Need-fence-table-requires
 fence-table-requires c κs = search rules
 
@@ -32,10 +29,10 @@ rule-rows-requires : tie.Need-rule-rows-requires
 rule-rows-requires c κs = search rules
 
 settle-requires : tie.Need-settle-requires
-settle-requires c κs = search (ready_told, c.before.before.before.before.before.enum_told.given, c.before.before.before.before.before.before.before.judge.ensures)
+settle-requires c κs = search (ready_told, c.before.before.before.before.before.before.enum_told.given, c.before.before.before.before.before.before.before.before.judge.ensures)
 
 returns : tie.Need-returns
-returns c = search amended-refused
+returns c = search amended_refused
 
 same_length : tie.Need-same-length
 same_length c = search rules
@@ -47,13 +44,12 @@ pub amend-spec : {M : Type 1} → statement M
 amend-spec =
     tie.close
     (tie.spec
-    of-requires
     columns-differ-requires
-    is-barred-requires
     marks-line-end-requires
     judge-requires
     enum-known-r
     enum_told
+    of-requires
     fence-table-requires
     rule-rows-requires
     settle-requires

@@ -1,18 +1,12 @@
 -- `amend_columns` meets its contract. Assumes nothing.
 use borrow.Author.Rules.{rules}
 use Rattle.amend.specs.AmendedLaws.{ready_told}
-use Rattle.amending.specs.AmendingLaws.{bytes_refused, bytes_settled, own-grammar}
+use Rattle.amending.specs.AmendingLaws.{bytes_refused, bytes_settled}
 use Rattle.amending.proofs.amend_columns.Statement.{statement}
 use Rattle.amending.proofs.amend_columns.Tie as tie
 
-of-requires : tie.Need-of-requires
-of-requires c κs = search rules
-
 columns-differ-requires : tie.Need-columns-differ-requires
 columns-differ-requires c κs = search rules
-
-is-barred-requires : tie.Need-is-barred-requires
-is-barred-requires c κs = search rules
 
 marks-line-end-requires : tie.Need-marks-line-end-requires
 marks-line-end-requires c κs = search rules
@@ -30,7 +24,7 @@ enum_told : tie.Need-enum-told
 enum_told c = search rules
 
 with-columns-requires : tie.Need-with-columns-requires
-with-columns-requires c κs = search (ready_told, own-grammar, c.before.before.enum_told.given, c.before.before.before.before.judge.ensures, c.before.before.before.before.before.before.before.before.of.ensures)
+with-columns-requires c κs = search (ready_told, c.before.before.enum_told.given, c.before.before.before.before.judge.ensures)
 
 returns : tie.Need-returns
 returns c = search bytes_refused
@@ -48,9 +42,7 @@ pub amend-columns-spec : {M : Type 1} → statement M
 amend-columns-spec =
     tie.close
     (tie.spec
-    of-requires
     columns-differ-requires
-    is-barred-requires
     marks-line-end-requires
     judge-requires
     enum-known-r

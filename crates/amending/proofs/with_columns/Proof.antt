@@ -4,6 +4,9 @@ use Rattle.amending.specs.AmendingLaws.{settled_columns}
 use Rattle.amending.proofs.with_columns.Statement.{statement}
 use Rattle.amending.proofs.with_columns.Tie as tie
 
+of-requires : tie.Need-of-requires
+of-requires c κs = search rules
+
 fence-table-requires : tie.Need-fence-table-requires
 fence-table-requires c κs = search rules
 
@@ -26,6 +29,7 @@ pub with-columns-spec : {M : Type 1} → statement M
 with-columns-spec =
     tie.close
     (tie.spec
+    of-requires
     fence-table-requires
     rule-rows-requires
     settle-requires

@@ -4,10 +4,10 @@ use Rattle.amends.proofs.of_cuts.Statement.{statement}
 use Rattle.amends.proofs.of_cuts.Tie as tie
 
 abbrev invariant-loop : tie.invariant-loop
-invariant-loop way old list first second tally₀ left₀ tally left = Unit {0}
+invariant-loop old list first second tally₀ left₀ tally left = Unit {0}
 
 abbrev decreases-loop : tie.decreases-loop
-decreases-loop way old list first second tally₀ left₀ tally left = left
+decreases-loop old list first second tally₀ left₀ tally left = left
 
 loop-holds : tie.Need-loop-init invariant-loop decreases-loop
 loop-holds c = search rules

@@ -5,10 +5,10 @@ use Rattle.amends.proofs.of_first.Statement.{statement}
 use Rattle.amends.proofs.of_first.Tie as tie
 
 abbrev invariant-loop : tie.invariant-loop
-invariant-loop way old list first tally₀ second₀ tally second = Unit {0}
+invariant-loop old list first tally₀ second₀ tally second = Unit {0}
 
 abbrev decreases-loop : tie.decreases-loop
-decreases-loop way old list first tally₀ second₀ tally second = 6 - second
+decreases-loop old list first tally₀ second₀ tally second = 6 - second
 
 returns : tie.Need-returns invariant-loop decreases-loop
 returns c = search rules

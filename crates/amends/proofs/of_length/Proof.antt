@@ -4,10 +4,10 @@ use Rattle.amends.proofs.of_length.Statement.{statement}
 use Rattle.amends.proofs.of_length.Tie as tie
 
 abbrev invariant-loop : tie.invariant-loop
-invariant-loop way length tally₀ left₀ tally left = Unit {0}
+invariant-loop length tally₀ left₀ tally left = Unit {0}
 
 abbrev decreases-loop : tie.decreases-loop
-decreases-loop way length tally₀ left₀ tally left = left
+decreases-loop length tally₀ left₀ tally left = left
 
 new-requires : tie.Need-new-requires invariant-loop decreases-loop
 new-requires c κs = search rules
@@ -23,9 +23,6 @@ sub-left c = search rules
 
 text-of-requires : tie.Need-text-of-requires invariant-loop decreases-loop
 text-of-requires c κs = search rules
-
-before-requires : tie.Need-before-requires invariant-loop decreases-loop
-before-requires c κs = search rules
 
 built-requires : tie.Need-built-requires invariant-loop decreases-loop
 built-requires c κs = search rules
@@ -53,7 +50,6 @@ of-length-spec =
     loop-holds
     sub-left
     text-of-requires
-    before-requires
     built-requires
     of-text-requires
     loop-less

@@ -5,10 +5,10 @@ use Rattle.amends.proofs.of_text.Statement.{statement}
 use Rattle.amends.proofs.of_text.Tie as tie
 
 abbrev invariant-loop : tie.invariant-loop
-invariant-loop way old list tally₀ first₀ tally first = Unit {0}
+invariant-loop old list tally₀ first₀ tally first = Unit {0}
 
 abbrev decreases-loop : tie.decreases-loop
-decreases-loop way old list tally₀ first₀ tally first = 6 - first
+decreases-loop old list tally₀ first₀ tally first = 6 - first
 
 loop-holds : tie.Need-loop-init invariant-loop decreases-loop
 loop-holds c = search rules

@@ -1,6 +1,6 @@
 -- `turn` meets its contract: its three ways out. Assumes nothing.
 use borrow.Author.Rules.{rules}
-use Rattle.sheet.specs.ShowLaws.{turned_end, item-ended, turned_hidden, turned_shown}
+use Rattle.sheet.specs.ShowLaws.{turned_end, item_ended, turned_hidden, turned_shown}
 use Rattle.sheet.proofs.turn.Statement.{statement}
 use Rattle.sheet.proofs.turn.Tie as tie
 
@@ -14,7 +14,7 @@ enum-known-head : tie.Need-enum-known-head
 enum-known-head c = search rules
 
 hides-requires : tie.Need-hides-requires
-hides-requires c κs = search (item-ended, rules)
+hides-requires c κs = search (item_ended, rules)
 
 returns : tie.Need-returns
 returns c = search turned_hidden

@@ -4,10 +4,10 @@ use Rattle.amends.proofs.draws.all.Statement.{statement}
 use Rattle.amends.proofs.draws.all.Tie as tie
 
 abbrev invariant-loop : tie.invariant-loop
-invariant-loop way tally₀ draw₀ left₀ tally draw left = Unit {0}
+invariant-loop tally₀ draw₀ left₀ tally draw left = Unit {0}
 
 abbrev decreases-loop : tie.decreases-loop
-decreases-loop way tally₀ draw₀ left₀ tally draw left = left
+decreases-loop tally₀ draw₀ left₀ tally draw left = left
 
 new-requires : tie.Need-new-requires invariant-loop decreases-loop
 new-requires c κs = search rules

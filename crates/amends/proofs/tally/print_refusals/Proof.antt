@@ -8,7 +8,7 @@ abbrev invariant-loop : tie.invariant-loop
 invariant-loop tally i₀ i = Unit {0}
 
 abbrev decreases-loop : tie.decreases-loop
-decreases-loop tally i₀ i = 12 - i
+decreases-loop tally i₀ i = 10 - i
 
 loop-holds : tie.Need-loop-init invariant-loop decreases-loop
 loop-holds c = search rules

@@ -3,7 +3,6 @@
 -- Assumes nothing.
 use Prim.Native.Nat.{ℕ, zero, suc, ◌+◌, ◌<◌, ◌^◌, min}
 use mathlib.Core.Path.{◌≡◌, refl, sym, ap, subst}
-use mathlib.Core.Bool.{Bool}
 use mathlib.Core.List.{List, [], ◌∷◌}
 use native.Mathlib.Omega.{arith}
 use lib.Dec.{lit<}
@@ -12,7 +11,7 @@ use lib.Seq.{length-take-le}
 use seplogic.Ra.Ura.{Ura}
 use seplogic.Ra.TreeShare.{full_share}
 use mir.Syntax.{Ty, named, erased, imm, w64, ty_array, ty_int, ty_ref}
-use mir.Val.{Val, vint, vbool}
+use mir.Val.{Val, vint}
 use base.Logic.{SProp, ent, emp, via, fst∗, snd∗, ex_e, id⊢}
 use base.Fml.{Lft, GName, Share, Fml, ftrue, fsep, flft, flent, fat}
 use prog.Memory.{Memory}
@@ -35,8 +34,8 @@ use denote.ArrayMemory.{Array-apart, Array-whole}
 use denote.Index.{place}
 use denote.Lend.{lends_shr_slice}
 use denote.Memory.{pointee, mem, part_at, part_of, cell_at, shares}
-use denote.Plain.{uint_vals, uint_Tells, uint_Makes, uint_Lawful, bool_vals, bool_Tells, bool_Makes}
-use denote.Builtin.{u8, u32, usize, bool}
+use denote.Plain.{uint_vals, uint_Tells, uint_Makes, uint_Lawful}
+use denote.Builtin.{u8, u32, usize}
 use denote.Ref.{Bor}
 use denote.Signature.{plain}
 use denote.Slice.{Room, slice_ty, slice_val, ShrSlice, MutSlice, finally, shr_slice_vals, shr_slice_Tells, mut_slice_Tells, shr_slice_Lawful, mut_slice_Lawful, shr_slice_copy}
@@ -53,13 +52,13 @@ use denote.Triple.Table.{entered, cited}
 use denote.Triple.Walked.{says, Stays, stay_none, stay_none_slice, gave_slice, walk_of, Goes-none, Goes-none_slice, Goes-gave_slice, Walks, ends_at, walked, walk_Meets}
 use denote.Exit.{yes}
 use Rattle.search.specs.Promise.{Gives}
-use Rattle.common.specs.Refusals.{told_made}
+use Rattle.common.specs.Refusals.{told}
 use Rattle.common.specs.declared.grammar.Grammar.{Grammar}
-use Rattle.common.specs.declared.refusal.Made.{Made}
+use Rattle.common.specs.declared.refusal.Answer.{Answer}
 use Rattle.common.specs.contracts.grammar.Grammar as G
 use Rattle.common.proofs.grammar.Grammar.TheLaws as G'
-use Rattle.common.specs.contracts.refusal.Made as S
-use Rattle.common.proofs.refusal.Made.TheLaws as S'
+use Rattle.common.specs.contracts.refusal.Answer as S
+use Rattle.common.proofs.refusal.Answer.TheLaws as S'
 use Rattle.rules.specs.Columns.{columns}
 use Rattle.context.specs.Build.{Built}
 use Rattle.rules.specs.Records.{rule_bytes, rule_mins}
@@ -82,7 +81,7 @@ use Rattle.context.proofs.records.build_few.Code as code
 
 abbrev stayed : Stays (me.ended).signature.params (me.ended).kept
 stayed =
-    (stay_none (λ _. bool) yes, (stay_none_slice (0 ∷ []) tt (plain (λ _. u8)) yes, (stay_none (λ _. G.the_row) yes, (stay_none (λ _. Array R.the_row 16) yes, (stay_none (λ _. usize) yes, (stay_none_slice (1 ∷ []) tt (plain (λ _. u8)) yes, (stay_none_slice (2 ∷ []) tt (plain (λ _. u32)) yes, (stay_none_slice (3 ∷ []) tt (plain (λ _. u8)) yes, (stay_none_slice (4 ∷ []) tt (plain (λ _. u8)) yes, (stay_none_slice (5 ∷ []) tt (plain (λ _. u32)) yes, (gave_slice (6 ∷ []) tt (plain (λ _. u32)), tt)))))))))))
+    (stay_none_slice (0 ∷ []) tt (plain (λ _. u8)) yes, (stay_none (λ _. G.the_row) yes, (stay_none (λ _. Array R.the_row 16) yes, (stay_none (λ _. usize) yes, (stay_none_slice (1 ∷ []) tt (plain (λ _. u8)) yes, (stay_none_slice (2 ∷ []) tt (plain (λ _. u32)) yes, (stay_none_slice (3 ∷ []) tt (plain (λ _. u8)) yes, (stay_none_slice (4 ∷ []) tt (plain (λ _. u8)) yes, (stay_none_slice (5 ∷ []) tt (plain (λ _. u32)) yes, (gave_slice (6 ∷ []) tt (plain (λ _. u32)), tt))))))))))
 
 module _ {M : Type 1} {𝓤 : Ura M} (𝓛 : Logic 𝓤) (mem : Memory → SProp 𝓤) (run : Routine → Fun 𝓤) where
   -- the contracts that the walk cites
@@ -110,7 +109,7 @@ module _ {M : Type 1} {𝓤 : Ura M} (𝓛 : Logic 𝓤) where
       qed 𝓛 (‵ (Row (r ∷ take m xs) b o) ∷ ‵ (Row (drop_l m xs) b (place 2 (o + 2) m)) ∷ []) ∵ fsplit ! $ move ! (1 ∷ 2 ∷ []) $ use2 𝓛 (‵ (Row xs b (o + 2))) (rejoined m xs b (o + 2)) $ move ! (1 ∷ 0 ∷ []) $ fjoin ! $ done !
 
 module _ {M : Type 1} {𝓤 : Ura M} (𝓛 : Logic 𝓤) (at_mem : Memory → SProp 𝓤) (run : Routine → Fun 𝓤) (κ₀ κ₁ κ₂ κ₃ κ₄ κ₅ κ₆ : Lft) (q₀ q₁ q₂ q₃ q₄ q₅ q₆ : Share)
-    (bounds : AllOutlive 7 (me.signature).outlives (κ₀, (κ₁, (κ₂, (κ₃, (κ₄, (κ₅, (κ₆, tt)))))))) (strict : Bool) (s : Bor (List ℕ)) (g : Grammar) (rs : List FenceRule) (used : ℕ) (y t o k n x : Bor (List ℕ)) where
+    (bounds : AllOutlive 7 (me.signature).outlives (κ₀, (κ₁, (κ₂, (κ₃, (κ₄, (κ₅, (κ₆, tt)))))))) (s : Bor (List ℕ)) (g : Grammar) (rs : List FenceRule) (used : ℕ) (y t o k n x : Bor (List ℕ)) where
   -- the machine values of the runs, of the grammar and of the records
   open 𝓛 use {H}
 
@@ -123,11 +122,11 @@ module _ {M : Type 1} {𝓤 : Ura M} (𝓛 : Logic 𝓤) (at_mem : Memory → SP
   abbrev avs : List Val
   avs = array_vals (LL.vals R.the_type R'.the_laws) rs
 
-  abbrev a : Bool × (Bor (List ℕ) × (Grammar × (List FenceRule × (ℕ × (Bor (List ℕ) × (Bor (List ℕ) × (Bor (List ℕ) × (Bor (List ℕ) × (Bor (List ℕ) × (Bor (List ℕ) × Unit {0}))))))))))
-  a = (strict, (s, (g, (rs, (used, (y, (t, (o, (k, (n, (x, tt)))))))))))
+  abbrev a : Bor (List ℕ) × (Grammar × (List FenceRule × (ℕ × (Bor (List ℕ) × (Bor (List ℕ) × (Bor (List ℕ) × (Bor (List ℕ) × (Bor (List ℕ) × (Bor (List ℕ) × Unit {0})))))))))
+  a = (s, (g, (rs, (used, (y, (t, (o, (k, (n, (x, tt))))))))))
 
-  abbrev vals : List Val × (List Val × (List Val × (List Val × (List Val × (List Val × (List Val × (List Val × (List Val × (List Val × (List Val × Unit {0}))))))))))
-  vals = (vbool strict ∷ [], (val s ∷ [], (gv ∷ [], (avs, (vint w64 used ∷ [], (val y ∷ [], (val t ∷ [], (val o ∷ [], (val k ∷ [], (val n ∷ [], (val x ∷ [], tt)))))))))))
+  abbrev vals : List Val × (List Val × (List Val × (List Val × (List Val × (List Val × (List Val × (List Val × (List Val × (List Val × Unit {0})))))))))
+  vals = (val s ∷ [], (gv ∷ [], (avs, (vint w64 used ∷ [], (val y ∷ [], (val t ∷ [], (val o ∷ [], (val k ∷ [], (val n ∷ [], (val x ∷ [], tt))))))))))
 
   abbrev Post : Val → SProp 𝓤
   Post = (walk_of 𝓛 me.ended stayed (me.clauses 𝓛 at_mem run)).post (((κ₀, (κ₁, (κ₂, (κ₃, (κ₄, (κ₅, (κ₆, tt))))))), (q₀, (q₁, (q₂, (q₃, (q₄, (q₅, (q₆, tt))))))), bounds, a, vals), tt)
@@ -172,8 +171,8 @@ module _ {M : Type 1} {𝓤 : Ura M} (𝓛 : Logic 𝓤) (at_mem : Memory → SP
       nothing ! $ move ! (1 ∷ 0 ∷ []) $ fjoin ! $ move ! (1 ∷ 0 ∷ []) $ fjoin ! $ move ! (1 ∷ 0 ∷ []) $ fjoin ! $ move ! (1 ∷ 0 ∷ []) $ fjoin ! $ move ! (1 ∷ 0 ∷ []) $ fjoin ! $ done !
 
   -- what is promised of an answer and of the list that is left
-  abbrev Right : List FenceRule → Made → List ℕ → Type 0
-  Right rules r zs = Built strict g (columns (rule_bytes rules) (rule_mins rules) y.now t.now o.now k.now n.now) s.now x.now zs (told_made r)
+  abbrev Right : List FenceRule → Answer → List ℕ → Type 0
+  Right rules r zs = Built g (columns (rule_bytes rules) (rule_mins rules) y.now t.now o.now k.now n.now) s.now x.now zs (told r)
 
   module _ (pg : Is G.the_row g (gv ∷ [])) (pa : Is (Array R.the_row 16) rs avs) (used-fits : used < 2 ^ 64) where
     sixteen : length rs ≡ 16
@@ -191,18 +190,18 @@ module _ {M : Type 1} {𝓤 : Ura M} (𝓛 : Logic 𝓤) (at_mem : Memory → SP
     les-said : (m : ℕ) → ent 𝓤 (ensured 𝓛 les.ended (les.clauses 𝓛 at_mem run) tt (used, (16, tt)) tt m) (fact 𝓤 (Gives (min used 16) m))
     les-said m = ex_e 𝓤 _ (λ ws. snd∗ 𝓤 (sem 𝓛 (lasts les.ended tt (used, (16, tt)) ws)) (fact 𝓤 (Gives (min used 16) m)))
 
-    exits : (r : Made) (w : Val) (zs : List ℕ) → Right (take used rs) r zs → length zs ≡ length x.now →
+    exits : (r : Answer) (w : Val) (zs : List ℕ) → Right (take used rs) r zs → length zs ≡ length x.now →
         ent 𝓤 (⋆ 𝓛 (‵ ((S.the_row).own_val r (w ∷ [])) ∷ (‵ (flft κ₀ q₀) ⊛ Toks) ∷ ‵ (finally u32 x.name zs) ∷ ‵ Five ∷ ‵ OwnS ∷ [])) (Post w)
     exits r w zs e l =
         qed 𝓛 (‵ ((S.the_row).own_val r (w ∷ [])) ∷ (‵ (flft κ₀ q₀) ⊛ Toks) ∷ ‵ (finally u32 x.name zs) ∷ ‵ Five ∷ ‵ OwnS ∷ []) ∵
-        suffices ! _ (ends_at 𝓛 me.ended stayed (me.clauses 𝓛 at_mem run) (((κ₀, (κ₁, (κ₂, (κ₃, (κ₄, (κ₅, (κ₆, tt))))))), (q₀, (q₁, (q₂, (q₃, (q₄, (q₅, (q₆, tt))))))), bounds, a, vals), tt) w r (tt, (tt, (tt, (tt, (tt, (tt, (tt, (tt, (tt, (tt, (zs, tt))))))))))) (tt, (tt, (tt, (tt, (tt, (tt, (tt, (tt, (tt, (tt, (l, tt)))))))))))) $ says ! e $
+        suffices ! _ (ends_at 𝓛 me.ended stayed (me.clauses 𝓛 at_mem run) (((κ₀, (κ₁, (κ₂, (κ₃, (κ₄, (κ₅, (κ₆, tt))))))), (q₀, (q₁, (q₂, (q₃, (q₄, (q₅, (q₆, tt))))))), bounds, a, vals), tt) w r (tt, (tt, (tt, (tt, (tt, (tt, (tt, (tt, (tt, (zs, tt)))))))))) (tt, (tt, (tt, (tt, (tt, (tt, (tt, (tt, (tt, (l, tt))))))))))) $ says ! e $
         move ! (1 ∷ []) $ frame ! $
         -- the list at exit behind the inline columns
         nothing ! $ move ! (3 ∷ []) $ fsplit ! $ move ! (1 ∷ []) $ fsplit ! $ move ! (1 ∷ []) $ fsplit ! $ move ! (1 ∷ []) $ fsplit ! $ move ! (1 ∷ []) $ fsplit ! $
         move ! (8 ∷ 6 ∷ []) $ fjoin ! $ move ! (1 ∷ 0 ∷ []) $ fjoin ! $ move ! (2 ∷ 0 ∷ []) $ fjoin ! $ move ! (2 ∷ 0 ∷ []) $ fjoin ! $ move ! (2 ∷ 0 ∷ []) $ fjoin ! $ move ! (2 ∷ 0 ∷ []) $ fjoin ! $
-        -- before them the number, the records, the grammar, the text and whether it is strict
+        -- before them the number, the records, the grammar and the text
         owned ! usize (Is usize) (uint_Makes 𝓛 w64) used _ (refl, used-fits) $ fjoin ! $ owned ! (Array R.the_row 16) (Is (Array R.the_row 16)) (Array-Makes 𝓛 R.the_row ((LL.makes R.the_type R'.the_plain) 𝓛) 16) rs _ pa $ fjoin ! $
-        owned ! G.the_row (Is G.the_row) ((LL.makes G.the_type G'.the_plain) 𝓛) g _ pg $ fjoin ! $ move ! (3 ∷ 0 ∷ []) $ fjoin ! $ owned ! bool (Is bool) (bool_Makes 𝓛) strict _ refl $ fjoin ! $ frame ! $ drop ! $ done !
+        owned ! G.the_row (Is G.the_row) ((LL.makes G.the_type G'.the_plain) 𝓛) g _ pg $ fjoin ! $ move ! (3 ∷ 0 ∷ []) $ fjoin ! $ frame ! $ drop ! $ done !
 
     -- the local that holds the records, as a row, and back
     module _ (l : ℕ) where
@@ -238,17 +237,17 @@ module _ {M : Type 1} {𝓤 : Ura M} (𝓛 : Logic 𝓤) (at_mem : Memory → SP
         abbrev κs : Lft × (Lft × (Lft × (Lft × (Lft × (Lft × (Lft × (Lft × Unit {0})))))))
         κs = (κ₀, (α ∷ [], (κ₁, (κ₂, (κ₃, (κ₄, (κ₅, (κ₆, tt))))))))
 
-        abbrev args : Bool × (Bor (List ℕ) × (Grammar × (Bor (List FenceRule) × (Bor (List ℕ) × (Bor (List ℕ) × (Bor (List ℕ) × (Bor (List ℕ) × (Bor (List ℕ) × (Bor (List ℕ) × Unit {0})))))))))
-        args = (strict, (s, (g, (lent, (y, (t, (o, (k, (n, (x, tt))))))))))
+        abbrev args : Bor (List ℕ) × (Grammar × (Bor (List FenceRule) × (Bor (List ℕ) × (Bor (List ℕ) × (Bor (List ℕ) × (Bor (List ℕ) × (Bor (List ℕ) × (Bor (List ℕ) × Unit {0}))))))))
+        args = (s, (g, (lent, (y, (t, (o, (k, (n, (x, tt)))))))))
 
         abbrev to-br : (Br 𝓛 at_mem run).Ghost
-        to-br = ((κs, (q₀, (full_share, (q₁, (q₂, (q₃, (q₄, (q₅, (q₆, tt)))))))), tt, args, (vbool strict ∷ [], (val s ∷ [], (gv ∷ [], (rv ∷ [], (val y ∷ [], (val t ∷ [], (val o ∷ [], (val k ∷ [], (val n ∷ [], (val x ∷ [], tt))))))))))), tt)
+        to-br = ((κs, (q₀, (full_share, (q₁, (q₂, (q₃, (q₄, (q₅, (q₆, tt)))))))), tt, args, (val s ∷ [], (gv ∷ [], (rv ∷ [], (val y ∷ [], (val t ∷ [], (val o ∷ [], (val k ∷ [], (val n ∷ [], (val x ∷ [], tt)))))))))), tt)
 
         abbrev OwnR : Fml
         OwnR = (ShrSlice (named 1) (α ∷ []) R.the_row).own_val lent (rv ∷ [])
 
         abbrev OwnB : Fml
-        OwnB = fsep (bool.own_val strict (vbool strict ∷ [])) (fsep OwnS (fsep ((G.the_row).own_val g (gv ∷ [])) (fsep OwnR Six)))
+        OwnB = fsep OwnS (fsep ((G.the_row).own_val g (gv ∷ [])) (fsep OwnR Six))
 
         goes-to-br : ent 𝓤 (⋆ 𝓛 ((‵ (flft κ₀ q₀) ⊛ ‵ (flft (α ∷ []) full_share) ⊛ Toks) ∷ ‵ OwnB ∷ [])) ((Br 𝓛 at_mem run).pre to-br)
         goes-to-br = qed 𝓛 ((‵ (flft κ₀ q₀) ⊛ ‵ (flft (α ∷ []) full_share) ⊛ Toks) ∷ ‵ OwnB ∷ []) ∵ join ! $ frame ! $ done !
@@ -269,15 +268,15 @@ module _ {M : Type 1} {𝓤 : Ura M} (𝓛 : Logic 𝓤) (at_mem : Memory → SP
     module _ (C : Calls 𝓤 H) (Λ : Loops 𝓤 H) (fm : FmC 𝓤 H 𝓛.laws C) (known-les : Triple 𝓤 (C #les) (Les 𝓛 at_mem run)) (known-br : Triple 𝓤 (C #br) (Br 𝓛 at_mem run)) where
       walk : Is (ShrSlice (named 0) κ₀ u8) s (val s ∷ []) → Is (ShrSlice (named 1) κ₁ u8) y (val y ∷ []) → Is (ShrSlice (named 2) κ₂ u32) t (val t ∷ [])
           → Is (ShrSlice (named 3) κ₃ u8) o (val o ∷ []) → Is (ShrSlice (named 4) κ₄ u8) k (val k ∷ []) → Is (ShrSlice (named 5) κ₅ u32) n (val n ∷ []) → Is (MutSlice (named 6) κ₆ u32) x (val x ∷ [])
-          → ent 𝓤 (on_entry 𝓛 me.signature (κ₀, (κ₁, (κ₂, (κ₃, (κ₄, (κ₅, (κ₆, tt))))))) (q₀, (q₁, (q₂, (q₃, (q₄, (q₅, (q₆, tt))))))) a vals) (WpFn 𝓤 H C Λ code.function (vbool strict ∷ val s ∷ gv ∷ only avs ∷ vint w64 used ∷ val y ∷ val t ∷ val o ∷ val k ∷ val n ∷ val x ∷ []) Post)
+          → ent 𝓤 (on_entry 𝓛 me.signature (κ₀, (κ₁, (κ₂, (κ₃, (κ₄, (κ₅, (κ₆, tt))))))) (q₀, (q₁, (q₂, (q₃, (q₄, (q₅, (q₆, tt))))))) a vals) (WpFn 𝓤 H C Λ code.function (val s ∷ gv ∷ only avs ∷ vint w64 used ∷ val y ∷ val t ∷ val o ∷ val k ∷ val n ∷ val x ∷ []) Post)
       walk ps py pt po pk pn px =
-          qed 𝓛 ((‵ (flft κ₀ q₀) ⊛ ‵ (flft κ₁ q₁) ⊛ ‵ (flft κ₂ q₂) ⊛ ‵ (flft κ₃ q₃) ⊛ ‵ (flft κ₄ q₄) ⊛ ‵ (flft κ₅ q₅) ⊛ ‵ (flft κ₆ q₆) ⊛ ‵ ftrue) ∷ ‵ (owns (bool ∷ ShrSlice (named 0) κ₀ u8 ∷ G.the_row ∷ Array R.the_row 16 ∷ usize ∷ ShrSlice (named 1) κ₁ u8 ∷ ShrSlice (named 2) κ₂ u32 ∷ ShrSlice (named 3) κ₃ u8 ∷ ShrSlice (named 4) κ₄ u8 ∷ ShrSlice (named 5) κ₅ u32 ∷ MutSlice (named 6) κ₆ u32 ∷ []) a vals) ∷ []) ∵
-          enter ! C Λ code.function (vbool strict ∷ val s ∷ gv ∷ only avs ∷ vint w64 used ∷ val y ∷ val t ∷ val o ∷ val k ∷ val n ∷ val x ∷ []) _ $
-          alloc1 ! (λ l0. alloc1 ! (λ l1. alloc1 ! (λ l2. alloc1 ! (λ l3. alloc1 ! (λ l4. alloc1 ! (λ l5. alloc1 ! (λ l6. alloc1 ! (λ l7. alloc1 ! (λ l8. alloc1 ! (λ l9. alloc1 ! (λ l10. alloc1 ! (λ l11. alloc1 ! (λ l12. alloc1 ! (λ l13. alloc1 ! (λ l14. alloc1 ! (λ l15. alloc1 ! (λ l16. alloc1 ! (λ l17. alloc0 ! $ params1 ! $
-          pass1 ! (init ! 32 refl (tt, tt)) $ pass1 ! (init ! 30 refl ((shr_slice_Lawful 𝓛 (named 0) κ₀ u8).typed s (val s ∷ []) ps).0) $ pass1 ! (init ! 28 refl ((LL.lawful G.the_type G'.the_laws 𝓛).typed g _ pg).0) $ pass1 ! (init ! 26 refl ((Array-Lawful 𝓛 R.the_row (LL.lawful R.the_type R'.the_laws 𝓛) 16).typed rs _ pa).0) $ pass1 ! (init ! 24 refl (tt, record { fits = used-fits })) $
+          qed 𝓛 ((‵ (flft κ₀ q₀) ⊛ ‵ (flft κ₁ q₁) ⊛ ‵ (flft κ₂ q₂) ⊛ ‵ (flft κ₃ q₃) ⊛ ‵ (flft κ₄ q₄) ⊛ ‵ (flft κ₅ q₅) ⊛ ‵ (flft κ₆ q₆) ⊛ ‵ ftrue) ∷ ‵ (owns (ShrSlice (named 0) κ₀ u8 ∷ G.the_row ∷ Array R.the_row 16 ∷ usize ∷ ShrSlice (named 1) κ₁ u8 ∷ ShrSlice (named 2) κ₂ u32 ∷ ShrSlice (named 3) κ₃ u8 ∷ ShrSlice (named 4) κ₄ u8 ∷ ShrSlice (named 5) κ₅ u32 ∷ MutSlice (named 6) κ₆ u32 ∷ []) a vals) ∷ []) ∵
+          enter ! C Λ code.function (val s ∷ gv ∷ only avs ∷ vint w64 used ∷ val y ∷ val t ∷ val o ∷ val k ∷ val n ∷ val x ∷ []) _ $
+          alloc1 ! (λ l0. alloc1 ! (λ l1. alloc1 ! (λ l2. alloc1 ! (λ l3. alloc1 ! (λ l4. alloc1 ! (λ l5. alloc1 ! (λ l6. alloc1 ! (λ l7. alloc1 ! (λ l8. alloc1 ! (λ l9. alloc1 ! (λ l10. alloc1 ! (λ l11. alloc1 ! (λ l12. alloc1 ! (λ l13. alloc1 ! (λ l14. alloc1 ! (λ l15. alloc1 ! (λ l16. alloc0 ! $ params1 ! $
+          pass1 ! (init ! 30 refl ((shr_slice_Lawful 𝓛 (named 0) κ₀ u8).typed s (val s ∷ []) ps).0) $ pass1 ! (init ! 28 refl ((LL.lawful G.the_type G'.the_laws 𝓛).typed g _ pg).0) $ pass1 ! (init ! 26 refl ((Array-Lawful 𝓛 R.the_row (LL.lawful R.the_type R'.the_laws 𝓛) 16).typed rs _ pa).0) $ pass1 ! (init ! 24 refl (tt, record { fits = used-fits })) $
           pass1 ! (init ! 22 refl ((shr_slice_Lawful 𝓛 (named 1) κ₁ u8).typed y (val y ∷ []) py).0) $ pass1 ! (init ! 20 refl ((shr_slice_Lawful 𝓛 (named 2) κ₂ u32).typed t (val t ∷ []) pt).0) $ pass1 ! (init ! 18 refl ((shr_slice_Lawful 𝓛 (named 3) κ₃ u8).typed o (val o ∷ []) po).0) $
           pass1 ! (init ! 16 refl ((shr_slice_Lawful 𝓛 (named 4) κ₄ u8).typed k (val k ∷ []) pk).0) $ pass1 ! (init ! 14 refl ((shr_slice_Lawful 𝓛 (named 5) κ₅ u32).typed n (val n ∷ []) pn).0) $ pass1 ! (init ! 12 refl ((mut_slice_Lawful 𝓛 (named 6) κ₆ u32).typed x (val x ∷ []) px).0) $ pass0 ! $
-          -- [_17; …; _16; …; _15; …; _14; …; _13; …; _12; …; _11; …; …; _1; …; room for _0; …; the tokens; what the parameters own]
+          -- [_16; …; _15; …; _14; …; _13; …; _12; …; _11; …; _10; …; …; _1; …; room for _0; …; the tokens; what the parameters own]
           assigns ! (of_opd ! (load ! (from ! (stop !)) (look ! 26 refl))) (from ! (stop !)) (init ! 10 refl ((Array-Lawful 𝓛 R.the_row (LL.lawful R.the_type R'.the_laws 𝓛) 16).typed rs _ pa).0) $
           -- how many
           nothing ! $ use1 𝓛 (raw ((Les 𝓛 at_mem run).pre to-les)) goes-to-les $
@@ -285,52 +284,52 @@ module _ {M : Type 1} {𝓤 : Ura M} (𝓛 : Logic 𝓤) (at_mem : Memory → SP
           use1 𝓛 (later (some (λ (m : ℕ). (‵ ftrue ⊛ ‵ (usize.own_val m (c ∷ []))) ⊛ raw (ensured 𝓛 les.ended (les.clauses 𝓛 at_mem run) tt (used, (16, tt)) tt m)))) (id⊢ 𝓤 _) $ await ! tt $ pick ! (λ m.
           split ! $ move ! (1 ∷ []) $ use1 𝓛 (raw (fact 𝓤 (Gives (min used 16) m))) (les-said m) $ heard ! (Gives (min used 16) m) (λ e. split ! $ drop ! $
           peeks ! usize (Is usize) (shows 𝓛 usize) m (c ∷ []) (λ is.
-          land ! (from ! (stop !)) (init ! 9 refl ((uint_Lawful 𝓛 w64).typed m _ is).0) $ rewrite ! 9 (λ (u : Val). ‵ (fat full_share (ty_int w64) l13 0 u)) (ap only is.0) refl $ drop ! $
+          land ! (from ! (stop !)) (init ! 9 refl ((uint_Lawful 𝓛 w64).typed m _ is).0) $ rewrite ! 9 (λ (u : Val). ‵ (fat full_share (ty_int w64) l12 0 u)) (ap only is.0) refl $ drop ! $
           -- the two references
           assigns ! (addr ! (from ! (stop !))) (from ! (stop !)) (init ! 6 refl (tt, tt)) $
           assigns ! (agg ! (and_then ! (load ! (from ! (stop !)) (look ! 6 refl)) (and_then ! (load ! (from ! (stop !)) (look ! 8 refl)) (no_more !)))) (from ! (stop !)) (init ! 4 refl (tt, (tt, (record { fits = is.1 }, tt)))) $
           assigns ! (addr ! (from ! (fld ! refl (hop ! (look_in ! 12 (sub ! 0 refl (whole !))) (stop !))))) (from ! (stop !)) (init ! 2 refl (tt, tt)) $
           assigns ! (agg ! (and_then ! (load ! (from ! (stop !)) (look ! 2 refl)) (and_then ! (load ! (from ! (fld ! refl (stop !))) (look_in ! 12 (sub ! 1 refl (whole !)))) (no_more !)))) (from ! (stop !)) (init ! 0 refl (tt, (tt, (record { fits = px.0.1.0 }, tt)))) $
-          rewrite ! 4 (λ (j : ℕ). ‵ (fat full_share slice-ty l15 0 (slice_val (l12, 0) j))) (part-long m e) refl $
+          rewrite ! 4 (λ (j : ℕ). ‵ (fat full_share slice-ty l14 0 (slice_val (l11, 0) j))) (part-long m e) refl $
           -- the first m records are lent
-          move ! (10 ∷ []) $ use1 𝓛 (‵ ((arr_parts (shares R.the_row) 16).part full_share rs l12 0)) (apart l12) $ fsplit ! $ drop ! $ use1 𝓛 (‵ (Row 𝓛 (take m rs) l12 0) ⊛ ‵ (Row 𝓛 (drop_l m rs) l12 (place 2 0 m))) (parted 𝓛 m rs l12 0) $ split ! $
+          move ! (10 ∷ []) $ use1 𝓛 (‵ ((arr_parts (shares R.the_row) 16).part full_share rs l11 0)) (apart l11) $ fsplit ! $ drop ! $ use1 𝓛 (‵ (Row 𝓛 (take m rs) l11 0) ⊛ ‵ (Row 𝓛 (drop_l m rs) l11 (place 2 0 m))) (parted 𝓛 m rs l11 0) $ split ! $
           feq_i ! ℕ (length (take m rs)) (length (take m rs)) refl $ fjoin ! $ lft_new ! tt (λ α. move ! (1 ∷ []) $
-          use1 𝓛 (later (some (λ (γ : GName). ‵ (OwnR l12 m α γ) ⊛ ‵ (flent (α ∷ []) ((arr_parts (shares R.the_row) (length (take m rs))).part full_share (take m rs) l12 0))))) (lends_shr_slice 𝓛 R.the_row (named 1) (α ∷ []) full_share (take m rs) l12 0 (room m e)) $
+          use1 𝓛 (later (some (λ (γ : GName). ‵ (OwnR l11 m α γ) ⊛ ‵ (flent (α ∷ []) ((arr_parts (shares R.the_row) (length (take m rs))).part full_share (take m rs) l11 0))))) (lends_shr_slice 𝓛 R.the_row (named 1) (α ∷ []) full_share (take m rs) l11 0 (room m e)) $
           await ! tt $ pick ! (λ γ. split ! $
-          -- [the lent records; the lender's part; α's token; the other records; _17; …; _16; …; _15; …; _14; …; _13; …; what frees _12; _11; …; …; room for _0; …; the tokens; what the parameters own]
-          move ! (40 ∷ []) $ fsplit ! $ drop ! $ fsplit ! $ use1 𝓛 (‵ OwnS ⊛ ‵ OwnS) ((shr_slice_copy 𝓛 (named 0) κ₀ u8).twice s (val s ∷ [])) $ split ! $ move ! (2 ∷ []) $ fsplit ! $ move ! (1 ∷ []) $ fsplit ! $ drop ! $ fsplit ! $ drop ! $
-          use1 𝓛 (‵ Six ⊛ ‵ Five) six-leaves $ split ! $ move ! (44 ∷ []) $ split ! $ move ! (9 ∷ 1 ∷ []) $ join ! $ move ! (1 ∷ 0 ∷ []) $ join ! $
-          move ! (6 ∷ 1 ∷ []) $ fjoin ! $ move ! (3 ∷ 0 ∷ []) $ fjoin ! $ move ! (3 ∷ 0 ∷ []) $ fjoin ! $ owned ! bool (Is bool) (bool_Makes 𝓛) strict _ refl $ fjoin ! $ move ! (1 ∷ 0 ∷ []) $ use2 𝓛 (raw ((Br 𝓛 at_mem run).pre (to-br l12 m α γ))) (goes-to-br l12 m α γ) $
-          -- [what build_records asks; the columns'; the text's; the lender's part; the other records; _17; …; _16; …; _15; …; _14; …; _13; …; what frees _12; _11; …; …; room for _0; …]
-          calls_at ! fm (Br 𝓛 at_mem run) known-br (to-br l12 m α γ) (and_then ! (load ! (from ! (stop !)) (look ! 36 refl)) (and_then ! (load ! (from ! (stop !)) (look ! 34 refl)) (and_then ! (load ! (from ! (stop !)) (look ! 32 refl)) (and_then ! (load ! (from ! (stop !)) (look ! 9 refl)) (and_then ! (load ! (from ! (stop !)) (look ! 26 refl)) (and_then ! (load ! (from ! (stop !)) (look ! 24 refl)) (and_then ! (load ! (from ! (stop !)) (look ! 22 refl)) (and_then ! (load ! (from ! (stop !)) (look ! 20 refl)) (and_then ! (load ! (from ! (stop !)) (look ! 18 refl)) (and_then ! (load ! (from ! (stop !)) (look ! 5 refl)) (no_more !))))))))))) (λ w.
-          use1 𝓛 (later (some (λ (r : Made). ((‵ (flft κ₀ q₀) ⊛ ‵ (flft (α ∷ []) full_share) ⊛ Toks) ⊛ ‵ ((S.the_row).own_val r (w ∷ []))) ⊛ raw (ensured 𝓛 br.ended (br.clauses 𝓛 at_mem run) (κs l12 m α γ) (args l12 m α γ) tt r)))) (id⊢ 𝓤 _) $ await ! tt $ pick ! (λ r.
+          -- [the lent records; the lender's part; α's token; the other records; _16; …; _15; …; _14; …; _13; …; _12; …; what frees _11; _10; …; …; room for _0; …; the tokens; what the parameters own]
+          move ! (38 ∷ []) $ fsplit ! $ use1 𝓛 (‵ OwnS ⊛ ‵ OwnS) ((shr_slice_copy 𝓛 (named 0) κ₀ u8).twice s (val s ∷ [])) $ split ! $ move ! (2 ∷ []) $ fsplit ! $ move ! (1 ∷ []) $ fsplit ! $ drop ! $ fsplit ! $ drop ! $
+          use1 𝓛 (‵ Six ⊛ ‵ Five) six-leaves $ split ! $ move ! (42 ∷ []) $ split ! $ move ! (9 ∷ 1 ∷ []) $ join ! $ move ! (1 ∷ 0 ∷ []) $ join ! $
+          move ! (6 ∷ 1 ∷ []) $ fjoin ! $ move ! (3 ∷ 0 ∷ []) $ fjoin ! $ move ! (3 ∷ 0 ∷ []) $ fjoin ! $ move ! (1 ∷ 0 ∷ []) $ use2 𝓛 (raw ((Br 𝓛 at_mem run).pre (to-br l11 m α γ))) (goes-to-br l11 m α γ) $
+          -- [what build_records asks; the columns'; the text's; the lender's part; the other records; _16; …; _15; …; _14; …; _13; …; _12; …; what frees _11; _10; …; …; room for _0; …]
+          calls_at ! fm (Br 𝓛 at_mem run) known-br (to-br l11 m α γ) (and_then ! (load ! (from ! (stop !)) (look ! 34 refl)) (and_then ! (load ! (from ! (stop !)) (look ! 32 refl)) (and_then ! (load ! (from ! (stop !)) (look ! 9 refl)) (and_then ! (load ! (from ! (stop !)) (look ! 26 refl)) (and_then ! (load ! (from ! (stop !)) (look ! 24 refl)) (and_then ! (load ! (from ! (stop !)) (look ! 22 refl)) (and_then ! (load ! (from ! (stop !)) (look ! 20 refl)) (and_then ! (load ! (from ! (stop !)) (look ! 18 refl)) (and_then ! (load ! (from ! (stop !)) (look ! 5 refl)) (no_more !)))))))))) (λ w.
+          use1 𝓛 (later (some (λ (r : Answer). ((‵ (flft κ₀ q₀) ⊛ ‵ (flft (α ∷ []) full_share) ⊛ Toks) ⊛ ‵ ((S.the_row).own_val r (w ∷ []))) ⊛ raw (ensured 𝓛 br.ended (br.clauses 𝓛 at_mem run) (κs l11 m α γ) (args l11 m α γ) tt r)))) (id⊢ 𝓤 _) $ await ! tt $ pick ! (λ r.
           -- what build_records ensures, at some last list
-          split ! $ move ! (1 ∷ []) $ use1 𝓛 (some (λ (zs : Unit {0} × (Unit {0} × (Unit {0} × (Unit {0} × (Unit {0} × (Unit {0} × (Unit {0} × (Unit {0} × (Unit {0} × (List ℕ × Unit {0})))))))))). ‵ (lasts br.ended (κs l12 m α γ) (args l12 m α γ) zs) ⊛ raw (fact 𝓤 (Right (take m rs) r zs.1.1.1.1.1.1.1.1.1.0)))) (id⊢ 𝓤 _) $ pick ! (λ zs.
-          split ! $ move ! (1 ∷ []) $ heard ! (Right (take m rs) r zs.1.1.1.1.1.1.1.1.1.0) (λ e'. fsplit ! $ drop ! $ fsplit ! $ drop ! $ fsplit ! $ drop ! $ fsplit ! $ drop ! $ fsplit ! $ drop ! $ fsplit ! $ drop ! $ fsplit ! $ drop ! $ fsplit ! $ drop ! $ fsplit ! $ drop ! $ fsplit ! $ fsplit ! $ move ! (1 ∷ []) $ feq_l ! (λ long.
+          split ! $ move ! (1 ∷ []) $ use1 𝓛 (some (λ (zs : Unit {0} × (Unit {0} × (Unit {0} × (Unit {0} × (Unit {0} × (Unit {0} × (Unit {0} × (Unit {0} × (List ℕ × Unit {0}))))))))). ‵ (lasts br.ended (κs l11 m α γ) (args l11 m α γ) zs) ⊛ raw (fact 𝓤 (Right (take m rs) r zs.1.1.1.1.1.1.1.1.0)))) (id⊢ 𝓤 _) $ pick ! (λ zs.
+          split ! $ move ! (1 ∷ []) $ heard ! (Right (take m rs) r zs.1.1.1.1.1.1.1.1.0) (λ e'. fsplit ! $ drop ! $ fsplit ! $ drop ! $ fsplit ! $ drop ! $ fsplit ! $ drop ! $ fsplit ! $ drop ! $ fsplit ! $ drop ! $ fsplit ! $ drop ! $ fsplit ! $ drop ! $ fsplit ! $ fsplit ! $ move ! (1 ∷ []) $ feq_l ! (λ long.
           move ! (2 ∷ []) $ split ! $ move ! (1 ∷ []) $
-          -- [the result; the tokens; the last list; true; the columns'; the text's; the lender's part; the other records; _17; …; what frees _12; _11; …; …; room for _0; …]
+          -- [the result; the tokens; the last list; true; the columns'; the text's; the lender's part; the other records; _16; …; what frees _11; _10; …; …; room for _0; …]
           peeks ! S.the_row (Is S.the_row) (shows 𝓛 S.the_row) r (w ∷ []) (λ is'.
-          land ! (from ! (stop !)) (init ! 41 refl ((EL.lawful S.the_type S'.the_laws 𝓛 tt).typed r _ is').0) $
+          land ! (from ! (stop !)) (init ! 39 refl ((EL.lawful S.the_type S'.the_laws 𝓛 tt).typed r _ is').0) $
           -- the records come back
-          move ! (1 ∷ []) $ split ! $ move ! (1 ∷ []) $ split ! $ lft_end ! tt $ move ! (0 ∷ 8 ∷ []) $ lent_back ! tt $ fsplit ! $ drop ! $ move ! (0 ∷ 8 ∷ []) $ use2 𝓛 (‵ (Row 𝓛 rs l12 0)) (rejoined 𝓛 m rs l12 0) $
-          feq_i ! ℕ (length rs) 16 sixteen $ fjoin ! $ use1 𝓛 (‵ (Cell l12)) (together l12) $
-          returns ! (look ! 41 refl) $ forget ! 0 refl $ forget ! 8 refl $ forget ! 10 refl $ forget ! 12 refl $ forget ! 14 refl $ forget ! 16 refl $ forget ! 19 refl $ forget ! 21 refl $ forget ! 23 refl $ forget ! 25 refl $ forget ! 27 refl $ forget ! 29 refl $ forget ! 31 refl $ forget ! 33 refl $ forget ! 35 refl $ forget ! 37 refl $ forget ! 39 refl $ forget ! 41 refl $
-          move ! (41 ∷ 42 ∷ []) $ free1 ! $ move ! (39 ∷ 40 ∷ []) $ free1 ! $ move ! (37 ∷ 38 ∷ []) $ free1 ! $ move ! (35 ∷ 36 ∷ []) $ free1 ! $ move ! (33 ∷ 34 ∷ []) $ free1 ! $ move ! (31 ∷ 32 ∷ []) $ free1 ! $ move ! (29 ∷ 30 ∷ []) $ free1 ! $ move ! (27 ∷ 28 ∷ []) $ free1 ! $ move ! (25 ∷ 26 ∷ []) $ free1 ! $ move ! (23 ∷ 24 ∷ []) $ free1 ! $ move ! (21 ∷ 22 ∷ []) $ free1 ! $ move ! (19 ∷ 20 ∷ []) $ free1 ! $ move ! (0 ∷ 18 ∷ []) $ free1 ! $ move ! (15 ∷ 16 ∷ []) $ free1 ! $ move ! (13 ∷ 14 ∷ []) $ free1 ! $ move ! (11 ∷ 12 ∷ []) $ free1 ! $ move ! (9 ∷ 10 ∷ []) $ free1 ! $ move ! (7 ∷ 8 ∷ []) $ free1 ! $ free0 ! $
-          move ! (1 ∷ 0 ∷ []) $ join ! $ keep ! (1 ∷ 0 ∷ 2 ∷ 4 ∷ 5 ∷ []) $ by ! (exits r w zs.1.1.1.1.1.1.1.1.1.0 (subst (λ (z : List FenceRule). Right z r zs.1.1.1.1.1.1.1.1.1.0) (part_same m e) e') long)))))))))))))))))))))))))))))))
+          move ! (1 ∷ []) $ split ! $ move ! (1 ∷ []) $ split ! $ lft_end ! tt $ move ! (0 ∷ 8 ∷ []) $ lent_back ! tt $ fsplit ! $ drop ! $ move ! (0 ∷ 8 ∷ []) $ use2 𝓛 (‵ (Row 𝓛 rs l11 0)) (rejoined 𝓛 m rs l11 0) $
+          feq_i ! ℕ (length rs) 16 sixteen $ fjoin ! $ use1 𝓛 (‵ (Cell l11)) (together l11) $
+          returns ! (look ! 39 refl) $ forget ! 0 refl $ forget ! 8 refl $ forget ! 10 refl $ forget ! 12 refl $ forget ! 14 refl $ forget ! 16 refl $ forget ! 19 refl $ forget ! 21 refl $ forget ! 23 refl $ forget ! 25 refl $ forget ! 27 refl $ forget ! 29 refl $ forget ! 31 refl $ forget ! 33 refl $ forget ! 35 refl $ forget ! 37 refl $ forget ! 39 refl $
+          move ! (39 ∷ 40 ∷ []) $ free1 ! $ move ! (37 ∷ 38 ∷ []) $ free1 ! $ move ! (35 ∷ 36 ∷ []) $ free1 ! $ move ! (33 ∷ 34 ∷ []) $ free1 ! $ move ! (31 ∷ 32 ∷ []) $ free1 ! $ move ! (29 ∷ 30 ∷ []) $ free1 ! $ move ! (27 ∷ 28 ∷ []) $ free1 ! $ move ! (25 ∷ 26 ∷ []) $ free1 ! $ move ! (23 ∷ 24 ∷ []) $ free1 ! $ move ! (21 ∷ 22 ∷ []) $ free1 ! $ move ! (19 ∷ 20 ∷ []) $ free1 ! $ move ! (0 ∷ 18 ∷ []) $ free1 ! $ move ! (15 ∷ 16 ∷ []) $ free1 ! $ move ! (13 ∷ 14 ∷ []) $ free1 ! $ move ! (11 ∷ 12 ∷ []) $ free1 ! $ move ! (9 ∷ 10 ∷ []) $ free1 ! $ move ! (7 ∷ 8 ∷ []) $ free1 ! $ free0 ! $
+          move ! (1 ∷ 0 ∷ []) $ join ! $ keep ! (1 ∷ 0 ∷ 2 ∷ 4 ∷ 5 ∷ []) $ by ! (exits r w zs.1.1.1.1.1.1.1.1.0 (subst (λ (z : List FenceRule). Right z r zs.1.1.1.1.1.1.1.1.0) (part_same m e) e') long))))))))))))))))))))))))))))))
 
 module _ {M : Type 1} {𝓤 : Ura M} (𝓛 : Logic 𝓤) (mem : Memory → SProp 𝓤) (run : Routine → Fun 𝓤) (𝓣 : Tables 𝓤 𝓛.H) (known-les : Triple 𝓤 (𝓣.C #les) (Les 𝓛 mem run)) (known-br : Triple 𝓤 (𝓣.C #br) (Br 𝓛 mem run)) where
   open 𝓛 use {H}
 
   me-walks : Walks 𝓛 me.ended stayed (WpFn 𝓤 H 𝓣.C 𝓣.Λ code.function) (me.clauses 𝓛 mem run)
-  me-walks = walked 𝓛 me.ended stayed (me.clauses 𝓛 mem run) (WpFn 𝓤 H 𝓣.C 𝓣.Λ code.function) (λ κs. (bool_vals, (shr_slice_vals, (LL.vals G.the_type G'.the_laws, (array_vals (LL.vals R.the_type R'.the_laws), (uint_vals w64, (shr_slice_vals, (shr_slice_vals, (shr_slice_vals, (shr_slice_vals, (shr_slice_vals, (shr_slice_vals, tt))))))))))))
-      (λ κs. (bool_Tells, (shr_slice_Tells (named 0) κs.0 u8, (LL.tells G.the_type G'.the_laws, (Array-Tells R.the_row (LL.vals R.the_type R'.the_laws) (LL.tells R.the_type R'.the_laws) 16, (uint_Tells w64, (shr_slice_Tells (named 1) κs.1.0 u8, (shr_slice_Tells (named 2) κs.1.1.0 u32, (shr_slice_Tells (named 3) κs.1.1.1.0 u8, (shr_slice_Tells (named 4) κs.1.1.1.1.0 u8, (shr_slice_Tells (named 5) κs.1.1.1.1.1.0 u32, (mut_slice_Tells (named 6) κs.1.1.1.1.1.1.0 u32, tt))))))))))))
+  me-walks = walked 𝓛 me.ended stayed (me.clauses 𝓛 mem run) (WpFn 𝓤 H 𝓣.C 𝓣.Λ code.function) (λ κs. (shr_slice_vals, (LL.vals G.the_type G'.the_laws, (array_vals (LL.vals R.the_type R'.the_laws), (uint_vals w64, (shr_slice_vals, (shr_slice_vals, (shr_slice_vals, (shr_slice_vals, (shr_slice_vals, (shr_slice_vals, tt)))))))))))
+      (λ κs. (shr_slice_Tells (named 0) κs.0 u8, (LL.tells G.the_type G'.the_laws, (Array-Tells R.the_row (LL.vals R.the_type R'.the_laws) (LL.tells R.the_type R'.the_laws) 16, (uint_Tells w64, (shr_slice_Tells (named 1) κs.1.0 u8, (shr_slice_Tells (named 2) κs.1.1.0 u32, (shr_slice_Tells (named 3) κs.1.1.1.0 u8, (shr_slice_Tells (named 4) κs.1.1.1.1.0 u8, (shr_slice_Tells (named 5) κs.1.1.1.1.1.0 u32, (mut_slice_Tells (named 6) κs.1.1.1.1.1.1.0 u32, tt)))))))))))
       (λ κs qs bounds a h are. via 𝓤 _ (fst∗ 𝓤 _ (emp 𝓤)) (walk 𝓛 mem run κs.0 κs.1.0 κs.1.1.0 κs.1.1.1.0 κs.1.1.1.1.0 κs.1.1.1.1.1.0 κs.1.1.1.1.1.1.0
-      qs.0 qs.1.0 qs.1.1.0 qs.1.1.1.0 qs.1.1.1.1.0 qs.1.1.1.1.1.0 qs.1.1.1.1.1.1.0 bounds a.0 a.1.0 a.1.1.0 a.1.1.1.0 a.1.1.1.1.0 a.1.1.1.1.1.0 a.1.1.1.1.1.1.0 a.1.1.1.1.1.1.1.0 a.1.1.1.1.1.1.1.1.0 a.1.1.1.1.1.1.1.1.1.0 a.1.1.1.1.1.1.1.1.1.1.0
-      are.1.1.0 are.1.1.1.0 are.1.1.1.1.0.1 𝓣.C 𝓣.Λ (fm_of 𝓤 H 𝓛.laws 𝓣) known-les known-br are.1.0 are.1.1.1.1.1.0 are.1.1.1.1.1.1.0 are.1.1.1.1.1.1.1.0 are.1.1.1.1.1.1.1.1.0 are.1.1.1.1.1.1.1.1.1.0 are.1.1.1.1.1.1.1.1.1.1.0))
+      qs.0 qs.1.0 qs.1.1.0 qs.1.1.1.0 qs.1.1.1.1.0 qs.1.1.1.1.1.0 qs.1.1.1.1.1.1.0 bounds a.0 a.1.0 a.1.1.0 a.1.1.1.0 a.1.1.1.1.0 a.1.1.1.1.1.0 a.1.1.1.1.1.1.0 a.1.1.1.1.1.1.1.0 a.1.1.1.1.1.1.1.1.0 a.1.1.1.1.1.1.1.1.1.0
+      are.1.0 are.1.1.0 are.1.1.1.0.1 𝓣.C 𝓣.Λ (fm_of 𝓤 H 𝓛.laws 𝓣) known-les known-br are.0 are.1.1.1.1.0 are.1.1.1.1.1.0 are.1.1.1.1.1.1.0 are.1.1.1.1.1.1.1.0 are.1.1.1.1.1.1.1.1.0 are.1.1.1.1.1.1.1.1.1.0))
 
   me-meets : Meets 𝓛 me.signature (WpFn 𝓤 H 𝓣.C 𝓣.Λ code.function) (me.spec 𝓛 mem run)
   me-meets =
-      walk_Meets 𝓛 me.ended stayed (Goes-none 𝓛 7 (λ _. bool) yes (λ κs x f. refl), (Goes-none_slice 𝓛 7 (0 ∷ []) tt (plain (λ _. u8)) yes, (Goes-none 𝓛 7 (λ _. G.the_row) yes (λ κs x f. refl), (Goes-none 𝓛 7 (λ _. Array R.the_row 16) yes (λ κs x f. refl), (Goes-none 𝓛 7 (λ _. usize) yes (λ κs x f. refl), (Goes-none_slice 𝓛 7 (1 ∷ []) tt (plain (λ _. u8)) yes, (Goes-none_slice 𝓛 7 (2 ∷ []) tt (plain (λ _. u32)) yes, (Goes-none_slice 𝓛 7 (3 ∷ []) tt (plain (λ _. u8)) yes, (Goes-none_slice 𝓛 7 (4 ∷ []) tt (plain (λ _. u8)) yes, (Goes-none_slice 𝓛 7 (5 ∷ []) tt (plain (λ _. u32)) yes, (Goes-gave_slice 𝓛 7 6 tt (plain (λ _. u32)), tt)))))))))))
+      walk_Meets 𝓛 me.ended stayed (Goes-none_slice 𝓛 7 (0 ∷ []) tt (plain (λ _. u8)) yes, (Goes-none 𝓛 7 (λ _. G.the_row) yes (λ κs x f. refl), (Goes-none 𝓛 7 (λ _. Array R.the_row 16) yes (λ κs x f. refl), (Goes-none 𝓛 7 (λ _. usize) yes (λ κs x f. refl), (Goes-none_slice 𝓛 7 (1 ∷ []) tt (plain (λ _. u8)) yes, (Goes-none_slice 𝓛 7 (2 ∷ []) tt (plain (λ _. u32)) yes, (Goes-none_slice 𝓛 7 (3 ∷ []) tt (plain (λ _. u8)) yes, (Goes-none_slice 𝓛 7 (4 ∷ []) tt (plain (λ _. u8)) yes, (Goes-none_slice 𝓛 7 (5 ∷ []) tt (plain (λ _. u32)) yes, (Goes-gave_slice 𝓛 7 6 tt (plain (λ _. u32)), tt))))))))))
       (me.clauses 𝓛 mem run) (WpFn 𝓤 H 𝓣.C 𝓣.Λ code.function) (WpFn-mono 𝓤 H 𝓛.laws 𝓣 code.function) me-walks
 
 pub build-few-spec : {M : Type 1} → stated.statement M

@@ -1,6 +1,6 @@
 -- `build_front` meets its contract. Assumes nothing.
 use borrow.Author.Rules.{rules}
-use Rattle.context.specs.RecordLaws.{front-built}
+use Rattle.context.specs.RecordLaws.{front_built}
 use Rattle.context.proofs.records.build_front.Statement.{statement}
 use Rattle.context.proofs.records.build_front.Tie as tie
 
@@ -35,7 +35,7 @@ same_length : tie.Need-same-length
 same_length c = search rules
 
 returns : tie.Need-returns
-returns c = search front-built
+returns c = search front_built
 
 pub build-front-spec : {M : Type 1} → statement M
 build-front-spec =

@@ -3,12 +3,11 @@
 -- Assumes nothing.
 use Prim.Native.Nat.{ℕ}
 use mathlib.Core.Path.{◌≡◌, refl}
-use mathlib.Core.Bool.{Bool}
 use mathlib.Core.List.{List, [], ◌∷◌}
 use lib.ListN.{length}
 use seplogic.Ra.Ura.{Ura}
 use mir.Syntax.{named}
-use mir.Val.{Val, vbool}
+use mir.Val.{Val}
 use base.Logic.{SProp, ent, emp, via, fst∗, snd∗, ex_e, id⊢}
 use base.Fml.{Lft, Share, Fml, ftrue, fsep, flft}
 use prog.Memory.{Memory}
@@ -24,8 +23,7 @@ use types.Run.{look, init, forget, stop, hop, fld, from, load, addr, and_then, n
 use sound.WpLaws.{FmC, fm_of, WpFn-mono}
 use denote.RattleType.{owns}
 use denote.Laws.{Is, shows}
-use denote.Plain.{bool_vals, bool_Tells, bool_Makes}
-use denote.Builtin.{u8, u32, bool}
+use denote.Builtin.{u8, u32}
 use denote.Ref.{Bor}
 use denote.Signature.{plain}
 use denote.Slice.{slice_val, ShrSlice, MutSlice, finally, shr_slice_vals, shr_slice_Tells, mut_slice_Tells, shr_slice_Lawful, mut_slice_Lawful, shr_slice_copy}
@@ -40,13 +38,13 @@ use denote.Triple.Spec.{Meets, triple_of}
 use denote.Triple.Table.{entered, cited}
 use denote.Triple.Walked.{says, Stays, stay_none, stay_none_slice, gave_slice, walk_of, Goes-none, Goes-none_slice, Goes-gave_slice, Walks, ends_at, walked, walk_Meets}
 use denote.Exit.{yes}
-use Rattle.common.specs.Refusals.{told_made}
+use Rattle.common.specs.Refusals.{told}
 use Rattle.common.specs.declared.grammar.Grammar.{Grammar}
-use Rattle.common.specs.declared.refusal.Made.{Made}
+use Rattle.common.specs.declared.refusal.Answer.{Answer}
 use Rattle.common.specs.contracts.grammar.Grammar as G
 use Rattle.common.proofs.grammar.Grammar.TheLaws as G'
-use Rattle.common.specs.contracts.refusal.Made as S
-use Rattle.common.proofs.refusal.Made.TheLaws as S'
+use Rattle.common.specs.contracts.refusal.Answer as S
+use Rattle.common.proofs.refusal.Answer.TheLaws as S'
 use Rattle.rules.specs.Columns.{columns}
 use Rattle.context.specs.Build.{Built}
 use Rattle.rules.specs.Records.{rule_bytes, rule_mins, kept_bytes, kept_mins, AllGathered}
@@ -71,25 +69,22 @@ use Rattle.context.proofs.records.build_records.Code as code
 
 abbrev stayed : Stays (me.ended).signature.params (me.ended).kept
 stayed = (
-  stay_none (λ _. bool) yes,
+  stay_none_slice (0 ∷ []) tt (plain (λ _. u8)) yes,
   (
-    stay_none_slice (0 ∷ []) tt (plain (λ _. u8)) yes,
+    stay_none (λ _. G.the_row) yes,
     (
-      stay_none (λ _. G.the_row) yes,
+      stay_none_slice (1 ∷ []) tt (plain (λ _. R.the_row)) yes,
       (
-        stay_none_slice (1 ∷ []) tt (plain (λ _. R.the_row)) yes,
+        stay_none_slice (2 ∷ []) tt (plain (λ _. u8)) yes,
         (
-          stay_none_slice (2 ∷ []) tt (plain (λ _. u8)) yes,
+          stay_none_slice (3 ∷ []) tt (plain (λ _. u32)) yes,
           (
-            stay_none_slice (3 ∷ []) tt (plain (λ _. u32)) yes,
+            stay_none_slice (4 ∷ []) tt (plain (λ _. u8)) yes,
             (
-              stay_none_slice (4 ∷ []) tt (plain (λ _. u8)) yes,
+              stay_none_slice (5 ∷ []) tt (plain (λ _. u8)) yes,
               (
-                stay_none_slice (5 ∷ []) tt (plain (λ _. u8)) yes,
-                (
-                  stay_none_slice (6 ∷ []) tt (plain (λ _. u32)) yes,
-                  (gave_slice (7 ∷ []) tt (plain (λ _. u32)), tt),
-                ),
+                stay_none_slice (6 ∷ []) tt (plain (λ _. u32)) yes,
+                (gave_slice (7 ∷ []) tt (plain (λ _. u32)), tt),
               ),
             ),
           ),
@@ -108,7 +103,7 @@ module _ {M : Type 1} {𝓤 : Ura M} (𝓛 : Logic 𝓤) (mem : Memory → SProp
   Bg = triple_of 𝓛 bg.signature (bg.spec 𝓛 mem run)
 
 module _ {M : Type 1} {𝓤 : Ura M} (𝓛 : Logic 𝓤) (mem : Memory → SProp 𝓤) (run : Routine → Fun 𝓤) (κ₀ κ₁ κ₂ κ₃ κ₄ κ₅ κ₆ κ₇ : Lft) (q₀ q₁ q₂ q₃ q₄ q₅ q₆ q₇ : Share)
-    (bounds : AllOutlive 8 (me.signature).outlives (κ₀, (κ₁, (κ₂, (κ₃, (κ₄, (κ₅, (κ₆, (κ₇, tt))))))))) (strict : Bool) (s : Bor (List ℕ)) (g : Grammar) (rules : Bor (List FenceRule)) (y t o k n x : Bor (List ℕ)) where
+    (bounds : AllOutlive 8 (me.signature).outlives (κ₀, (κ₁, (κ₂, (κ₃, (κ₄, (κ₅, (κ₆, (κ₇, tt))))))))) (s : Bor (List ℕ)) (g : Grammar) (rules : Bor (List FenceRule)) (y t o k n x : Bor (List ℕ)) where
   -- the machine values of the runs and of the grammar
   open 𝓛 use {H}
 
@@ -121,11 +116,11 @@ module _ {M : Type 1} {𝓤 : Ura M} (𝓛 : Logic 𝓤) (mem : Memory → SProp
   abbrev gv : Val
   gv = LL.val G.the_type G'.the_laws g
 
-  abbrev a : Bool × (Bor (List ℕ) × (Grammar × (Bor (List FenceRule) × (Bor (List ℕ) × (Bor (List ℕ) × (Bor (List ℕ) × (Bor (List ℕ) × (Bor (List ℕ) × (Bor (List ℕ) × Unit {0})))))))))
-  a = (strict, (s, (g, (rules, (y, (t, (o, (k, (n, (x, tt))))))))))
+  abbrev a : Bor (List ℕ) × (Grammar × (Bor (List FenceRule) × (Bor (List ℕ) × (Bor (List ℕ) × (Bor (List ℕ) × (Bor (List ℕ) × (Bor (List ℕ) × (Bor (List ℕ) × Unit {0}))))))))
+  a = (s, (g, (rules, (y, (t, (o, (k, (n, (x, tt)))))))))
 
-  abbrev vals : List Val × (List Val × (List Val × (List Val × (List Val × (List Val × (List Val × (List Val × (List Val × (List Val × Unit {0})))))))))
-  vals = (vbool strict ∷ [], (val s ∷ [], (gv ∷ [], (rv ∷ [], (val y ∷ [], (val t ∷ [], (val o ∷ [], (val k ∷ [], (val n ∷ [], (val x ∷ [], tt))))))))))
+  abbrev vals : List Val × (List Val × (List Val × (List Val × (List Val × (List Val × (List Val × (List Val × (List Val × Unit {0}))))))))
+  vals = (val s ∷ [], (gv ∷ [], (rv ∷ [], (val y ∷ [], (val t ∷ [], (val o ∷ [], (val k ∷ [], (val n ∷ [], (val x ∷ [], tt)))))))))
 
   abbrev ys : List FenceRule
   ys = rules.now
@@ -182,105 +177,105 @@ module _ {M : Type 1} {𝓤 : Ura M} (𝓛 : Logic 𝓤) (mem : Memory → SProp
   goes-to-all : ent 𝓤 (⋆ 𝓛 (‵ (flft κ₁ q₁) ∷ ‵ OwnR ∷ [])) ((All 𝓛 mem run).pre to-all)
   goes-to-all = qed 𝓛 (‵ (flft κ₁ q₁) ∷ ‵ OwnR ∷ []) ∵ nothing ! $ move ! (1 ∷ 0 ∷ []) $ join ! $ nothing ! $ move ! (2 ∷ 0 ∷ []) $ fjoin ! $ move ! (1 ∷ 0 ∷ []) $ join ! $ frame ! $ done !
 
-  abbrev Got : Gathered → Type 0
-  Got f = AllGathered ys f
+  abbrev Made : Gathered → Type 0
+  Made f = AllGathered ys f
 
-  all_said : (f : Gathered) → ent 𝓤 (ensured 𝓛 all.ended (all.clauses 𝓛 mem run) (κ₁, tt) (rules, tt) tt f) (fact 𝓤 (Got f))
-  all_said f = ex_e 𝓤 _ (λ ws. snd∗ 𝓤 (sem 𝓛 (lasts all.ended (κ₁, tt) (rules, tt) ws)) (fact 𝓤 (Got f)))
+  all_said : (f : Gathered) → ent 𝓤 (ensured 𝓛 all.ended (all.clauses 𝓛 mem run) (κ₁, tt) (rules, tt) tt f) (fact 𝓤 (Made f))
+  all_said f = ex_e 𝓤 _ (λ ws. snd∗ 𝓤 (sem 𝓛 (lasts all.ended (κ₁, tt) (rules, tt) ws)) (fact 𝓤 (Made f)))
 
   -- the call of `build_gathered`
   abbrev κs : Lft × (Lft × (Lft × (Lft × (Lft × (Lft × (Lft × Unit {0}))))))
   κs = (κ₀, (κ₂, (κ₃, (κ₄, (κ₅, (κ₆, (κ₇, tt)))))))
 
-  abbrev args : Gathered → Bool × (Bor (List ℕ) × (Grammar × (Gathered × (Bor (List ℕ) × (Bor (List ℕ) × (Bor (List ℕ) × (Bor (List ℕ) × (Bor (List ℕ) × (Bor (List ℕ) × Unit {0})))))))))
-  args f = (strict, (s, (g, (f, (y, (t, (o, (k, (n, (x, tt))))))))))
+  abbrev args : Gathered → Bor (List ℕ) × (Grammar × (Gathered × (Bor (List ℕ) × (Bor (List ℕ) × (Bor (List ℕ) × (Bor (List ℕ) × (Bor (List ℕ) × (Bor (List ℕ) × Unit {0}))))))))
+  args f = (s, (g, (f, (y, (t, (o, (k, (n, (x, tt)))))))))
 
-  abbrev passed : Val → List Val × (List Val × (List Val × (List Val × (List Val × (List Val × (List Val × (List Val × (List Val × (List Val × Unit {0})))))))))
-  passed u = (vbool strict ∷ [], (val s ∷ [], (gv ∷ [], (u ∷ [], (val y ∷ [], (val t ∷ [], (val o ∷ [], (val k ∷ [], (val n ∷ [], (val x ∷ [], tt))))))))))
+  abbrev passed : Val → List Val × (List Val × (List Val × (List Val × (List Val × (List Val × (List Val × (List Val × (List Val × Unit {0}))))))))
+  passed u = (val s ∷ [], (gv ∷ [], (u ∷ [], (val y ∷ [], (val t ∷ [], (val o ∷ [], (val k ∷ [], (val n ∷ [], (val x ∷ [], tt)))))))))
 
   abbrev to-bg : Gathered → Val → (Bg 𝓛 mem run).Ghost
   to-bg f u = ((κs, (q₀, (q₂, (q₃, (q₄, (q₅, (q₆, (q₇, tt))))))), tt, args f, passed u), tt)
 
   abbrev OwnB : Gathered → Val → Fml
-  OwnB f u = fsep (bool.own_val strict (vbool strict ∷ [])) (fsep OwnS (fsep ((G.the_row).own_val g (gv ∷ [])) (fsep ((F.the_row).own_val f (u ∷ [])) Six)))
+  OwnB f u = fsep OwnS (fsep ((G.the_row).own_val g (gv ∷ [])) (fsep ((F.the_row).own_val f (u ∷ [])) Six))
 
   goes-to-bg : (f : Gathered) (u : Val) → ent 𝓤 (⋆ 𝓛 ((‵ (flft κ₀ q₀) ⊛ Toks) ∷ ‵ (OwnB f u) ∷ [])) ((Bg 𝓛 mem run).pre (to-bg f u))
   goes-to-bg f u = qed 𝓛 ((‵ (flft κ₀ q₀) ⊛ Toks) ∷ ‵ (OwnB f u) ∷ []) ∵ join ! $ frame ! $ done !
 
   -- what is promised of an answer and of the list that is left
-  abbrev Left : Gathered → Made → List ℕ → Type 0
-  Left f r zs = Built strict g (columns (kept_bytes f) (kept_mins f) y.now t.now o.now k.now n.now) s.now x.now zs (told_made r)
+  abbrev Left : Gathered → Answer → List ℕ → Type 0
+  Left f r zs = Built g (columns (kept_bytes f) (kept_mins f) y.now t.now o.now k.now n.now) s.now x.now zs (told r)
 
-  abbrev Right : Made → List ℕ → Type 0
-  Right r zs = Built strict g (columns (rule_bytes ys) (rule_mins ys) y.now t.now o.now k.now n.now) s.now x.now zs (told_made r)
+  abbrev Right : Answer → List ℕ → Type 0
+  Right r zs = Built g (columns (rule_bytes ys) (rule_mins ys) y.now t.now o.now k.now n.now) s.now x.now zs (told r)
 
   module _ (pg : Is G.the_row g (gv ∷ [])) where
-    exits : (r : Made) (w : Val) (zs : List ℕ) → Right r zs → length zs ≡ length x.now →
+    exits : (r : Answer) (w : Val) (zs : List ℕ) → Right r zs → length zs ≡ length x.now →
         ent 𝓤 (⋆ 𝓛 (‵ ((S.the_row).own_val r (w ∷ [])) ∷ (‵ (flft κ₀ q₀) ⊛ Toks) ∷ ‵ (finally u32 x.name zs) ∷ (‵ (flft κ₁ q₁) ⊛ ‵ ftrue) ∷ ‵ Five ∷ ‵ OwnR ∷ ‵ OwnS ∷ [])) (Post w)
     exits r w zs e l =
         qed 𝓛 (‵ ((S.the_row).own_val r (w ∷ [])) ∷ (‵ (flft κ₀ q₀) ⊛ Toks) ∷ ‵ (finally u32 x.name zs) ∷ (‵ (flft κ₁ q₁) ⊛ ‵ ftrue) ∷ ‵ Five ∷ ‵ OwnR ∷ ‵ OwnS ∷ []) ∵
-        suffices ! _ (ends_at 𝓛 me.ended stayed (me.clauses 𝓛 mem run) (((κ₀, (κ₁, (κ₂, (κ₃, (κ₄, (κ₅, (κ₆, (κ₇, tt)))))))), (q₀, (q₁, (q₂, (q₃, (q₄, (q₅, (q₆, (q₇, tt)))))))), bounds, a, vals), tt) w r (tt, (tt, (tt, (tt, (tt, (tt, (tt, (tt, (tt, (zs, tt)))))))))) (tt, (tt, (tt, (tt, (tt, (tt, (tt, (tt, (tt, (l, tt))))))))))) $ says ! e $
+        suffices ! _ (ends_at 𝓛 me.ended stayed (me.clauses 𝓛 mem run) (((κ₀, (κ₁, (κ₂, (κ₃, (κ₄, (κ₅, (κ₆, (κ₇, tt)))))))), (q₀, (q₁, (q₂, (q₃, (q₄, (q₅, (q₆, (q₇, tt)))))))), bounds, a, vals), tt) w r (tt, (tt, (tt, (tt, (tt, (tt, (tt, (tt, (zs, tt))))))))) (tt, (tt, (tt, (tt, (tt, (tt, (tt, (tt, (l, tt)))))))))) $ says ! e $
         -- the tokens
         move ! (1 ∷ []) $ split ! $ move ! (4 ∷ []) $ split ! $ move ! (0 ∷ 3 ∷ []) $ join ! $ move ! (2 ∷ 0 ∷ []) $ join ! $ frame ! $
         -- the list at exit behind the inline columns
         move ! (3 ∷ []) $ fsplit ! $ move ! (1 ∷ []) $ fsplit ! $ move ! (1 ∷ []) $ fsplit ! $ move ! (1 ∷ []) $ fsplit ! $ move ! (1 ∷ []) $ fsplit ! $
         move ! (8 ∷ 6 ∷ []) $ fjoin ! $ move ! (1 ∷ 0 ∷ []) $ fjoin ! $ move ! (2 ∷ 0 ∷ []) $ fjoin ! $ move ! (2 ∷ 0 ∷ []) $ fjoin ! $ move ! (2 ∷ 0 ∷ []) $ fjoin ! $ move ! (2 ∷ 0 ∷ []) $ fjoin ! $
-        -- before them the rules, the grammar, the text and whether it is strict
-        move ! (3 ∷ 0 ∷ []) $ fjoin ! $ owned ! G.the_row (Is G.the_row) ((LL.makes G.the_type G'.the_plain) 𝓛) g _ pg $ fjoin ! $ move ! (3 ∷ 0 ∷ []) $ fjoin ! $ owned ! bool (Is bool) (bool_Makes 𝓛) strict _ refl $ fjoin ! $ frame ! $ drop ! $ done !
+        -- before them the rules, the grammar and the text
+        move ! (3 ∷ 0 ∷ []) $ fjoin ! $ owned ! G.the_row (Is G.the_row) ((LL.makes G.the_type G'.the_plain) 𝓛) g _ pg $ fjoin ! $ move ! (3 ∷ 0 ∷ []) $ fjoin ! $ frame ! $ drop ! $ done !
 
     module _ (C : Calls 𝓤 H) (Λ : Loops 𝓤 H) (fm : FmC 𝓤 H 𝓛.laws C) (known-all : Triple 𝓤 (C #all) (All 𝓛 mem run)) (known-bg : Triple 𝓤 (C #bg) (Bg 𝓛 mem run)) where
       walk : Is (ShrSlice (named 0) κ₀ u8) s (val s ∷ []) → Is (ShrSlice (named 1) κ₁ R.the_row) rules (rv ∷ []) → Is (ShrSlice (named 2) κ₂ u8) y (val y ∷ []) → Is (ShrSlice (named 3) κ₃ u32) t (val t ∷ [])
           → Is (ShrSlice (named 4) κ₄ u8) o (val o ∷ []) → Is (ShrSlice (named 5) κ₅ u8) k (val k ∷ []) → Is (ShrSlice (named 6) κ₆ u32) n (val n ∷ []) → Is (MutSlice (named 7) κ₇ u32) x (val x ∷ [])
-          → ent 𝓤 (on_entry 𝓛 me.signature (κ₀, (κ₁, (κ₂, (κ₃, (κ₄, (κ₅, (κ₆, (κ₇, tt)))))))) (q₀, (q₁, (q₂, (q₃, (q₄, (q₅, (q₆, (q₇, tt)))))))) a vals) (WpFn 𝓤 H C Λ code.function (vbool strict ∷ val s ∷ gv ∷ rv ∷ val y ∷ val t ∷ val o ∷ val k ∷ val n ∷ val x ∷ []) Post)
+          → ent 𝓤 (on_entry 𝓛 me.signature (κ₀, (κ₁, (κ₂, (κ₃, (κ₄, (κ₅, (κ₆, (κ₇, tt)))))))) (q₀, (q₁, (q₂, (q₃, (q₄, (q₅, (q₆, (q₇, tt)))))))) a vals) (WpFn 𝓤 H C Λ code.function (val s ∷ gv ∷ rv ∷ val y ∷ val t ∷ val o ∷ val k ∷ val n ∷ val x ∷ []) Post)
       walk ps pr py pt po pk pn px =
-          qed 𝓛 ((‵ (flft κ₀ q₀) ⊛ ‵ (flft κ₁ q₁) ⊛ ‵ (flft κ₂ q₂) ⊛ ‵ (flft κ₃ q₃) ⊛ ‵ (flft κ₄ q₄) ⊛ ‵ (flft κ₅ q₅) ⊛ ‵ (flft κ₆ q₆) ⊛ ‵ (flft κ₇ q₇) ⊛ ‵ ftrue) ∷ ‵ (owns (bool ∷ ShrSlice (named 0) κ₀ u8 ∷ G.the_row ∷ ShrSlice (named 1) κ₁ R.the_row ∷ ShrSlice (named 2) κ₂ u8 ∷ ShrSlice (named 3) κ₃ u32 ∷ ShrSlice (named 4) κ₄ u8 ∷ ShrSlice (named 5) κ₅ u8 ∷ ShrSlice (named 6) κ₆ u32 ∷ MutSlice (named 7) κ₇ u32 ∷ []) a vals) ∷ []) ∵
-          enter ! C Λ code.function (vbool strict ∷ val s ∷ gv ∷ rv ∷ val y ∷ val t ∷ val o ∷ val k ∷ val n ∷ val x ∷ []) _ $
-          alloc1 ! (λ l0. alloc1 ! (λ l1. alloc1 ! (λ l2. alloc1 ! (λ l3. alloc1 ! (λ l4. alloc1 ! (λ l5. alloc1 ! (λ l6. alloc1 ! (λ l7. alloc1 ! (λ l8. alloc1 ! (λ l9. alloc1 ! (λ l10. alloc1 ! (λ l11. alloc1 ! (λ l12. alloc1 ! (λ l13. alloc0 ! $ params1 ! $
-          pass1 ! (init ! 24 refl (tt, tt)) $ pass1 ! (init ! 22 refl ((shr_slice_Lawful 𝓛 (named 0) κ₀ u8).typed s (val s ∷ []) ps).0) $ pass1 ! (init ! 20 refl ((LL.lawful G.the_type G'.the_laws 𝓛).typed g _ pg).0) $ pass1 ! (init ! 18 refl ((shr_slice_Lawful 𝓛 (named 1) κ₁ R.the_row).typed rules (rv ∷ []) pr).0) $
+          qed 𝓛 ((‵ (flft κ₀ q₀) ⊛ ‵ (flft κ₁ q₁) ⊛ ‵ (flft κ₂ q₂) ⊛ ‵ (flft κ₃ q₃) ⊛ ‵ (flft κ₄ q₄) ⊛ ‵ (flft κ₅ q₅) ⊛ ‵ (flft κ₆ q₆) ⊛ ‵ (flft κ₇ q₇) ⊛ ‵ ftrue) ∷ ‵ (owns (ShrSlice (named 0) κ₀ u8 ∷ G.the_row ∷ ShrSlice (named 1) κ₁ R.the_row ∷ ShrSlice (named 2) κ₂ u8 ∷ ShrSlice (named 3) κ₃ u32 ∷ ShrSlice (named 4) κ₄ u8 ∷ ShrSlice (named 5) κ₅ u8 ∷ ShrSlice (named 6) κ₆ u32 ∷ MutSlice (named 7) κ₇ u32 ∷ []) a vals) ∷ []) ∵
+          enter ! C Λ code.function (val s ∷ gv ∷ rv ∷ val y ∷ val t ∷ val o ∷ val k ∷ val n ∷ val x ∷ []) _ $
+          alloc1 ! (λ l0. alloc1 ! (λ l1. alloc1 ! (λ l2. alloc1 ! (λ l3. alloc1 ! (λ l4. alloc1 ! (λ l5. alloc1 ! (λ l6. alloc1 ! (λ l7. alloc1 ! (λ l8. alloc1 ! (λ l9. alloc1 ! (λ l10. alloc1 ! (λ l11. alloc1 ! (λ l12. alloc0 ! $ params1 ! $
+          pass1 ! (init ! 22 refl ((shr_slice_Lawful 𝓛 (named 0) κ₀ u8).typed s (val s ∷ []) ps).0) $ pass1 ! (init ! 20 refl ((LL.lawful G.the_type G'.the_laws 𝓛).typed g _ pg).0) $ pass1 ! (init ! 18 refl ((shr_slice_Lawful 𝓛 (named 1) κ₁ R.the_row).typed rules (rv ∷ []) pr).0) $
           pass1 ! (init ! 16 refl ((shr_slice_Lawful 𝓛 (named 2) κ₂ u8).typed y (val y ∷ []) py).0) $ pass1 ! (init ! 14 refl ((shr_slice_Lawful 𝓛 (named 3) κ₃ u32).typed t (val t ∷ []) pt).0) $ pass1 ! (init ! 12 refl ((shr_slice_Lawful 𝓛 (named 4) κ₄ u8).typed o (val o ∷ []) po).0) $
           pass1 ! (init ! 10 refl ((shr_slice_Lawful 𝓛 (named 5) κ₅ u8).typed k (val k ∷ []) pk).0) $ pass1 ! (init ! 8 refl ((shr_slice_Lawful 𝓛 (named 6) κ₆ u32).typed n (val n ∷ []) pn).0) $ pass1 ! (init ! 6 refl ((mut_slice_Lawful 𝓛 (named 7) κ₇ u32).typed x (val x ∷ []) px).0) $ pass0 ! $
           -- what the text and the rules own, twice; what the inline columns own, once more
-          move ! (29 ∷ []) $ fsplit ! $ drop ! $ fsplit ! $ use1 𝓛 (‵ OwnS ⊛ ‵ OwnS) ((shr_slice_copy 𝓛 (named 0) κ₀ u8).twice s (val s ∷ [])) $ split ! $ move ! (2 ∷ []) $ fsplit ! $ move ! (1 ∷ []) $ fsplit ! $
+          move ! (27 ∷ []) $ fsplit ! $ use1 𝓛 (‵ OwnS ⊛ ‵ OwnS) ((shr_slice_copy 𝓛 (named 0) κ₀ u8).twice s (val s ∷ [])) $ split ! $ move ! (2 ∷ []) $ fsplit ! $ move ! (1 ∷ []) $ fsplit ! $
           use1 𝓛 (‵ OwnR ⊛ ‵ OwnR) ((shr_slice_copy 𝓛 (named 1) κ₁ R.the_row).twice rules (rv ∷ [])) $ split ! $ move ! (2 ∷ []) $ use1 𝓛 (‵ Six ⊛ ‵ Five) six-leaves $ split ! $
-          move ! (35 ∷ []) $ split ! $ move ! (1 ∷ []) $ split ! $ move ! (0 ∷ 5 ∷ []) $ use2 𝓛 (raw ((All 𝓛 mem run).pre to-all)) goes-to-all $
-          -- [what gather asks; the later tokens; the text's token; the columns' and the list's; the columns'; the rules'; the grammar's; the text's; the text's; _13; …; _12; …; _11; …; _10; …; …; _1; …; room for _0; …]
+          move ! (33 ∷ []) $ split ! $ move ! (1 ∷ []) $ split ! $ move ! (0 ∷ 5 ∷ []) $ use2 𝓛 (raw ((All 𝓛 mem run).pre to-all)) goes-to-all $
+          -- [what gather asks; the later tokens; the text's token; the columns' and the list's; the columns'; the rules'; the grammar's; the text's; the text's; _12; …; _11; …; _10; …; _9; …; …; _1; …; room for _0; …]
           calls_at ! fm (All 𝓛 mem run) known-all to-all (and_then ! (load ! (from ! (stop !)) (look ! 27 refl)) (no_more !)) (λ u.
           use1 𝓛 (later (some (λ (f : Gathered). ((‵ (flft κ₁ q₁) ⊛ ‵ ftrue) ⊛ ‵ ((F.the_row).own_val f (u ∷ []))) ⊛ raw (ensured 𝓛 all.ended (all.clauses 𝓛 mem run) (κ₁, tt) (rules, tt) tt f)))) (id⊢ 𝓤 _) $ await ! tt $ pick ! (λ f.
-          split ! $ move ! (1 ∷ []) $ use1 𝓛 (raw (fact 𝓤 (Got f))) (all_said f) $ heard ! (Got f) (λ e. split ! $ move ! (1 ∷ []) $
-          -- [what was gathered; the rules' token; the later tokens; the text's token; the columns' and the list's; the columns'; the rules'; the grammar's; the text's; the text's; _13; …; _12; …; _11; …; _10; …]
+          split ! $ move ! (1 ∷ []) $ use1 𝓛 (raw (fact 𝓤 (Made f))) (all_said f) $ heard ! (Made f) (λ e. split ! $ move ! (1 ∷ []) $
+          -- [what was gathered; the rules' token; the later tokens; the text's token; the columns' and the list's; the columns'; the rules'; the grammar's; the text's; the text's; _12; …; _11; …; _10; …; _9; …]
           peeks ! F.the_row (Is F.the_row) (shows 𝓛 F.the_row) f (u ∷ []) (λ is.
           land ! (from ! (stop !)) (init ! 14 refl ((LL.lawful F.the_type F'.the_laws 𝓛).typed f _ is).0) $
           assigns ! (addr ! (from ! (fld ! refl (hop ! (look_in ! 16 (sub ! 0 refl (whole !))) (stop !))))) (from ! (stop !)) (init ! 12 refl (tt, tt)) $
           assigns ! (agg ! (and_then ! (load ! (from ! (stop !)) (look ! 12 refl)) (and_then ! (load ! (from ! (fld ! refl (stop !))) (look_in ! 16 (sub ! 1 refl (whole !)))) (no_more !)))) (from ! (stop !)) (init ! 10 refl (tt, (tt, (record { fits = px.0.1.0 }, tt)))) $
           -- what build_gathered asks
-          move ! (0 ∷ 4 ∷ []) $ fjoin ! $ move ! (6 ∷ 0 ∷ []) $ fjoin ! $ move ! (6 ∷ 0 ∷ []) $ fjoin ! $ owned ! bool (Is bool) (bool_Makes 𝓛) strict _ refl $ fjoin ! $ move ! (3 ∷ 2 ∷ []) $ join ! $ use2 𝓛 (raw ((Bg 𝓛 mem run).pre (to-bg f u))) (goes-to-bg f u) $
-          -- [what build_gathered asks; the rules' token; the columns'; the rules'; the text's; _13; …; _12; …; _11; …; _10; …; …; _1; …; room for _0; …]
-          calls_at ! fm (Bg 𝓛 mem run) known-bg (to-bg f u) (and_then ! (load ! (from ! (stop !)) (look ! 29 refl)) (and_then ! (load ! (from ! (stop !)) (look ! 27 refl)) (and_then ! (load ! (from ! (stop !)) (look ! 25 refl)) (and_then ! (load ! (from ! (stop !)) (look ! 9 refl)) (and_then ! (load ! (from ! (stop !)) (look ! 21 refl)) (and_then ! (load ! (from ! (stop !)) (look ! 19 refl)) (and_then ! (load ! (from ! (stop !)) (look ! 17 refl)) (and_then ! (load ! (from ! (stop !)) (look ! 15 refl)) (and_then ! (load ! (from ! (stop !)) (look ! 13 refl)) (and_then ! (load ! (from ! (stop !)) (look ! 5 refl)) (no_more !))))))))))) (λ w.
-          use1 𝓛 (later (some (λ (r : Made). ((‵ (flft κ₀ q₀) ⊛ Toks) ⊛ ‵ ((S.the_row).own_val r (w ∷ []))) ⊛ raw (ensured 𝓛 bg.ended (bg.clauses 𝓛 mem run) κs (args f) tt r)))) (id⊢ 𝓤 _) $ await ! tt $ pick ! (λ r.
+          move ! (0 ∷ 4 ∷ []) $ fjoin ! $ move ! (6 ∷ 0 ∷ []) $ fjoin ! $ move ! (6 ∷ 0 ∷ []) $ fjoin ! $ move ! (3 ∷ 2 ∷ []) $ join ! $ use2 𝓛 (raw ((Bg 𝓛 mem run).pre (to-bg f u))) (goes-to-bg f u) $
+          -- [what build_gathered asks; the rules' token; the columns'; the rules'; the text's; _12; …; _11; …; _10; …; _9; …; …; _1; …; room for _0; …]
+          calls_at ! fm (Bg 𝓛 mem run) known-bg (to-bg f u) (and_then ! (load ! (from ! (stop !)) (look ! 27 refl)) (and_then ! (load ! (from ! (stop !)) (look ! 25 refl)) (and_then ! (load ! (from ! (stop !)) (look ! 9 refl)) (and_then ! (load ! (from ! (stop !)) (look ! 21 refl)) (and_then ! (load ! (from ! (stop !)) (look ! 19 refl)) (and_then ! (load ! (from ! (stop !)) (look ! 17 refl)) (and_then ! (load ! (from ! (stop !)) (look ! 15 refl)) (and_then ! (load ! (from ! (stop !)) (look ! 13 refl)) (and_then ! (load ! (from ! (stop !)) (look ! 5 refl)) (no_more !)))))))))) (λ w.
+          use1 𝓛 (later (some (λ (r : Answer). ((‵ (flft κ₀ q₀) ⊛ Toks) ⊛ ‵ ((S.the_row).own_val r (w ∷ []))) ⊛ raw (ensured 𝓛 bg.ended (bg.clauses 𝓛 mem run) κs (args f) tt r)))) (id⊢ 𝓤 _) $ await ! tt $ pick ! (λ r.
           -- what build_gathered ensures, at some last list
-          split ! $ move ! (1 ∷ []) $ use1 𝓛 (some (λ (zs : Unit {0} × (Unit {0} × (Unit {0} × (Unit {0} × (Unit {0} × (Unit {0} × (Unit {0} × (Unit {0} × (Unit {0} × (List ℕ × Unit {0})))))))))). ‵ (lasts bg.ended κs (args f) zs) ⊛ raw (fact 𝓤 (Left f r zs.1.1.1.1.1.1.1.1.1.0)))) (id⊢ 𝓤 _) $ pick ! (λ zs.
-          split ! $ move ! (1 ∷ []) $ heard ! (Left f r zs.1.1.1.1.1.1.1.1.1.0) (λ e'. fsplit ! $ drop ! $ fsplit ! $ drop ! $ fsplit ! $ drop ! $ fsplit ! $ drop ! $ fsplit ! $ drop ! $ fsplit ! $ drop ! $ fsplit ! $ drop ! $ fsplit ! $ drop ! $ fsplit ! $ drop ! $ fsplit ! $ fsplit ! $ move ! (1 ∷ []) $ feq_l ! (λ l.
+          split ! $ move ! (1 ∷ []) $ use1 𝓛 (some (λ (zs : Unit {0} × (Unit {0} × (Unit {0} × (Unit {0} × (Unit {0} × (Unit {0} × (Unit {0} × (Unit {0} × (List ℕ × Unit {0}))))))))). ‵ (lasts bg.ended κs (args f) zs) ⊛ raw (fact 𝓤 (Left f r zs.1.1.1.1.1.1.1.1.0)))) (id⊢ 𝓤 _) $ pick ! (λ zs.
+          split ! $ move ! (1 ∷ []) $ heard ! (Left f r zs.1.1.1.1.1.1.1.1.0) (λ e'. fsplit ! $ drop ! $ fsplit ! $ drop ! $ fsplit ! $ drop ! $ fsplit ! $ drop ! $ fsplit ! $ drop ! $ fsplit ! $ drop ! $ fsplit ! $ drop ! $ fsplit ! $ drop ! $ fsplit ! $ fsplit ! $ move ! (1 ∷ []) $ feq_l ! (λ l.
           move ! (2 ∷ []) $ split ! $ move ! (1 ∷ []) $
-          -- [the result; the tokens; the last list; true; the rules' token; the columns'; the rules'; the text's; _13; …; room for _0; …]
+          -- [the result; the tokens; the last list; true; the rules' token; the columns'; the rules'; the text's; _12; …; room for _0; …]
           peeks ! S.the_row (Is S.the_row) (shows 𝓛 S.the_row) r (w ∷ []) (λ is'.
-          land ! (from ! (stop !)) (init ! 34 refl ((EL.lawful S.the_type S'.the_laws 𝓛 tt).typed r _ is').0) $
-          returns ! (look ! 34 refl) $ forget ! 8 refl $ forget ! 10 refl $ forget ! 12 refl $ forget ! 14 refl $ forget ! 16 refl $ forget ! 18 refl $ forget ! 20 refl $ forget ! 22 refl $ forget ! 24 refl $ forget ! 26 refl $ forget ! 28 refl $ forget ! 30 refl $ forget ! 32 refl $ forget ! 34 refl $
-          move ! (34 ∷ 35 ∷ []) $ free1 ! $ move ! (32 ∷ 33 ∷ []) $ free1 ! $ move ! (30 ∷ 31 ∷ []) $ free1 ! $ move ! (28 ∷ 29 ∷ []) $ free1 ! $ move ! (26 ∷ 27 ∷ []) $ free1 ! $ move ! (24 ∷ 25 ∷ []) $ free1 ! $ move ! (22 ∷ 23 ∷ []) $ free1 ! $ move ! (20 ∷ 21 ∷ []) $ free1 ! $ move ! (18 ∷ 19 ∷ []) $ free1 ! $ move ! (16 ∷ 17 ∷ []) $ free1 ! $ move ! (14 ∷ 15 ∷ []) $ free1 ! $ move ! (12 ∷ 13 ∷ []) $ free1 ! $ move ! (10 ∷ 11 ∷ []) $ free1 ! $ move ! (8 ∷ 9 ∷ []) $ free1 ! $ free0 ! $
-          keep ! (0 ∷ 1 ∷ 2 ∷ 4 ∷ 5 ∷ 6 ∷ 7 ∷ []) $ by ! (exits r w zs.1.1.1.1.1.1.1.1.1.0 (records-built ys e e') l)))))))))))))))))))))))))
+          land ! (from ! (stop !)) (init ! 32 refl ((EL.lawful S.the_type S'.the_laws 𝓛 tt).typed r _ is').0) $
+          returns ! (look ! 32 refl) $ forget ! 8 refl $ forget ! 10 refl $ forget ! 12 refl $ forget ! 14 refl $ forget ! 16 refl $ forget ! 18 refl $ forget ! 20 refl $ forget ! 22 refl $ forget ! 24 refl $ forget ! 26 refl $ forget ! 28 refl $ forget ! 30 refl $ forget ! 32 refl $
+          move ! (32 ∷ 33 ∷ []) $ free1 ! $ move ! (30 ∷ 31 ∷ []) $ free1 ! $ move ! (28 ∷ 29 ∷ []) $ free1 ! $ move ! (26 ∷ 27 ∷ []) $ free1 ! $ move ! (24 ∷ 25 ∷ []) $ free1 ! $ move ! (22 ∷ 23 ∷ []) $ free1 ! $ move ! (20 ∷ 21 ∷ []) $ free1 ! $ move ! (18 ∷ 19 ∷ []) $ free1 ! $ move ! (16 ∷ 17 ∷ []) $ free1 ! $ move ! (14 ∷ 15 ∷ []) $ free1 ! $ move ! (12 ∷ 13 ∷ []) $ free1 ! $ move ! (10 ∷ 11 ∷ []) $ free1 ! $ move ! (8 ∷ 9 ∷ []) $ free1 ! $ free0 ! $
+          keep ! (0 ∷ 1 ∷ 2 ∷ 4 ∷ 5 ∷ 6 ∷ 7 ∷ []) $ by ! (exits r w zs.1.1.1.1.1.1.1.1.0 (records-built ys e e') l))))))))))))))))))))))))
 
 module _ {M : Type 1} {𝓤 : Ura M} (𝓛 : Logic 𝓤) (mem : Memory → SProp 𝓤) (run : Routine → Fun 𝓤) (𝓣 : Tables 𝓤 𝓛.H) (known-all : Triple 𝓤 (𝓣.C #all) (All 𝓛 mem run)) (known-bg : Triple 𝓤 (𝓣.C #bg) (Bg 𝓛 mem run)) where
   open 𝓛 use {H}
 
   me-walks : Walks 𝓛 me.ended stayed (WpFn 𝓤 H 𝓣.C 𝓣.Λ code.function) (me.clauses 𝓛 mem run)
-  me-walks = walked 𝓛 me.ended stayed (me.clauses 𝓛 mem run) (WpFn 𝓤 H 𝓣.C 𝓣.Λ code.function) (λ κs. (bool_vals, (shr_slice_vals, (LL.vals G.the_type G'.the_laws, (shr_slice_vals, (shr_slice_vals, (shr_slice_vals, (shr_slice_vals, (shr_slice_vals, (shr_slice_vals, (shr_slice_vals, tt)))))))))))
-      (λ κs. (bool_Tells, (shr_slice_Tells (named 0) κs.0 u8, (LL.tells G.the_type G'.the_laws, (shr_slice_Tells (named 1) κs.1.0 R.the_row, (shr_slice_Tells (named 2) κs.1.1.0 u8, (shr_slice_Tells (named 3) κs.1.1.1.0 u32, (shr_slice_Tells (named 4) κs.1.1.1.1.0 u8, (shr_slice_Tells (named 5) κs.1.1.1.1.1.0 u8, (shr_slice_Tells (named 6) κs.1.1.1.1.1.1.0 u32, (mut_slice_Tells (named 7) κs.1.1.1.1.1.1.1.0 u32, tt)))))))))))
+  me-walks = walked 𝓛 me.ended stayed (me.clauses 𝓛 mem run) (WpFn 𝓤 H 𝓣.C 𝓣.Λ code.function) (λ κs. (shr_slice_vals, (LL.vals G.the_type G'.the_laws, (shr_slice_vals, (shr_slice_vals, (shr_slice_vals, (shr_slice_vals, (shr_slice_vals, (shr_slice_vals, (shr_slice_vals, tt))))))))))
+      (λ κs. (shr_slice_Tells (named 0) κs.0 u8, (LL.tells G.the_type G'.the_laws, (shr_slice_Tells (named 1) κs.1.0 R.the_row, (shr_slice_Tells (named 2) κs.1.1.0 u8, (shr_slice_Tells (named 3) κs.1.1.1.0 u32, (shr_slice_Tells (named 4) κs.1.1.1.1.0 u8, (shr_slice_Tells (named 5) κs.1.1.1.1.1.0 u8, (shr_slice_Tells (named 6) κs.1.1.1.1.1.1.0 u32, (mut_slice_Tells (named 7) κs.1.1.1.1.1.1.1.0 u32, tt))))))))))
       (λ κs qs bounds a h are. via 𝓤 _ (fst∗ 𝓤 _ (emp 𝓤)) (walk 𝓛 mem run κs.0 κs.1.0 κs.1.1.0 κs.1.1.1.0 κs.1.1.1.1.0 κs.1.1.1.1.1.0 κs.1.1.1.1.1.1.0 κs.1.1.1.1.1.1.1.0
-      qs.0 qs.1.0 qs.1.1.0 qs.1.1.1.0 qs.1.1.1.1.0 qs.1.1.1.1.1.0 qs.1.1.1.1.1.1.0 qs.1.1.1.1.1.1.1.0 bounds a.0 a.1.0 a.1.1.0 a.1.1.1.0 a.1.1.1.1.0 a.1.1.1.1.1.0 a.1.1.1.1.1.1.0 a.1.1.1.1.1.1.1.0 a.1.1.1.1.1.1.1.1.0 a.1.1.1.1.1.1.1.1.1.0
-      are.1.1.0 𝓣.C 𝓣.Λ (fm_of 𝓤 H 𝓛.laws 𝓣) known-all known-bg are.1.0 are.1.1.1.0 are.1.1.1.1.0 are.1.1.1.1.1.0 are.1.1.1.1.1.1.0 are.1.1.1.1.1.1.1.0 are.1.1.1.1.1.1.1.1.0 are.1.1.1.1.1.1.1.1.1.0))
+      qs.0 qs.1.0 qs.1.1.0 qs.1.1.1.0 qs.1.1.1.1.0 qs.1.1.1.1.1.0 qs.1.1.1.1.1.1.0 qs.1.1.1.1.1.1.1.0 bounds a.0 a.1.0 a.1.1.0 a.1.1.1.0 a.1.1.1.1.0 a.1.1.1.1.1.0 a.1.1.1.1.1.1.0 a.1.1.1.1.1.1.1.0 a.1.1.1.1.1.1.1.1.0
+      are.1.0 𝓣.C 𝓣.Λ (fm_of 𝓤 H 𝓛.laws 𝓣) known-all known-bg are.0 are.1.1.0 are.1.1.1.0 are.1.1.1.1.0 are.1.1.1.1.1.0 are.1.1.1.1.1.1.0 are.1.1.1.1.1.1.1.0 are.1.1.1.1.1.1.1.1.0))
 
   me-meets : Meets 𝓛 me.signature (WpFn 𝓤 H 𝓣.C 𝓣.Λ code.function) (me.spec 𝓛 mem run)
   me-meets =
-      walk_Meets 𝓛 me.ended stayed (Goes-none 𝓛 8 (λ _. bool) yes (λ κs x f. refl), (Goes-none_slice 𝓛 8 (0 ∷ []) tt (plain (λ _. u8)) yes, (Goes-none 𝓛 8 (λ _. G.the_row) yes (λ κs x f. refl), (Goes-none_slice 𝓛 8 (1 ∷ []) tt (plain (λ _. R.the_row)) yes, (Goes-none_slice 𝓛 8 (2 ∷ []) tt (plain (λ _. u8)) yes, (Goes-none_slice 𝓛 8 (3 ∷ []) tt (plain (λ _. u32)) yes, (Goes-none_slice 𝓛 8 (4 ∷ []) tt (plain (λ _. u8)) yes, (Goes-none_slice 𝓛 8 (5 ∷ []) tt (plain (λ _. u8)) yes, (Goes-none_slice 𝓛 8 (6 ∷ []) tt (plain (λ _. u32)) yes, (Goes-gave_slice 𝓛 8 7 tt (plain (λ _. u32)), tt))))))))))
+      walk_Meets 𝓛 me.ended stayed (Goes-none_slice 𝓛 8 (0 ∷ []) tt (plain (λ _. u8)) yes, (Goes-none 𝓛 8 (λ _. G.the_row) yes (λ κs x f. refl), (Goes-none_slice 𝓛 8 (1 ∷ []) tt (plain (λ _. R.the_row)) yes, (Goes-none_slice 𝓛 8 (2 ∷ []) tt (plain (λ _. u8)) yes, (Goes-none_slice 𝓛 8 (3 ∷ []) tt (plain (λ _. u32)) yes, (Goes-none_slice 𝓛 8 (4 ∷ []) tt (plain (λ _. u8)) yes, (Goes-none_slice 𝓛 8 (5 ∷ []) tt (plain (λ _. u8)) yes, (Goes-none_slice 𝓛 8 (6 ∷ []) tt (plain (λ _. u32)) yes, (Goes-gave_slice 𝓛 8 7 tt (plain (λ _. u32)), tt)))))))))
       (me.clauses 𝓛 mem run) (WpFn 𝓤 H 𝓣.C 𝓣.Λ code.function) (WpFn-mono 𝓤 H 𝓛.laws 𝓣 code.function) me-walks
 
 pub build-records-spec : {M : Type 1} → stated.statement M

@@ -1,6 +1,6 @@
 -- `is_of_twelve` meets its contract. Assumes nothing.
 use borrow.Author.Rules.{rules}
-use Rattle.find.specs.NeedleLaws.{twelve-told}
+use Rattle.find.specs.NeedleLaws.{twelve_told}
 use Rattle.find.proofs.blocks.is_of_twelve.Statement.{statement}
 use Rattle.find.proofs.blocks.is_of_twelve.Tie as tie
 
@@ -17,7 +17,7 @@ is-of-three-requires-4 : tie.Need-is-of-three-requires-4
 is-of-three-requires-4 c κs = search rules
 
 returns : tie.Need-returns
-returns c = search twelve-told
+returns c = search twelve_told
 
 pub is-of-twelve-spec : {M : Type 1} → statement M
 is-of-twelve-spec =

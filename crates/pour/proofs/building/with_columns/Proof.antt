@@ -1,17 +1,11 @@
 -- `with_columns` meets its contract. Assumes nothing.
 use borrow.Author.Rules.{rules}
-use Rattle.pour.specs.PourLaws.{barred-columns, poured_columns}
+use Rattle.pour.specs.PourLaws.{poured_columns}
 use Rattle.pour.proofs.building.with_columns.Statement.{statement}
 use Rattle.pour.proofs.building.with_columns.Tie as tie
 
 of-requires : tie.Need-of-requires
 of-requires c κs = search rules
-
-is-barred-requires : tie.Need-is-barred-requires
-is-barred-requires c κs = search rules
-
-returns : tie.Need-returns
-returns c = search barred-columns
 
 fence-table-requires : tie.Need-fence-table-requires
 fence-table-requires c κs = search rules
@@ -28,19 +22,17 @@ same_length c = search rules
 same-length-2 : tie.Need-same-length-2
 same-length-2 c = search rules
 
-returns-2 : tie.Need-returns-2
-returns-2 c = search poured_columns
+returns : tie.Need-returns
+returns c = search poured_columns
 
 pub with-columns-spec : {M : Type 1} → statement M
 with-columns-spec =
     tie.close
     (tie.spec
     of-requires
-    is-barred-requires
-    returns
     fence-table-requires
     rule-rows-requires
     pour-requires
     same_length
     same-length-2
-    returns-2)
+    returns)

@@ -1,21 +1,24 @@
 -- `search_bytes` meets its contract. Assumes nothing.
+use Rattle.rules.specs.ColumnLaws.{searches}
 use borrow.Author.Rules.{rules}
-use Rattle.rules.specs.DistinctLaws.{collects_few}
-use Rattle.rules.specs.LeftOutLaws.{collects}
 use Rattle.rules.proofs.search_bytes.search_bytes.Statement.{statement}
 use Rattle.rules.proofs.search_bytes.search_bytes.Tie as tie
 
-kept-bytes-requires : tie.Need-kept-bytes-requires
-kept-bytes-requires c κs = search rules
+new-requires : tie.Need-new-requires
+new-requires c κs = search rules
+
+gather-requires : tie.Need-gather-requires
+gather-requires c κs = search rules
+
+gather-requires-2 : tie.Need-gather-requires-2
+gather-requires-2 c κs = search rules
+
+gather-requires-3 : tie.Need-gather-requires-3
+gather-requires-3 c κs = search rules
 
 returns : tie.Need-returns
-returns c = search collects_few
-
-left-out-requires : tie.Need-left-out-requires
-left-out-requires c κs = search rules
-
-returns-2 : tie.Need-returns-2
-returns-2 c = search collects
+returns c = search searches
 
 pub search-bytes-spec : {M : Type 1} → statement M
-search-bytes-spec = tie.close (tie.spec kept-bytes-requires returns left-out-requires returns-2)
+search-bytes-spec =
+    tie.close (tie.spec new-requires gather-requires gather-requires-2 gather-requires-3 returns)

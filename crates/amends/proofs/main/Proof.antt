@@ -1,14 +1,14 @@
--- `by` is safe and ends: the length rises to the last. Assumes nothing.
+-- `main` is safe and ends: the length rises to the longest. Assumes nothing.
 use borrow.Author.Rules.{rules}
 use Prim.Native.Nat.{◌-◌}
-use Rattle.amends.proofs.by.Statement.{statement}
-use Rattle.amends.proofs.by.Tie as tie
+use Rattle.amends.proofs.main.Statement.{statement}
+use Rattle.amends.proofs.main.Tie as tie
 
 abbrev invariant-loop : tie.invariant-loop
-invariant-loop way lengths length₀ length = Unit {0}
+invariant-loop length₀ length = Unit {0}
 
 abbrev decreases-loop : tie.decreases-loop
-decreases-loop way lengths length₀ length = lengths - length
+decreases-loop length₀ length = 6 - length
 
 loop-holds : tie.Need-loop-init invariant-loop decreases-loop
 loop-holds c = search rules
@@ -34,11 +34,14 @@ all-requires c κs = search rules
 print-drawn-requires : tie.Need-print-drawn-requires invariant-loop decreases-loop
 print-drawn-requires c κs = search rules
 
+print-all-requires : tie.Need-print-all-requires invariant-loop decreases-loop
+print-all-requires c κs = search rules
+
 returns : tie.Need-returns invariant-loop decreases-loop
 returns c = search rules
 
-pub by-spec : {M : Type 1} → statement M
-by-spec =
+pub main_spec : {M : Type 1} → statement M
+main_spec =
     tie.close
     (tie.spec
     invariant-loop
@@ -51,4 +54,5 @@ by-spec =
     loop-again
     all-requires
     print-drawn-requires
+    print-all-requires
     returns)
