@@ -1,5 +1,7 @@
 // The amendment of a region list: where a stretch of a text is replaced between two joints, the list of the edited text is made from
 // the old list and the replacement alone. Of the old text only its length and the two bytes before each cut are read.
+#![tactic(auto)]
+
 mod joints; // where an amendment may cut
 pub mod own; // the replacement's own regions
 mod rows; // a list as rows of two numbers
@@ -28,21 +30,21 @@ use rules::rows::{Rows, rule_rows};
 use rules::search_bytes::Alphabet;
 
 // Whether the cuts may be made.
-#[derive(Drop)]
+#[derive(Clone, Copy)]
 pub enum Verdict {
     Fine,
     Refused(Refusal),
 }
 
 // What is wrong with the rules: columns differ; a line end escapes or opens.
-#[derive(Drop)]
+#[derive(Clone, Copy)]
 pub struct Flaws {
     pub unequal: bool,
     pub marked: bool,
 }
 
 // Where a text of `len` bytes is cut.
-#[derive(Drop)]
+#[derive(Clone, Copy)]
 pub struct Cuts {
     pub first: usize,
     pub second: usize,
@@ -50,7 +52,7 @@ pub struct Cuts {
 }
 
 // Of a list's `count` rows those before row `before` are kept, and those from row `after` on are moved.
-#[derive(Drop)]
+#[derive(Clone, Copy)]
 pub struct Split {
     pub before: usize,
     pub after: usize,

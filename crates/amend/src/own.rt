@@ -14,7 +14,7 @@ use rules::rows::Rows;
 use rules::search_bytes::Alphabet;
 
 // How many regions a text has, and whether one reaches its end.
-#[derive(Drop)]
+#[derive(Clone, Copy)]
 pub struct Counted {
     pub count: usize,
     pub reaching: bool,

@@ -1,5 +1,7 @@
 // The amendment of a region list in bytes, as a host in C lends it: crate amend's, where region k has its start at byte 8k and its exclusive
 // end at byte 8k + 4, by rules that byte runs hold. The answer is how many regions there are.
+#![tactic(auto)]
+
 mod joints; // where an amendment may cut
 mod own; // the replacement's own regions
 mod rows; // a list in bytes as rows of two numbers

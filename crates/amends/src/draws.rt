@@ -13,20 +13,20 @@ const REPLACEMENT: u32 = 13;
 const ALPHABET: [u8; 8] = [10, 10, 10, 126, 60, 62, 96, 97];
 
 // A number below 2^31, which moves on for each draw.
-#[derive(Drop)]
+#[derive(Clone, Copy)]
 struct Draw {
     at: u32,
 }
 
 // A text, and what is drawn on with.
-#[derive(Drop)]
+#[derive(Clone, Copy)]
 struct Drawn {
     text: Short,
     last: Draw,
 }
 
 // What a trial adds, and what is drawn on with.
-#[derive(Drop)]
+#[derive(Clone, Copy)]
 struct Tried {
     tally: Tally,
     last: Draw,

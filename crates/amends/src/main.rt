@@ -1,6 +1,8 @@
 // Amends small texts in every way, and others that are drawn, and compares with building the edited text afresh. Then every choice of
 // faults, for the order of refusals. What is to be written comes from `tools/amendments`, which has it from the rules and from the
 // Rust.
+#![tactic(auto)]
+
 mod draws; // texts and cuts that are drawn
 mod order; // which of several refusals is given
 mod tally; // what is counted

@@ -1,7 +1,7 @@
 // What is counted: amendments that are made, refusals by number, and what differs from building afresh.
 use libc::STDOUT_FILENO;
 
-#[derive(Drop)]
+#[derive(Clone, Copy)]
 pub(crate) struct Tally {
     made: u64,
     refused: [u64; 10],

@@ -6,7 +6,7 @@ pub(crate) const ROOM: usize = 32;
 // line end, tilde, less, greater, backtick
 const TELLING: [u8; 5] = [10, 126, 60, 62, 96];
 
-#[derive(Drop)]
+#[derive(Clone, Copy)]
 pub(crate) struct Short {
     pub(crate) bytes: [u8; ROOM],
     pub(crate) length: usize,

@@ -11,7 +11,7 @@ const CELLS: usize = 36;
 const MARK: u32 = 77;
 
 // A list as it is left, and its count.
-#[derive(Drop)]
+#[derive(Clone, Copy)]
 pub(crate) struct Listed {
     cells: [u32; CELLS],
     count: usize,

@@ -4,6 +4,8 @@
 //
 // With up to three accepted bytes the scan is streaming: one search for them, with a look back over separators and tabs to see that
 // the byte leads its line, so that lines without one are never visited. With more the lines are read one by one.
+#![tactic(auto)]
+
 ghost use Rattle.std.specs.Prelude.{◌≤◌, ◌<◌, length, take};
 ghost use Rattle.search.specs.Promise.{Gives, Steps};
 ghost use Rattle.search.specs.Search.{one_of, Sought};
@@ -21,7 +23,7 @@ use find::{find_any_of, find_byte, is_one_of};
 use search::{blank_end, byte_at, is_blank, next_line};
 
 // The fields of the Rust's iterator; the text and the set of accepted bytes are lent beside it.
-#[derive(Drop)]
+#[derive(Clone, Copy)]
 pub struct BlockMarkerIter {
     pub eol: u8,
     pub sep: u8,
@@ -33,14 +35,14 @@ pub struct BlockMarkerIter {
 }
 
 // A marker byte, and the span of its content.
-#[derive(Drop)]
+#[derive(Clone, Copy)]
 pub struct MarkerItem {
     pub marker: u8,
     pub span: Span,
 }
 
 // An item, none, or a refusal.
-#[derive(Drop)]
+#[derive(Clone, Copy)]
 pub enum MarkerFound {
     Item(MarkerItem),
     Nothing,
@@ -48,14 +50,14 @@ pub enum MarkerFound {
 }
 
 // What a step answers, and the state after it.
-#[derive(Drop)]
+#[derive(Clone, Copy)]
 pub struct MarkerStep {
     pub found: MarkerFound,
     pub next: BlockMarkerIter,
 }
 
 // One turn of a scan: on from a later place; nothing left; or a marker, its content from where to where, and the next line.
-#[derive(Drop)]
+#[derive(Clone, Copy)]
 enum MarkerTurn {
     Go(usize),
     Stop(usize),
@@ -63,7 +65,7 @@ enum MarkerTurn {
 }
 
 // What a scan comes to: a marker, its content from where to where, and the next line; or nothing, and the place where it stops.
-#[derive(Drop)]
+#[derive(Clone, Copy)]
 enum MarkerFirst {
     Found(u8, usize, usize, usize),
     Stopped(usize),

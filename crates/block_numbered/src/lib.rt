@@ -7,6 +7,8 @@
 // their number, and a look back over separators and tabs to see that the item leads its line. Searching for the delimiter spares a
 // search for ten digits; a stray delimiter in prose fails at once, on the byte before it. With more delimiters the lines are read one
 // by one, their digits forward.
+#![tactic(auto)]
+
 ghost use Rattle.std.specs.Prelude.{◌≤◌, ◌<◌, ◌-◌, ◌^◌, min, length, take, drop};
 ghost use Rattle.search.specs.Promise.{Gives, Steps};
 ghost use Rattle.search.specs.Search.{one_of, back, digit};
@@ -24,7 +26,7 @@ use find::{find_any_of, find_byte};
 use search::{blank_end, byte_at, is_digit, next_line};
 
 // The fields of the Rust's iterator; the text and the set of accepted delimiters are lent beside it.
-#[derive(Drop)]
+#[derive(Clone, Copy)]
 pub struct BlockNumberedIter {
     pub eol: u8,
     pub sep: u8,
@@ -36,7 +38,7 @@ pub struct BlockNumberedIter {
 }
 
 // A number, its delimiter byte, and the span of its content.
-#[derive(Drop)]
+#[derive(Clone, Copy)]
 pub struct NumberedItem {
     pub number: u32,
     pub delimiter: u8,
@@ -44,7 +46,7 @@ pub struct NumberedItem {
 }
 
 // An item, none, or a refusal.
-#[derive(Drop)]
+#[derive(Clone, Copy)]
 pub enum NumberedFound {
     Item(NumberedItem),
     Nothing,
@@ -52,7 +54,7 @@ pub enum NumberedFound {
 }
 
 // What a step answers, and the state after it.
-#[derive(Drop)]
+#[derive(Clone, Copy)]
 pub struct NumberedStep {
     pub found: NumberedFound,
     pub next: BlockNumberedIter,
@@ -60,7 +62,7 @@ pub struct NumberedStep {
 
 // One turn of a scan: on from a later place; nothing left; or a number, its delimiter, the content from where to where, and the next
 // line.
-#[derive(Drop)]
+#[derive(Clone, Copy)]
 enum NumberedTurn {
     Go(usize),
     Stop(usize),
@@ -69,21 +71,21 @@ enum NumberedTurn {
 
 // What a scan comes to: a number, its delimiter, the content from where to where, and the next line; or nothing, and the place where
 // it stops.
-#[derive(Drop)]
+#[derive(Clone, Copy)]
 enum NumberedFirst {
     Found(u32, u8, usize, usize, usize),
     Stopped(usize),
 }
 
 // Digits that were read: their number, and where they end.
-#[derive(Drop)]
+#[derive(Clone, Copy)]
 pub struct DigitRun {
     pub number: u32,
     pub end: usize,
 }
 
 // Digits that were walked back over: how many, and their number.
-#[derive(Drop)]
+#[derive(Clone, Copy)]
 struct Trail {
     count: usize,
     number: u32,

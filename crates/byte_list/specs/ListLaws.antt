@@ -1,11 +1,10 @@
 -- Laws of a region list in bytes: its room is that of the numbers that it holds, and the ways out of its functions. Assumes nothing.
 use Rattle.std.specs.Prelude.{◌≡◌, Bool, true, false, List, [], ◌∷◌, ℕ, ◌+◌, ◌*◌, ◌/◌, ◌≤◌, ◌<◌, length, get_or}
-use Rattle.std.proofs.Common.{sym, ap, ◌∙◌, arith}
+use Rattle.std.proofs.Common.{ap, ◌∙◌, arith}
 use Rattle.std.proofs.Math.Nat.{div-div-eq-div-mul}
 use Rattle.search.specs.Promise.{Gives, Steps}
 use Rattle.common.specs.Entry.{rows, room, shaped, wide}
 use Rattle.common.specs.Refusals.{given, refused}
-use Rattle.common.specs.declared.span.Span.{Span}
 use Rattle.cover.specs.Cursor.{passed, cover_answer, cover_next}
 use Rattle.cover.specs.CursorLaws.{cover_refused, cover_past, cover_before, cover_found}
 use Rattle.cover.specs.Shape.{misshapen, region_at}

@@ -1,4 +1,6 @@
 // A region list in bytes, as a host in C lends it: its shape, the cursor's number form over it, and its regions.
+#![tactic(auto)]
+
 ghost use Rattle.std.specs.Prelude.{◌≤◌, ◌/◌, length, get_or};
 ghost use Rattle.search.specs.Promise.{Gives, Steps};
 ghost use Rattle.common.specs.Entry.{rows, shaped, wide};

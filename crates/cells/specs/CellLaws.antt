@@ -1,7 +1,7 @@
 -- Laws of numbers read from a byte run, and of the loop that holds them to limits. Assumes nothing.
 use Rattle.std.specs.Prelude.{◌≡◌, refl, Bool, true, false, ◌&&◌, ℕ, zero, suc, ◌+◌, ◌*◌, ◌/◌, ◌%◌, ◌≤◌, ◌<◌, T, leb, ltb, eqb, get_or}
 use Rattle.std.proofs.Common.{sym, ◌∙◌, add-one}
-use Rattle.std.proofs.Math.Bool.{and_true as with-true, and_assoc}
+use Rattle.std.proofs.Math.Bool.{and-true as with-true, and_assoc}
 use mathlib.Core.List.{List, [], ◌∷◌}
 use native.Mathlib.Omega.{arith}
 use Rattle.std.proofs.Math.Dec.{leb→le, ltb→lt}

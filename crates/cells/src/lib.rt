@@ -1,4 +1,6 @@
 // Numbers as cells of a byte run, four bytes each, low byte first: read from a run, written to one, and the rules that runs hold.
+#![tactic(auto)]
+
 pub mod columns; // rules by byte, from byte runs
 pub mod reply; // what an entry answers
 

@@ -19,7 +19,7 @@ cut s b = take (b.end - b.start) (drop b.start s)
 
 -- where a text's bytes from place n on lie: in the text's own block, n further on
 abbrev pub onward : Bor (List ℕ) → ℕ → ℕ × ℕ
-onward text n = (text.ptr.0, n + text.ptr.1)
+onward text n = (text.ref_ptr.0, n + text.ref_ptr.1)
 
 -- what `content` promises: "the caller's own stretch of text". It begins where the stretch does, an empty one too, and its bytes are those
 -- that stand there

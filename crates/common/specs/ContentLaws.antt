@@ -34,10 +34,10 @@ module _ (len a e : ℕ) where
   pub stretch-inside : (b : Bounds) → Gives (stretch len a e) b → b.end ≤ len
   stretch-inside b g = subst (λ (x : Bounds). x.end ≤ len) (sym g.answer) within.1
 
--- a part of a text between the bounds of a stretch, whatever its ghost name
-pub stretch-part : (text : Bor (List ℕ)) (a e k : ℕ) (b : Bounds) → Gives (stretch (length text.now) a e) b
-    → Stretch text a e (record { ref_ptr = onward text b.start; ghost_name = k; now = take (b.end - b.start) (drop b.start text.now) })
-stretch-part text a e k b g = record { place = ap (λ (b : Bounds). onward text b.start) g.answer; bytes = ap (cut text.now) g.answer }
+-- a part of a text between the bounds of a stretch
+pub stretch-part : (text : Bor (List ℕ)) (a e : ℕ) (b : Bounds) → Gives (stretch (length text.now) a e) b
+    → Stretch text a e (record { ref_ptr = onward text b.start; now = take (b.end - b.start) (drop b.start text.now) })
+stretch-part text a e b g = record { place = ap (λ (b : Bounds). onward text b.start) g.answer; bytes = ap (cut text.now) g.answer }
 
 -- two answers for one text and span begin at one place and have the same bytes
 pub stretch_unique : {text : Bor (List ℕ)} {a e : ℕ} {r r' : Bor (List ℕ)} → Stretch text a e r → Stretch text a e r' → (r.ref_ptr ≡ r'.ref_ptr) × (r.now ≡ r'.now)

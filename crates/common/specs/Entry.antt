@@ -1,7 +1,7 @@
 -- Lists of entries as runs of numbers: rows of one width, the test that their places are in order, and numbers written into a run. Assumes nothing.
 -- The page: "A region list is a lent run of 32-bit numbers", "An item is five numbers", "Success writes the regions from place 0,
 -- returns their count and changes nothing beyond them."
-use Rattle.std.specs.Prelude.{Bool, true, ◌&&◌, List, [], ◌∷◌, ◌++◌, ℕ, zero, suc, ◌+◌, ◌-◌, ◌/◌, ◌≤◌, ◌<◌, leb, ltb, length, get_or, take, drop, set}
+use Rattle.std.specs.Prelude.{Bool, true, ◌&&◌, List, [], ◌∷◌, ◌++◌, ℕ, zero, suc, ◌+◌, ◌/◌, ◌≤◌, ◌<◌, leb, ltb, length, get_or, take, drop, set}
 
 -- the numbers of a list of entries, one entry behind the other
 abbrev pub flatten : {A : Type 0} → (A → List ℕ) → List A → List ℕ

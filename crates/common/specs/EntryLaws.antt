@@ -168,9 +168,9 @@ pub written_put : {all rest out₀ out : List ℕ} {k : ℕ} (x : List ℕ) → 
 written_put {k = k} [] i =
     let e : k + 0 ≡ k = omega arith in
     rw e i
-written_put {k = k} (a ∷ x) i =
+written_put {all = all} {rest = rest} {out₀ = out₀} {out = out} {k = k} (a ∷ x) i =
     let e : k + suc (length x) ≡ k + 1 + length x = omega arith in
-    rw e (written_put x (written_one i))
+    rw e (written_put {all = all} {rest = rest} {out₀ = out₀} {out = set {A = ℕ} out k a} {k = k + 1} x (written_one i))
 
 pub written_all : {all out₀ out : List ℕ} {k : ℕ} → Written all [] out₀ out k → out ≡ over all out₀
 written_all {all} {out₀} {out} {k} i =

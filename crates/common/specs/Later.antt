@@ -2,7 +2,7 @@
 -- The page: "Optional separators and tabs, one accepted byte"; the streaming scans look back over them from each accepted byte that they find.
 use Rattle.std.specs.Prelude.{◌≡◌, Bool, false, cond, ◌&&◌, List, ℕ, ◌<◌, ltb, leb, get_or, set}
 use Rattle.search.specs.Promise.{Gives}
-use Rattle.search.specs.Search.{either, other, find, back}
+use Rattle.search.specs.Search.{either, other, find}
 use Rattle.common.specs.Items.{leads}
 
 -- whether only separators and tabs part p from a place k before it; of place 0 nothing is said

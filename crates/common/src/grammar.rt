@@ -2,7 +2,7 @@
 ghost use Rattle.search.specs.Promise.{Gives};
 ghost use Rattle.common.specs.Grammars.{house};
 
-#[derive(Drop)]
+#[derive(Clone, Copy)]
 pub struct Grammar {
     pub eol: u8,
     pub escape: u8,

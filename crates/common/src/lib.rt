@@ -1,4 +1,6 @@
 // What all scanners share: refusals and answers, the grammar bytes, spans, byte sets, and what both item scanners ask of a line.
+#![tactic(auto)]
+
 mod classes; // the table of the house classes
 pub mod grammar; // the grammar bytes, and the house's
 pub mod items; // what both item scanners ask of a line

@@ -3,7 +3,7 @@ ghost use Rattle.search.specs.Promise.{Gives};
 ghost use Rattle.common.specs.Refusals.{number_of};
 
 // Why an input is not served, each by the page's number.
-#[derive(Drop)]
+#[derive(Clone, Copy)]
 pub enum Refusal {
     TextTooLong,
     PlaceOutside,
@@ -18,14 +18,14 @@ pub enum Refusal {
 }
 
 // A number, or a refusal.
-#[derive(Drop)]
+#[derive(Clone, Copy)]
 pub enum Answer {
     Value(usize),
     Refused(Refusal),
 }
 
 // A place, none, or a refusal.
-#[derive(Drop)]
+#[derive(Clone, Copy)]
 pub enum Found {
     At(usize),
     Nothing,

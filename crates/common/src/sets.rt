@@ -61,7 +61,7 @@ pub fn class_set(wanted: u8) -> [bool; 256]
 }
 
 // What a streaming search needs of a set: its needles, how many, and whether there are few enough to stream.
-#[derive(Drop)]
+#[derive(Clone, Copy)]
 pub struct Probe {
     pub needles: [u8; 3],
     pub nn: usize,

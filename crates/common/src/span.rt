@@ -8,14 +8,14 @@ use search::lesser;
 // The most bytes a text may have: spans are 32-bit numbers.
 pub const MAX_INPUT_LEN: usize = 4294967295;
 
-#[derive(Drop)]
+#[derive(Clone, Copy)]
 pub struct Span {
     pub start: u32,
     pub end: u32,
 }
 
 // A span, none, or a refusal: what a scanner of spans answers.
-#[derive(Drop)]
+#[derive(Clone, Copy)]
 pub enum SpanFound {
     At(Span),
     Nothing,
@@ -23,7 +23,7 @@ pub enum SpanFound {
 }
 
 // A stretch of a text: from `start` up to, not including, `end`.
-#[derive(Drop)]
+#[derive(Clone, Copy)]
 pub struct Bounds {
     pub start: usize,
     pub end: usize,

@@ -6,6 +6,8 @@
 //
 // The scan is streaming: with no frame open one search finds the next marker byte, and lines without one are never walked. Inside,
 // the open frames are a lent array and the rest are numbers; the state as a whole is handed over at the step alone.
+#![tactic(auto)]
+
 ghost use Rattle.std.specs.Prelude.{◌≤◌, ◌<◌, ◌-◌, length};
 ghost use Rattle.search.specs.Promise.{Gives, Steps};
 ghost use Rattle.search.specs.Search.{Sought, is};
@@ -21,7 +23,7 @@ use find::find_byte;
 use search::{is_at, is_blank, lesser, line_start, next_line};
 
 // What a frame is read by: the marker byte, the line end, the separator and the tab that a marker may take, and the cap.
-#[derive(Drop)]
+#[derive(Clone, Copy)]
 pub struct Framing {
     pub byte: u8,
     pub eol: u8,
@@ -32,7 +34,7 @@ pub struct Framing {
 
 // The fields of the Rust's iterator; the text is lent beside it. The open frames are the first `open_len` cells of `open`,
 // outermost first; the closed frames that wait are the cells of `pending` from `pending_idx` up to `pending_len`.
-#[derive(Drop)]
+#[derive(Clone, Copy)]
 pub struct ContIter {
     pub byte: u8,
     pub eol: u8,
@@ -48,14 +50,14 @@ pub struct ContIter {
 }
 
 // What a step answers, and the state after it.
-#[derive(Drop)]
+#[derive(Clone, Copy)]
 pub struct ContStep {
     pub found: SpanFound,
     pub next: ContIter,
 }
 
 // The open frames that have their marker on a line, and the place behind the last of these markers.
-#[derive(Drop)]
+#[derive(Clone, Copy)]
 struct Peeled {
     count: usize,
     cur: usize,
@@ -63,7 +65,7 @@ struct Peeled {
 
 // One turn of the scan: on from a place, with so many frames open; the frames from a depth on closed at a place, and on from
 // another; or nothing left, at a place.
-#[derive(Drop)]
+#[derive(Clone, Copy)]
 enum Turn {
     Go(usize, usize),
     Close(usize, usize, usize),
@@ -71,7 +73,7 @@ enum Turn {
 }
 
 // What a scan closes: the frames from `from` up to `held`, at `end`; it goes on from `pos`. Where nothing is left, `from` is `held`.
-#[derive(Drop)]
+#[derive(Clone, Copy)]
 struct Closed {
     from: usize,
     held: usize,

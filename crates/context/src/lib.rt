@@ -1,4 +1,6 @@
 // Lists of opaque regions, after context.rs: building one from a text.
+#![tactic(auto)]
+
 pub mod records; // fence rules as records
 
 ghost use Rattle.std.specs.Prelude.{[], ◌∷◌, ◌≤◌, length};

@@ -10,7 +10,7 @@ use common::list::{END, WIDE};
 use common::refusal::{Found, Refusal};
 
 // What a query answers, and the index that the next one goes on from.
-#[derive(Drop)]
+#[derive(Clone, Copy)]
 pub struct Cover {
     pub found: Found,
     pub index: usize,
@@ -73,7 +73,7 @@ pub fn covering_end(list: &[u32], count: usize, index: usize, place: usize) -> C
 // A cursor that is lent and moved on by each query, the list lent beside it. A fresh one is at index 0; a copy is a lookahead that does
 // not disturb its parent.
 #[repr(C)]
-#[derive(Drop)]
+#[derive(Clone, Copy)]
 pub struct Cursor {
     pub index: usize,
 }
@@ -89,7 +89,7 @@ pub fn covering(cursor: &mut Cursor, list: &[u32], count: usize, place: usize) -
 }
 
 // What two queries answer, and the index that the next one goes on from.
-#[derive(Drop)]
+#[derive(Clone, Copy)]
 pub struct CoverPair {
     pub first: Found,
     pub second: Found,

@@ -30,10 +30,10 @@ use Rattle.explain.specs.Parts.{led_place, reason_by, reason_of, line_answer}
 use Rattle.explain.specs.TrueLaws.{hiders_none, hiders_one, Shown, on_sheet, sheet_on, HidesLine, hidden_by_lem, by_hidden, hidden_one}
 use Rattle.common.specs.declared.span.Span.{Span}
 use Rattle.feed.specs.declared.item.SheetItem.{SheetItem}
-use Rattle.explain.specs.declared.lines.Lead.{Lead}
-use Rattle.explain.specs.declared.lines.Lead.TheVariants as led
-use Rattle.explain.specs.declared.lines.Lined.{Lined}
-use Rattle.explain.specs.declared.lines.Lined.TheVariants as lined
+use Rattle.explain.specs.declared.leads.Lead.{Lead}
+use Rattle.explain.specs.declared.leads.Lead.TheVariants as led
+use Rattle.explain.specs.declared.leads.Lined.{Lined}
+use Rattle.explain.specs.declared.leads.Lined.TheVariants as lined
 use Rattle.explain.specs.declared.Reason.{Reason}
 use Rattle.explain.specs.declared.Reason.TheVariants as reason
 use Rattle.explain.specs.declared.Explained.{Explained}

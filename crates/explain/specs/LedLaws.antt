@@ -1,13 +1,13 @@
 -- Laws of a line by its bytes: its item is what the scanners find on it, and it lies on the line. Assumes nothing.
-use Rattle.std.specs.Prelude.{◌≡◌, Bool, cond, not, ◌||◌, ◌&&◌, ◌⊎◌, ℕ, ◌+◌, ◌-◌, ◌≤◌, ◌<◌, min, ltb, leb, get_or, drop}
+use Rattle.std.specs.Prelude.{◌≡◌, Bool, cond, not, ◌||◌, ◌&&◌, ◌⊎◌, ℕ, ◌+◌, ◌≤◌, ◌<◌, min, ltb, leb, get_or, drop}
 use Rattle.std.proofs.Math.Path.{refl}
-use Rattle.std.proofs.Common.{sym, ap, ◌∙◌, inl, inr, length-drop, leb-true, leb-false, ne_eqb, lt-ltb}
+use Rattle.std.proofs.Common.{sym, ap, ◌∙◌, inl, inr, length-drop, leb-true, leb-false, lt-ltb}
 use Rattle.std.proofs.Math.Bool.{true, false}
 use mathlib.Core.List.{List, [], ◌∷◌, ◌++◌, map}
 use native.Mathlib.Omega.{arith}
 use Rattle.std.proofs.Math.ListN.{length}
-use Rattle.search.specs.Search.{one_of, digit}
-use Rattle.search.specs.SearchLaws.{decide, clash, and_true}
+use Rattle.search.specs.Search.{digit}
+use Rattle.search.specs.SearchLaws.{decide, clash}
 use Rattle.common.specs.Turning.{Each}
 use Rattle.common.specs.Items.{blank, leading, beyond, item_from}
 use Rattle.common.specs.ItemLaws.{both, leading_yes, leading_no, beyond_yes, beyond_no, leading-beyond}
@@ -21,8 +21,8 @@ use Rattle.common.specs.Sets.{is_marker, is_delimiter}
 use Rattle.common.specs.Grammars.{house_marks, house_numbers}
 use Rattle.common.specs.ClassLaws.{digit-marker}
 use Rattle.feed.specs.declared.item.SheetItem.{SheetItem}
-use Rattle.explain.specs.declared.lines.Lead.{Lead}
-use Rattle.explain.specs.declared.lines.Lead.TheVariants as led
+use Rattle.explain.specs.declared.leads.Lead.{Lead}
+use Rattle.explain.specs.declared.leads.Lead.TheVariants as led
 
 -- the item of a line, if it has one
 abbrev pub led_items : Lead → List SheetItem

@@ -11,14 +11,14 @@ use Rattle.common.specs.Refusals.{too_long}
 use Rattle.common.specs.declared.refusal.Refusal.TheVariants.{TextTooLong}
 use Rattle.explain.specs.Reasons.{line_led}
 use Rattle.common.specs.Grammars.{house_marks}
-use Rattle.explain.specs.declared.lines.Lead.{Lead}
-use Rattle.explain.specs.declared.lines.Lead.TheVariants as led
-use Rattle.explain.specs.declared.lines.Lined.{Lined}
-use Rattle.explain.specs.declared.lines.Lined.TheVariants as lined
+use Rattle.explain.specs.declared.leads.Lead.{Lead}
+use Rattle.explain.specs.declared.leads.Lead.TheVariants as led
+use Rattle.explain.specs.declared.leads.Lined.{Lined}
+use Rattle.explain.specs.declared.leads.Lined.TheVariants as lined
 use Rattle.explain.specs.declared.Reason.{Reason}
 use Rattle.explain.specs.declared.Reason.TheVariants as reason
-use Rattle.explain.specs.declared.lines.Begin.{Begin}
-use Rattle.explain.specs.declared.lines.Begin.TheVariants as begin
+use Rattle.explain.specs.declared.leads.Begin.{Begin}
+use Rattle.explain.specs.declared.leads.Begin.TheVariants as begin
 
 -- where a line begins, if it exists
 abbrev pub begins_at : Begin → List ℕ

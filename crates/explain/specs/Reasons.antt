@@ -16,8 +16,8 @@ use Rattle.cover.specs.Cursor.{covers}
 use Rattle.cover.specs.Shape.{misshapen}
 use Rattle.feed.specs.Items.{tested_place}
 use Rattle.feed.specs.declared.item.SheetItem.{SheetItem}
-use Rattle.explain.specs.declared.lines.Lead.{Lead}
-use Rattle.explain.specs.declared.lines.Lead.TheVariants as led
+use Rattle.explain.specs.declared.leads.Lead.{Lead}
+use Rattle.explain.specs.declared.leads.Lead.TheVariants as led
 use Rattle.explain.specs.declared.Reason.{Reason}
 use Rattle.explain.specs.declared.Reason.TheVariants as reason
 use Rattle.explain.specs.declared.Explained.{Explained}

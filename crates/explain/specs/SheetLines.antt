@@ -29,8 +29,8 @@ use Rattle.explain.specs.Reasons.{led_from, led_by}
 use Rattle.common.specs.LineStartLaws.{on_start, flat_starts}
 use Rattle.explain.specs.LedLaws.{led_items, line-items, Lies, line_lies}
 use Rattle.feed.specs.declared.item.SheetItem.{SheetItem}
-use Rattle.explain.specs.declared.lines.Lead.{Lead}
-use Rattle.explain.specs.declared.lines.Lead.TheVariants as led
+use Rattle.explain.specs.declared.leads.Lead.{Lead}
+use Rattle.explain.specs.declared.leads.Lead.TheVariants as led
 
 -- ---- what a line shows: its item, unless a region hides it
 abbrev pub line_items : List ℕ → ℕ → List SheetItem

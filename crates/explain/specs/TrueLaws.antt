@@ -26,8 +26,8 @@ use Rattle.explain.specs.LedLaws.{led_items, Lies}
 use Rattle.explain.specs.SheetLines.{line_items, shown_on, lies_on, sheet_by_lines}
 use Rattle.common.specs.Sets.{house_markers, house_delims}
 use Rattle.feed.specs.declared.item.SheetItem.{SheetItem}
-use Rattle.explain.specs.declared.lines.Lead.{Lead}
-use Rattle.explain.specs.declared.lines.Lead.TheVariants as led
+use Rattle.explain.specs.declared.leads.Lead.{Lead}
+use Rattle.explain.specs.declared.leads.Lead.TheVariants as led
 
 -- ---- members
 pub each_member : {A : Type 0} (P : A → Type 0) (l : List A) {x : A} → Each P l → Memᴰ x l → P x

@@ -27,10 +27,10 @@ use Rattle.common.specs.ClassLaws.{class_marker, class_delimiter, class_digit}
 use Rattle.common.specs.Grammars.{house_marks}
 use Rattle.explain.specs.Parts.{begins_at, sign_led}
 use Rattle.explain.specs.TrueLaws.{line_begun}
-use Rattle.explain.specs.declared.lines.Lead.{Lead}
-use Rattle.explain.specs.declared.lines.Lead.TheVariants as led
-use Rattle.explain.specs.declared.lines.Begin.{Begin}
-use Rattle.explain.specs.declared.lines.Begin.TheVariants as begin
+use Rattle.explain.specs.declared.leads.Lead.{Lead}
+use Rattle.explain.specs.declared.leads.Lead.TheVariants as led
+use Rattle.explain.specs.declared.leads.Begin.{Begin}
+use Rattle.explain.specs.declared.leads.Begin.TheVariants as begin
 
 -- ---- the loop that looks for a line: at a line's start a, with `left` lines to go
 pub record Seeking (eol : ℕ) (s : List ℕ) (line a left : ℕ) : Type 0 where

@@ -1,7 +1,9 @@
 // Why a line is not on the work sheet, by the house grammar.
 //
 // The text is walked once to the line, and the line's bytes are read once; one query then tells which region hides its item.
-pub mod lines; // where a line begins, and what leads it
+#![tactic(auto)]
+
+pub mod leads; // where a line begins, and what leads it
 
 ghost use Rattle.search.specs.Promise.{Gives};
 ghost use Rattle.cells.specs.Bytes.{cells};
@@ -13,10 +15,10 @@ use common::span::Span;
 use cover::cursor::{Cover, covering_end};
 use cover::shape::{is_misshapen, region_at};
 use feed::item::tested_place;
-use lines::{Lead, Lined, line_item};
+use leads::{Lead, Lined, line_item};
 
 // The first reason that holds, in this order; else the line is on the sheet.
-#[derive(Drop)]
+#[derive(Clone, Copy)]
 pub enum Reason {
     OnSheet,
     NoLine,
@@ -28,7 +30,7 @@ pub enum Reason {
 }
 
 // A reason, or a refusal.
-#[derive(Drop)]
+#[derive(Clone, Copy)]
 pub enum Explained {
     Because(Reason),
     Refused(Refusal),

@@ -6,7 +6,7 @@ use mathlib.Core.List.{List, [], ◌∷◌, map}
 use Rattle.search.specs.Promise.{Gives, Steps}
 use Rattle.search.specs.SearchLaws.{decide}
 use Rattle.common.specs.Refusals.{Outcome}
-use Rattle.common.specs.Turn.{found, then_drain}
+use Rattle.common.specs.Turn.{then_drain}
 use Rattle.common.specs.Turning.{Each}
 use Rattle.common.specs.Items.{step_for}
 use Rattle.common.specs.Scanning.{Scanner, answer, state, Keeps, items}

@@ -3,7 +3,7 @@ ghost use Rattle.search.specs.Promise.{Gives};
 ghost use Rattle.feed.specs.Items.{tested_place};
 
 // Where the content starts and ends, the kind (0 marker, 1 numbered), the accepted byte, and the number (0 for a marker).
-#[derive(Drop)]
+#[derive(Clone, Copy)]
 pub struct SheetItem {
     pub start: u32,
     pub end: u32,

@@ -1,5 +1,7 @@
 // Both scanners as one run of items: each stands one item ahead, so that the lesser of the two is known and no item is sought twice. A
 // scanner's refusal counts as its end.
+#![tactic(auto)]
+
 pub mod item; // the items
 
 ghost use Rattle.search.specs.Promise.{Gives};
@@ -11,42 +13,42 @@ use common::grammar::Grammar;
 use item::SheetItem;
 
 // The next item, or the end of the run.
-#[derive(Drop)]
+#[derive(Clone, Copy)]
 pub enum Head {
     Item(SheetItem),
     End,
 }
 
 // The marker scanner, one item ahead.
-#[derive(Drop)]
+#[derive(Clone, Copy)]
 pub struct MarksAhead {
     pub head: Head,
     pub rest: BlockMarkerIter,
 }
 
 // The numbered scanner, one item ahead.
-#[derive(Drop)]
+#[derive(Clone, Copy)]
 pub struct NumbersAhead {
     pub head: Head,
     pub rest: BlockNumberedIter,
 }
 
 // Both.
-#[derive(Drop)]
+#[derive(Clone, Copy)]
 pub struct Feed {
     pub marks: MarksAhead,
     pub numbers: NumbersAhead,
 }
 
 // The next item of both, and what comes after it.
-#[derive(Drop)]
+#[derive(Clone, Copy)]
 pub struct Taken {
     pub head: Head,
     pub rest: Feed,
 }
 
 // Which scanner's item is next.
-#[derive(Drop)]
+#[derive(Clone, Copy)]
 enum Pick {
     Mark(SheetItem),
     Number(SheetItem),

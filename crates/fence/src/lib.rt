@@ -6,6 +6,8 @@
 //
 // The scan is streaming: one search finds candidate fence bytes, and a look at the byte before keeps only those that begin a line,
 // for opening and for closing fences alike; content lines are never walked.
+#![tactic(auto)]
+
 ghost use Rattle.std.specs.Prelude.{◌≡◌, true, ◌≤◌, length};
 ghost use Rattle.search.specs.Promise.{Gives, Steps};
 ghost use Rattle.search.specs.Search.{holds, is};
@@ -21,7 +23,7 @@ use lines::fence_tests::run_count;
 use search::{blank_within, line_start, next_line, run_end};
 
 // The fields of the Rust's iterator; the text is lent beside it.
-#[derive(Drop)]
+#[derive(Clone, Copy)]
 pub struct FenceIter {
     pub byte: u8,
     pub min: u8,
@@ -32,21 +34,21 @@ pub struct FenceIter {
 }
 
 // What a step answers, and the state after it.
-#[derive(Drop)]
+#[derive(Clone, Copy)]
 pub struct FenceStep {
     pub found: SpanFound,
     pub next: FenceIter,
 }
 
 // One turn of the search for a close: on from a later place, or the place after the closing line.
-#[derive(Drop)]
+#[derive(Clone, Copy)]
 enum CloseTurn {
     Go(usize),
     End(usize),
 }
 
 // One turn of the scan: on from a later place; no fence byte left; or a fence, from where to where.
-#[derive(Drop)]
+#[derive(Clone, Copy)]
 enum Turn {
     Go(usize),
     Stop(usize),
@@ -54,7 +56,7 @@ enum Turn {
 }
 
 // What the scan comes to: a fence, from where to where; or none, and the place where it stops.
-#[derive(Drop)]
+#[derive(Clone, Copy)]
 enum Opened {
     Found(usize, usize),
     Stopped(usize),

@@ -7,7 +7,7 @@ ghost use Rattle.search.specs.Search.{Sought, is};
 ghost use Rattle.find.specs.Blocks.{of_three, of_twelve, Placed, Clear, Stage, Reaches};
 
 // Three needles; where there are fewer, one is repeated.
-#[derive(Drop)]
+#[derive(Clone, Copy)]
 pub struct Three {
     pub a: u8,
     pub b: u8,
@@ -15,7 +15,7 @@ pub struct Three {
 }
 
 // Twelve needles, as four times three.
-#[derive(Drop)]
+#[derive(Clone, Copy)]
 pub struct Twelve {
     pub first: Three,
     pub second: Three,

@@ -1,5 +1,7 @@
 // The searches for a byte, or for one of a few. They take any text and any place, and refuse nothing: from a place past the text each
 // answers that place.
+#![tactic(auto)]
+
 mod blocks; // searches by blocks of bytes
 
 ghost use Rattle.std.specs.Prelude.{◌+◌, ◌<◌, max, take};

@@ -1,4 +1,6 @@
 // What an amendment asks of the bytes at a cut, of the replacement's end and of the marks, before it looks at a list.
+#![tactic(auto)]
+
 ghost use Rattle.search.specs.Promise.{Gives};
 ghost use Rattle.joint.specs.Joint.{after_empty_line, open_end, line_end_is_mark};
 

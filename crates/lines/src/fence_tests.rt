@@ -14,21 +14,21 @@ use find::{find_byte, find_either};
 use search::{blank_within, byte_at, is_at, lesser, line_start, next_line, run_end, run_within};
 
 // Whether a line opens a fence: then with which run, counted to 255, and where the line ends.
-#[derive(Drop)]
+#[derive(Clone, Copy)]
 pub enum Opening {
     Opens(usize, usize),
     Not,
 }
 
 // Where the line stands that closes a fence, and where it ends; or that none does.
-#[derive(Drop)]
+#[derive(Clone, Copy)]
 pub enum Close {
     Closed(usize, usize),
     Unclosed,
 }
 
 // A byte sought in a paragraph, or where the paragraph ends.
-#[derive(Drop)]
+#[derive(Clone, Copy)]
 pub enum Hit {
     At(usize),
     End(usize),
@@ -148,7 +148,7 @@ pub fn fence_closes(src: &[u8], pos: usize, end: usize, byte: u8, count: usize, 
 }
 
 // One step of the search for a close.
-#[derive(Drop)]
+#[derive(Clone, Copy)]
 enum CloseTurn {
     Go(usize),
     Closed(usize, usize),
@@ -195,7 +195,7 @@ pub fn fence_close_scan(src: &[u8], from: usize, byte: u8, count: usize, g: Gram
 }
 
 // One step of the search in a paragraph.
-#[derive(Drop)]
+#[derive(Clone, Copy)]
 enum NextTurn {
     Go(usize),
     At(usize),

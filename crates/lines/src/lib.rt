@@ -1,6 +1,8 @@
 // The leaves of the scanners that take a text, after common.rs: the end of a line, escape runs, and the next byte in a paragraph. Each
 // entry refuses in the page's order (1 the text is too long, 6 the columns differ, 2 the place is past the text) and otherwise makes one
 // call.
+#![tactic(auto)]
+
 pub mod fence_tests; // what a line says of fences, and the search for a close
 
 ghost use Rattle.search.specs.Promise.{Gives};

@@ -1,5 +1,7 @@
 // The work sheet of a text by a region list in bytes, as a host in C lends it, and how many items it has. The steps are those of `sheet`,
 // whose laws they stand on; the list is read where it is.
+#![tactic(auto)]
+
 ghost use Rattle.std.specs.Prelude.{◌≡◌, false, [], ◌∷◌, ◌/◌, ◌≤◌, leb, length};
 ghost use Rattle.search.specs.Promise.{Gives};
 ghost use Rattle.common.specs.Entry.{rows, room, wide};

@@ -2,6 +2,8 @@
 //
 // One way through the code counts and writes: what lies past the run's end is passed over but counted. So a run that may be too small is
 // asked for its listing's size first, and nothing is written where it is.
+#![tactic(auto)]
+
 mod put_line; // lines
 mod scans; // the lines of the scanners
 mod tables; // the lines of the region list and of the work sheet

@@ -1,5 +1,7 @@
 // Builds a note of 1,000,000 bytes afresh, or amends its list by 100 bytes, as often as standard input says, and prints how many regions
 // the edited note has. `tools/pace` times both. The input is `b` or `a`, a blank and a number.
+#![tactic(auto)]
+
 use common::grammar::Grammar;
 use common::refusal::Answer;
 use libc::{STDIN_FILENO, STDOUT_FILENO};

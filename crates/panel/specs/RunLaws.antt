@@ -18,7 +18,7 @@ use Rattle.fence.specs.declared.FenceIter.{FenceIter}
 use Rattle.fence.specs.Fence as fence
 use Rattle.fence.specs.Laws.{turn_adv}
 use Rattle.fence.specs.Run.{kept_step, run_from}
-use Rattle.cells.specs.Bytes.{cells, readable}
+use Rattle.cells.specs.Bytes.{cells}
 use Rattle.cells.specs.BackLaws.{Narrow, reply_back}
 use Rattle.cells.specs.Reply.{fitted, written, Replied}
 use Rattle.panel.specs.State.{Made, StateRuns, Stepper, step_answer, Stepped, fence_limits, fence_cells, fence_from, fence_stepper}

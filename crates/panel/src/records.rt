@@ -1,7 +1,7 @@
 // Records for other tools: a list in bytes as a file of JSON.
-ghost use Rattle.json.specs.ByteRecords.{WroteBytes, ReadBytes};
+ghost use Rattle.json_file.specs.ByteRecords.{WroteBytes, ReadBytes};
 
-use json::bytes::{PlacedReply, read_bytes, write_bytes};
+use json_file::bytes::{PlacedReply, read_bytes, write_bytes};
 
 // The first `count` regions of a list, written in one layout: `start` first, no white space. The answer is the file's length, in two
 // numbers, the low one first.

@@ -1,6 +1,6 @@
 -- The list that building leaves in bytes, read back as numbers, is the list that building leaves in numbers. Assumes nothing.
 -- The page: "each number of a list is four bytes, low byte first."
-use Rattle.std.specs.Prelude.{◌≡◌, refl, Bool, true, false, List, [], ◌∷◌, ◌++◌, ℕ, zero, suc, ◌+◌, ◌/◌, ◌≤◌, ◌<◌, length}
+use Rattle.std.specs.Prelude.{◌≡◌, refl, Bool, true, false, List, [], ◌∷◌, ◌++◌, ℕ, zero, suc, ◌/◌, ◌≤◌, ◌<◌, length}
 use Rattle.std.proofs.Common.{sym, ap, ◌∙◌, arith, ltb-false}
 use Rattle.common.specs.Entry.{flatten, room, over, wide}
 use Rattle.common.specs.EntryLaws.{flatten-append}

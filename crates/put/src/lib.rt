@@ -1,5 +1,7 @@
 // Bytes and numbers put at a place of a run. What lies past the run's end is passed over but counted: so that the same code counts and
 // writes.
+#![tactic(auto)]
+
 ghost use Rattle.decimal.specs.Decimal.{decimal};
 ghost use Rattle.put.specs.Put.{Put};
 

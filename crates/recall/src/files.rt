@@ -1,7 +1,7 @@
 // Section 11: records for other tools, read and written.
 use crate::cells;
 use common::refusal::{Answer, Refusal};
-use json::FileRead;
+use json_file::FileRead;
 use put::put_bytes;
 use stored::form::Question;
 use stored::numbers::Numbers;
@@ -101,7 +101,7 @@ fn read(size: usize, file: &[u8], reply: Numbers) -> Numbers {
 // Reads into so many cells of a list.
 fn read_first(size: usize, file: &[u8], list: &mut [u32]) -> FileRead {
     if size <= list.len() {
-        return json::read(file, &mut list[0..size]);
+        return json_file::read(file, &mut list[0..size]);
     }
     FileRead::Value(0)
 }
@@ -195,7 +195,7 @@ fn written(size: usize, count: usize, list: &[u32], reply: Numbers) -> Numbers {
 
 fn write_first(size: usize, count: usize, list: &[u32], out: &mut [u8]) -> Answer {
     if size <= out.len() {
-        return json::write(list, count, &mut out[0..size]);
+        return json_file::write(list, count, &mut out[0..size]);
     }
     Answer::Value(0)
 }

@@ -5,7 +5,7 @@ use Rattle.search.specs.Promise.{Gives}
 use Rattle.common.specs.Entry.{flatten, room, put_at, wide}
 use Rattle.common.specs.EntryLaws.{Written, length-flatten, room_fits, rows_next, written_none, written_put, written_all, written-room}
 use Rattle.rules.specs.Grammar.{Gram}
-use Rattle.region.specs.Region.{Region, Caused, region_of, row_of}
+use Rattle.region.specs.Region.{Caused, region_of, row_of}
 use Rattle.region.specs.Regions.{next_region, regions_from, regions}
 use Rattle.common.specs.Lists.{RowPut, Wrote}
 use Rattle.region.specs.Views.{view_next, found_region}

@@ -1,6 +1,8 @@
 // Opaque regions, one after another, after the loop of context.rs: every turn makes one search for all the bytes that may open a region;
 // a fence at a line start goes first, and a hit that opens no fence is judged by the inline rule of its byte. The scan goes on after a
 // region, so that overlapping candidates are resolved leftmost first.
+#![tactic(auto)]
+
 mod pairs; // where an inline pair closes
 
 ghost use Rattle.std.specs.Prelude.{◌≤◌, ◌<◌, length};
@@ -22,7 +24,7 @@ use rules::search_bytes::Alphabet;
 use search::{byte_at, next_line, run_end};
 
 // Which kind of rule made a region.
-#[derive(Drop)]
+#[derive(Clone, Copy)]
 pub enum Cause {
     Fence,
     Symmetric,
@@ -31,7 +33,7 @@ pub enum Cause {
 
 // A region from `start` up to, not including, `end`; the index of its rule among those of its kind; and, for a fence, whether a line
 // closed it.
-#[derive(Drop)]
+#[derive(Clone, Copy)]
 pub struct Region {
     pub start: usize,
     pub end: usize,
@@ -41,7 +43,7 @@ pub struct Region {
 }
 
 // The next region and where the scan goes on from, or that there is none.
-#[derive(Drop)]
+#[derive(Clone, Copy)]
 pub enum Next {
     Region(Region, usize),
     Nothing,
@@ -49,7 +51,7 @@ pub enum Next {
 
 // One turn of the scan: on from a later place; nothing left; a region, and where the scan goes on; or an opener whose close was sought
 // in vain: its byte, where the scan goes on, and up to where the search went.
-#[derive(Drop)]
+#[derive(Clone, Copy)]
 enum Turn {
     Go(usize),
     Stop(usize),

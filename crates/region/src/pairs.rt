@@ -12,7 +12,7 @@ use lines::fence_tests::{Hit, next_in};
 use search::{run_before, run_end};
 
 // One turn of a close search: on from a later place; the end of the close; or the end of the paragraph.
-#[derive(Drop)]
+#[derive(Clone, Copy)]
 pub(crate) enum PairTurn {
     Go(usize),
     Close(usize),

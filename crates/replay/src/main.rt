@@ -1,5 +1,7 @@
 // Replays stored answers: the leaves, the scanners and the listing. Standard input holds lists of questions with their answers; ours are
 // asked the same, and each line whose answer isn't the same is told. The head of each list says how to read it.
+#![tactic(auto)]
+
 mod answers; // an answer in a list's terms
 mod fences; // section 2: the fence scanner
 mod frames; // section 5: continuation frames

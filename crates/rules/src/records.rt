@@ -7,7 +7,7 @@ use find::is_one_of;
 
 // A fence's byte, and the least length of its run.
 #[repr(C)]
-#[derive(Drop)]
+#[derive(Clone, Copy)]
 pub struct FenceRule {
     pub byte: u8,
     pub min: u8,
@@ -15,7 +15,7 @@ pub struct FenceRule {
 
 // Fence rules as columns: the bytes and the minimums of the `count` first, each of which has another byte, and the index that each had in
 // its run; and the index of the run's last rule, kept or not, 0 for none.
-#[derive(Drop)]
+#[derive(Clone, Copy)]
 pub struct Gathered {
     pub bytes: [u8; 256],
     pub mins: [u8; 256],

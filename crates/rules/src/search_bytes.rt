@@ -5,7 +5,7 @@ ghost use Rattle.rules.specs.Columns.{no_bytes, with_byte, gathered, search_byte
 use common::grammar::Grammar;
 use find::is_one_of;
 
-#[derive(Drop)]
+#[derive(Clone, Copy)]
 pub struct SearchBytes {
     pub bytes: [u8; Grammar::MAX_NEEDLES],
     pub count: usize,
@@ -64,7 +64,7 @@ pub fn search_bytes(fences: &[u8], symmetric: &[u8], openers: &[u8]) -> SearchBy
 }
 
 // The bytes that a scan for regions goes by: the grammar's, and those searched for.
-#[derive(Drop)]
+#[derive(Clone, Copy)]
 pub struct Alphabet {
     pub grammar: Grammar,
     pub searched: SearchBytes,

@@ -1,5 +1,7 @@
 // Runs of a byte and of blanks, forward and back, and lines. They take any text and any place, and refuse nothing: from a place past the
 // text each answers that place.
+#![tactic(auto)]
+
 ghost use Rattle.std.specs.Prelude.{◌+◌, ◌<◌, min, leb, get_or};
 ghost use Rattle.search.specs.Promise.{Gives};
 ghost use Rattle.search.specs.Search.{Sought, find, is, either, digit, other, holds, back, line_start, next_line};

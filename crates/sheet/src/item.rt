@@ -6,7 +6,7 @@ ghost use Rattle.sheet.specs.Sheet.{five};
 use feed::item::SheetItem;
 
 // The next item as a turn finds it: one that is shown, one that a region hides, or none.
-#[derive(Drop)]
+#[derive(Clone, Copy)]
 pub enum Seen {
     Shown(SheetItem),
     Hidden,

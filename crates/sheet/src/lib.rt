@@ -1,5 +1,7 @@
 // The work sheet: the marker and numbered items of a text that no region of a list hides, by rising content start. Both scanners and the
 // list's cursor move forward together, so that the text and the list are passed once.
+#![tactic(auto)]
+
 pub mod item; // an item as a turn finds it, and written
 
 ghost use Rattle.std.specs.Prelude.{◌≡◌, false, ◌≤◌, length};
@@ -23,21 +25,21 @@ use feed::{Feed, Head, start, take};
 use item::{Seen, put_item};
 
 // Whether an item is hidden, and the cursor's next index.
-#[derive(Drop)]
+#[derive(Clone, Copy)]
 pub struct Query {
     pub hidden: bool,
     pub index: usize,
 }
 
 // Both scanners, and the cursor's index in the list.
-#[derive(Drop)]
+#[derive(Clone, Copy)]
 pub struct Walk {
     pub feed: Feed,
     pub index: usize,
 }
 
 // What a turn tells, and what comes after the item.
-#[derive(Drop)]
+#[derive(Clone, Copy)]
 pub struct SheetStep {
     pub seen: Seen,
     pub rest: Walk,

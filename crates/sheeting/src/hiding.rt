@@ -12,7 +12,7 @@ use rules::rows::Rows;
 use rules::search_bytes::Alphabet;
 
 // The region that may hide the next place, and where the scan goes on after it. One that ends where it starts hides nothing.
-#[derive(Drop)]
+#[derive(Clone, Copy)]
 pub(crate) struct Hider {
     pub start: usize,
     pub stop: usize,

@@ -1,5 +1,7 @@
 // The work sheet of a text by its rules, in one call: the items are sieved by the regions as these are found, so that no region list
 // has to cross from the host. An item is five numbers of four bytes each: start, end, kind, accepted byte, number.
+#![tactic(auto)]
+
 pub mod counting; // how many items there are
 mod hiding; // what regions hide, as they come
 
@@ -27,14 +29,14 @@ use rules::search_bytes::Alphabet;
 use sheet::item::Seen;
 
 // Both scanners, and the region that may hide their next item.
-#[derive(Drop)]
+#[derive(Clone, Copy)]
 struct Sieve {
     feed: Feed,
     hider: Hider,
 }
 
 // What a turn tells, and what comes after the item.
-#[derive(Drop)]
+#[derive(Clone, Copy)]
 struct Sieved {
     seen: Seen,
     rest: Sieve,

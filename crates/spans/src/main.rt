@@ -1,5 +1,7 @@
 // Prints the listing of standard input, by the house grammar: a line for each region, fence, frame, item and item of the work sheet.
 // docs/PROMISES.md, `listing`, says what the numbers of a line are.
+#![tactic(auto)]
+
 use common::refusal::Answer;
 use libc::{STDIN_FILENO, STDOUT_FILENO};
 use listing::listing;

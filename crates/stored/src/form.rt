@@ -15,7 +15,7 @@ pub const TEXT: usize = LISTS;
 // The places of a letter that asks nothing.
 const UNKNOWN: u8 = 4;
 
-#[derive(Drop)]
+#[derive(Clone, Copy)]
 pub struct Form {
     // How many single numbers come first; of these, how many may be any numbers before the others, which are bytes.
     pub wide: usize,
@@ -27,7 +27,7 @@ pub struct Form {
 }
 
 // A question of a section. The numbers that ask stand beside it.
-#[derive(Drop)]
+#[derive(Clone, Copy)]
 pub struct Question {
     pub section: u32,
     // The letter that asks of one text.
@@ -39,7 +39,7 @@ pub struct Question {
 }
 
 // How the texts of a question are given: one, or one in runs; all of a length, or so many that are drawn. Or it is no question.
-#[derive(Drop)]
+#[derive(Clone, Copy)]
 pub enum Way {
     One,
     Runs,

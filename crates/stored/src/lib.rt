@@ -1,5 +1,7 @@
 // Stored answers: the numbers of a list's lines, the questions that they ask, the texts of these, and what is counted. What a program
 // that replays a list reads, asks and prints is its own.
+#![tactic(auto)]
+
 pub mod answers; // an answer in a list's terms
 pub mod form; // what stands before a question's text, and behind it
 pub mod line; // the numbers of a line

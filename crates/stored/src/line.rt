@@ -11,7 +11,7 @@ use search::{byte_at, is_at};
 // Numbers are below this.
 const TOO_LARGE: u64 = 4294967296;
 
-#[derive(Drop)]
+#[derive(Clone, Copy)]
 pub struct Line {
     // What the line begins with, and whether a star follows.
     pub letter: u8,
@@ -24,7 +24,7 @@ pub struct Line {
 }
 
 // What a line is: a comment, a section's head with its number, a question, or none of these.
-#[derive(Drop)]
+#[derive(Clone, Copy)]
 pub enum Kind {
     Comment,
     Section(u32),
@@ -33,7 +33,7 @@ pub enum Kind {
 }
 
 // What was read of a line so far.
-#[derive(Drop)]
+#[derive(Clone, Copy)]
 pub(crate) struct Reading {
     pub(crate) numbers: Numbers,
     pub(crate) asked: usize,

@@ -9,14 +9,14 @@ use search::lesser;
 // The room for a text.
 pub const ROOM: usize = 8200;
 
-#[derive(Drop)]
+#[derive(Clone, Copy)]
 pub struct Long {
     pub bytes: [u8; ROOM],
     pub size: usize,
 }
 
 // A text that was drawn, and what the next is drawn with.
-#[derive(Drop)]
+#[derive(Clone, Copy)]
 pub struct Drawn {
     pub bytes: [u8; ROOM],
     pub last: u32,

@@ -10,7 +10,7 @@ use crate::sums::{Sums, number_of};
 // The most numbers that a line has.
 pub const MOST: usize = 128;
 
-#[derive(Drop)]
+#[derive(Clone, Copy)]
 pub struct Numbers {
     // The first of them. An answer that is stored has no more.
     pub cells: [u32; MOST],

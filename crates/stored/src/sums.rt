@@ -7,7 +7,7 @@ ghost use Rattle.stored.specs.Sums.{clipped, no_sums, fed, fed_text, fed_questio
 use crate::texts::WHOLE;
 use search::lesser;
 
-#[derive(Drop)]
+#[derive(Clone, Copy)]
 pub struct Sums {
     pub asked: u32,
     pub first: u32,

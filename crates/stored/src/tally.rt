@@ -9,7 +9,7 @@ use crate::numbers::Numbers;
 // Where no section has begun.
 pub const NO_SECTION: u32 = 4294967295;
 
-#[derive(Drop)]
+#[derive(Clone, Copy)]
 pub struct Tally {
     // The number of the last line, counted from 1.
     pub line: u64,

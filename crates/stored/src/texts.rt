@@ -16,7 +16,7 @@ pub const FROM_SECOND: u8 = 2;
 
 pub const BEYOND: u8 = 3;
 
-#[derive(Drop)]
+#[derive(Clone, Copy)]
 pub struct Text {
     pub bytes: [u8; LONGEST],
     // Whether there is none of that number.
@@ -24,7 +24,7 @@ pub struct Text {
 }
 
 // A question of a block: the number of its text, and the place.
-#[derive(Drop)]
+#[derive(Clone, Copy)]
 pub struct Spot {
     pub number: usize,
     pub place: usize,

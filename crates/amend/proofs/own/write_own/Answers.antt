@@ -1,0 +1,22 @@
+-- `write_own` meets its contract: a loop of steps that writes. Assumes nothing.
+use Rattle.amend.specs.OwnLaws.{moving_first, moving_same, moving_end, moving_less, moving_puts, moving_again}
+use Rattle.amend.specs.SettleLaws.{row_long}
+use Rattle.amend.proofs.own.write_own.Goals as goal
+
+pub loop-r-init : goal.loop-r-init
+loop-r-init c = search (moving_first, row_long)
+
+pub shape_of-out-in-Nothing : goal.shape_of-out-in-Nothing
+shape_of-out-in-Nothing c = search moving_same
+
+pub returns-in-Nothing : goal.returns-in-Nothing
+returns-in-Nothing c = search moving_end
+
+pub put_moved-at-requires : goal.put_moved-at-requires
+put_moved-at-requires c = search moving_puts
+
+pub loop-r-smaller : goal.loop-r-smaller
+loop-r-smaller c = search moving_less
+
+pub loop-r-preserved : goal.loop-r-preserved
+loop-r-preserved c = search moving_again

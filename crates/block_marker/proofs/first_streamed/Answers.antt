@@ -1,0 +1,20 @@
+-- `first_streamed` meets its contract: a loop of turns. Assumes nothing.
+use Rattle.common.specs.TurnLaws.{stands_first, stands_less, stands_again, stands_stop, stands_found}
+use Rattle.block_marker.specs.Marker.{view}
+use Rattle.block_marker.specs.MarkerLaws.{stream_adv}
+use Rattle.block_marker.proofs.first_streamed.Goals as goal
+
+pub loop-n-init : goal.loop-n-init
+loop-n-init c = search (stands_first, stream_adv)
+
+pub loop-n-smaller : goal.loop-n-smaller
+loop-n-smaller c = search (stands_less view)
+
+pub loop-n-preserved : goal.loop-n-preserved
+loop-n-preserved c = search (stands_again view)
+
+pub returns-in-Stop : goal.returns-in-Stop
+returns-in-Stop c = search (stands_stop view)
+
+pub returns-in-Found : goal.returns-in-Found
+returns-in-Found c = search (stands_found view)

@@ -1,0 +1,12 @@
+-- `pass` meets its contract: a loop that skips regions. Assumes nothing.
+use Prim.Native.Nat.{◌-◌}
+use Rattle.common.specs.Entry.{wide}
+use Rattle.cells.specs.Bytes.{cells}
+use Rattle.cover.specs.CursorLaws.{Passes}
+use Rattle.byte_list.proofs.pass.Given as goal
+
+abbrev pub invariant-loop-i : goal.invariant-loop-i
+invariant-loop-i l = Passes wide (cells l.list) l.count l.index l.place l.i
+
+abbrev pub decreases-loop-i : goal.decreases-loop-i
+decreases-loop-i l = l.count - l.i

@@ -1,0 +1,12 @@
+-- `put_symmetric` meets its contract: rules are laid from the last to the first. Assumes nothing.
+use Rattle.rules.specs.RowLaws.{laying_first, twin_hides, twins_again, laying_all}
+use Rattle.cells.proofs.columns.put_symmetric.Goals as goal
+
+pub loop-i-init : goal.loop-i-init
+loop-i-init c = search (laying_first, twin_hides)
+
+pub loop-i-preserved : goal.loop-i-preserved
+loop-i-preserved c = search twins_again
+
+pub returns : goal.returns
+returns c = search laying_all

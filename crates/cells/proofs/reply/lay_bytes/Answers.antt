@@ -1,0 +1,18 @@
+-- `lay_bytes` meets its contract: a loop that lays bytes. Assumes nothing.
+use Rattle.cells.specs.ByteLaws.{lays_first, lays_room, lays_again_byte, lays_same, lays_all}
+use Rattle.cells.proofs.reply.lay_bytes.Goals as goal
+
+pub loop-i-init : goal.loop-i-init
+loop-i-init c = search lays_first
+
+pub lay_number-requires : goal.lay_number-requires
+lay_number-requires c = search lays_room
+
+pub loop-i-preserved : goal.loop-i-preserved
+loop-i-preserved c = search lays_again_byte
+
+pub shape_of-out : goal.shape_of-out
+shape_of-out c = search lays_same
+
+pub returns : goal.returns
+returns c = search lays_all

@@ -1,0 +1,17 @@
+-- `lay_number` meets its contract. Assumes nothing.
+use native.Mathlib.Omega.{arith}
+use lib.ListN.{length-set}
+use Rattle.cells.specs.ByteLaws.{laid_four}
+use Rattle.cells.proofs.reply.lay_number.Goals as goal
+
+pub bounds-out-k-2 : goal.bounds-out-k-2
+bounds-out-k-2 c = simp length-set (omega arith)
+
+pub bounds-out-k-3 : goal.bounds-out-k-3
+bounds-out-k-3 c = simp length-set (omega arith)
+
+pub bounds-out-k-4 : goal.bounds-out-k-4
+bounds-out-k-4 c = simp length-set (omega arith)
+
+pub returns : goal.returns
+returns c = search laid_four

@@ -1,0 +1,6 @@
+-- `many_of_three` meets its contract. Assumes nothing.
+use Rattle.find.specs.NeedleLaws.{reaches_three}
+use Rattle.find.proofs.blocks.many_of_three.Goals as goal
+
+pub returns : goal.returns
+returns c = search reaches_three

@@ -1,0 +1,10 @@
+-- `pass` meets its contract: a loop over blocks. Assumes nothing.
+use Prim.Native.Nat.{◌-◌}
+use Rattle.find.specs.Blocks.{of_three, Reaches}
+use Rattle.find.proofs.blocks.pass.Given as goal
+
+abbrev pub invariant-loop-i : goal.invariant-loop-i
+invariant-loop-i l = Reaches (of_three l.t) l.src l.from l.end l.i
+
+abbrev pub decreases-loop-i : goal.decreases-loop-i
+decreases-loop-i l = l.end - l.i

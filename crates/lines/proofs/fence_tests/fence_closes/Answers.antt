@@ -1,0 +1,9 @@
+-- `fence_closes` meets its contract. Assumes nothing.
+use Rattle.lines.specs.FenceLaws.{closes-short, closes-rest}
+use Rattle.lines.proofs.fence_tests.fence_closes.Goals as goal
+
+pub returns-then-run_count-count : goal.returns-then-run_count-count
+returns-then-run_count-count c = search closes-short
+
+pub returns : goal.returns
+returns c = search closes-rest

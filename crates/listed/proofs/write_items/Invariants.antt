@@ -1,0 +1,16 @@
+-- `write_items` meets its contract: a loop of turns that writes. Assumes nothing.
+use lib.ListN.{length}
+use Rattle.feed.specs.Ahead.{ahead}
+use Rattle.common.specs.Entry.{rows, wide}
+use Rattle.cells.specs.Bytes.{cells}
+use Rattle.sheet.specs.Parts.{left, Ready}
+use Rattle.sheet.specs.LeftLaws.{Writing}
+use Rattle.sheeting.specs.Sheeting.{item_bytes}
+use Rattle.listed.proofs.write_items.Given as goal
+
+abbrev pub invariant-loop-w : goal.invariant-loop-w
+invariant-loop-w l =
+    Writing l.markers l.delims l.text (rows wide l.count (cells l.list)) item_bytes 20 (left l.markers l.delims l.text (rows wide l.count (cells l.list)) l.initial.w.feed) l.initial.out l.w.feed l.out l.n × Ready l.markers l.delims (cells l.list) l.count l.text l.w
+
+abbrev pub decreases-loop-w : goal.decreases-loop-w
+decreases-loop-w l = length (ahead l.markers l.delims l.text l.w.feed)

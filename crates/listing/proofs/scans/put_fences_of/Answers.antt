@@ -1,0 +1,31 @@
+-- `put_fences_of` meets its contract. Assumes nothing.
+use Rattle.common.specs.Refusals.{told_span}
+use Rattle.fence.specs.declared.FenceIter.{FenceIter}
+use Rattle.listing.specs.ScannerLines.{fences-first}
+use Rattle.listing.specs.GoingLaws.{going_same, going_here, lines_less, lines_again, lines_end}
+use borrow.Author.Rules.{rules}
+use Rattle.listing.proofs.scans.put_fences_of.Goals as goal
+
+pub loop-s-init : goal.loop-s-init
+loop-s-init c = search (fences-first, rules)
+
+pub put_three-k-requires : goal.put_three-k-requires
+put_three-k-requires c = search going_here
+
+pub loop-s-smaller : goal.loop-s-smaller
+loop-s-smaller c = search (lines_less FenceIter told_span)
+
+pub loop-s-preserved : goal.loop-s-preserved
+loop-s-preserved c = search (lines_again FenceIter told_span)
+
+pub shape_of-out-in-Nothing : goal.shape_of-out-in-Nothing
+shape_of-out-in-Nothing c = search going_same
+
+pub returns-in-Nothing : goal.returns-in-Nothing
+returns-in-Nothing c = search (lines_end FenceIter told_span)
+
+pub shape_of-out-in-Refused : goal.shape_of-out-in-Refused
+shape_of-out-in-Refused c = search going_same
+
+pub returns-in-Refused : goal.returns-in-Refused
+returns-in-Refused c = search (lines_end FenceIter told_span)

@@ -1,0 +1,6 @@
+-- `marker_cells` meets its contract. Assumes nothing.
+use Rattle.panel.specs.StateLaws.{item-cells}
+use Rattle.panel.proofs.states.marker_cells.Goals as goal
+
+pub returns : goal.returns
+returns c = search item-cells

@@ -1,0 +1,22 @@
+-- `write_regions` meets its contract: a loop that writes. Assumes nothing.
+use Rattle.region.specs.LoopLaws.{pouring_first, pouring_room, pouring_next, pouring_less, pouring_end, pouring_same}
+use Rattle.pour.specs.PourLaws.{row_bytes_lem}
+use Rattle.pour.proofs.pouring.write_regions.Goals as goal
+
+pub loop-r-init : goal.loop-r-init
+loop-r-init c = search (pouring_first, row_bytes_lem)
+
+pub put_region-found-requires : goal.put_region-found-requires
+put_region-found-requires c = search pouring_room
+
+pub loop-r-smaller : goal.loop-r-smaller
+loop-r-smaller c = search pouring_less
+
+pub loop-r-preserved : goal.loop-r-preserved
+loop-r-preserved c = search pouring_next
+
+pub shape_of-out-in-Nothing : goal.shape_of-out-in-Nothing
+shape_of-out-in-Nothing c = search pouring_same
+
+pub returns-in-Nothing : goal.returns-in-Nothing
+returns-in-Nothing c = search pouring_end

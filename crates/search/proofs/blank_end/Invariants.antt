@@ -1,0 +1,12 @@
+-- `blank_end` meets its contract: a loop that searches by a test. Assumes nothing.
+use Prim.Native.Nat.{◌-◌}
+use lib.ListN.{length}
+use Rattle.search.specs.Search.{either, other}
+use Rattle.search.specs.SearchLaws.{Seeks}
+use Rattle.search.proofs.blank_end.Given as goal
+
+abbrev pub invariant-loop-i : goal.invariant-loop-i
+invariant-loop-i l = Seeks (other (either l.sep l.tab)) l.src l.from l.i
+
+abbrev pub decreases-loop-i : goal.decreases-loop-i
+decreases-loop-i l = length l.src - l.i

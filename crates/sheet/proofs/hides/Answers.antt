@@ -1,0 +1,6 @@
+-- `hides` meets its contract. Assumes nothing.
+use Rattle.sheet.specs.ShowLaws.{hid}
+use Rattle.sheet.proofs.hides.Goals as goal
+
+pub returns : goal.returns
+returns c = search hid

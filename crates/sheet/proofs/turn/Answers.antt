@@ -1,0 +1,16 @@
+-- `turn` meets its contract: its three ways out. Assumes nothing.
+use borrow.Author.Rules.{rules}
+use Rattle.sheet.specs.ShowLaws.{turned_end, item_ended, turned_hidden, turned_shown}
+use Rattle.sheet.proofs.turn.Goals as goal
+
+pub hides-h-requires : goal.hides-h-requires
+hides-h-requires c = search (item_ended, rules)
+
+pub returns-then-h : goal.returns-then-h
+returns-then-h c = search turned_hidden
+
+pub returns-in-End : goal.returns-in-End
+returns-in-End c = search turned_end
+
+pub returns-else-h : goal.returns-else-h
+returns-else-h c = search turned_shown
