@@ -1,5 +1,7 @@
 // What is counted: amendments that are made, refusals by number, and what differs from building afresh.
-use libc::STDOUT_FILENO;
+
+// The descriptor that the program writes to.
+const STDOUT: i32 = 1;
 
 #[derive(Clone, Copy)]
 pub(crate) struct Tally {
@@ -89,9 +91,9 @@ fn print_refusal(i: usize, times: u64) {
 }
 
 pub(crate) fn text(bytes: &[u8]) {
-    io::write_all(STDOUT_FILENO, bytes);
+    io::write_all(STDOUT, bytes);
 }
 
 pub(crate) fn number(n: u64) {
-    io::print_decimal(STDOUT_FILENO, n);
+    io::print_decimal(STDOUT, n);
 }

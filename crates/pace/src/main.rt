@@ -4,7 +4,12 @@
 
 use common::grammar::Grammar;
 use common::refusal::Answer;
-use libc::{STDIN_FILENO, STDOUT_FILENO};
+
+// The descriptor that the program reads.
+const STDIN: i32 = 0;
+
+// The descriptor that the program writes to.
+const STDOUT: i32 = 1;
 
 const NOTE: usize = 1000000;
 
@@ -19,7 +24,7 @@ const CELLS: usize = 256;
 fn main() {
     let mut space = [0u8; 16];
     let order: &mut [u8] = &mut space;
-    let n = io::read_full(STDIN_FILENO, order);
+    let n = io::read_full(STDIN, order);
     let times = times_of(&order[..], n);
     let mut room = blank();
     let note: &mut [u8] = &mut room;
@@ -171,6 +176,6 @@ fn amend(note: &[u8], list: &[u32], held: usize, own: &[u8], out: &mut [u32]) ->
 }
 
 fn report(count: usize) {
-    io::print_decimal(STDOUT_FILENO, count as u64);
-    io::write_all(STDOUT_FILENO, b" regions\n");
+    io::print_decimal(STDOUT, count as u64);
+    io::write_all(STDOUT, b" regions\n");
 }

@@ -14,8 +14,10 @@ mod report; // what is printed
 mod sections; // which section asks what
 mod sheets; // section 8: the work sheet
 
-use libc::STDIN_FILENO;
 use stored::parts::bytes_part;
+
+// The descriptor that the program reads.
+const STDIN: i32 = 0;
 
 // The room for all lists. What stands behind it in a longer input isn't read, and then the counts fall short.
 const ROOM: usize = 2000001;
@@ -28,6 +30,6 @@ fn room() -> [u8; ROOM] {
 fn main() {
     let mut space = room();
     let buffer: &mut [u8] = &mut space;
-    let n = io::read_full(STDIN_FILENO, buffer);
+    let n = io::read_full(STDIN, buffer);
     judge::judge(bytes_part(&buffer[..], 0, n));
 }

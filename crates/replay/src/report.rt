@@ -1,20 +1,22 @@
 // What is printed: the lines that differ, and one line for each section.
-use libc::STDOUT_FILENO;
 use search::next_line;
 use stored::numbers::Numbers;
 use stored::parts::{bytes_part, number_at, part};
 use stored::tally::{NO_SECTION, Tally};
 
+// The descriptor that the program writes to.
+const STDOUT: i32 = 1;
+
 // How many differing lines of a section are told; all are counted.
 const MOST_TOLD: u64 = 20;
 
 fn print(text: &[u8]) {
-    io::write_all(STDOUT_FILENO, text);
+    io::write_all(STDOUT, text);
 }
 
 fn print_count(before: &[u8], n: u64) {
     print(before);
-    io::print_decimal(STDOUT_FILENO, n);
+    io::print_decimal(STDOUT, n);
 }
 
 // A line that differs, and what was found: nothing where it is no question of its section, or broken off.

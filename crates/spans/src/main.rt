@@ -3,8 +3,13 @@
 #![tactic(auto)]
 
 use common::refusal::Answer;
-use libc::{STDIN_FILENO, STDOUT_FILENO};
 use listing::listing;
+
+// The descriptor that the program reads.
+const STDIN: i32 = 0;
+
+// The descriptor that the program writes to.
+const STDOUT: i32 = 1;
 
 // One byte more than is listed, so that a longer input is seen.
 const INPUT_ROOM: usize = 8193;
@@ -25,14 +30,14 @@ fn room() -> [u8; OUTPUT_ROOM] {
 }
 
 fn print_listing(input: &mut [u8], output: &mut [u8]) {
-    let n = io::read_full(STDIN_FILENO, input);
+    let n = io::read_full(STDIN, input);
     print_listing_of(&input[..n], output);
 }
 
 fn print_listing_of(text: &[u8], output: &mut [u8]) {
     match listing(text, output) {
         Answer::Value(n) => {
-            io::write_all(STDOUT_FILENO, &output[..n]);
+            io::write_all(STDOUT, &output[..n]);
         }
         Answer::Refused(_) => {} // never: there is room
     }
