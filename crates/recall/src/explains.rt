@@ -1,5 +1,5 @@
 // Section 10: why a line is not on the work sheet.
-use crate::cells;
+use crate::lists;
 use common::grammar::Grammar;
 use common::refusal::Answer;
 use explain::{Explained, Reason, explain};
@@ -38,7 +38,7 @@ fn by_house(text: &[u8], line: usize, reply: Numbers) -> Numbers {
     let once = [Grammar::PAIR_COUNT];
     let openers = [Grammar::OPENER];
     let closers = [Grammar::CLOSER];
-    let mut space = [0u32; cells::ROOM];
+    let mut space = [0u32; lists::ROOM];
     let list: &mut [u32] = &mut space;
     let built = context::build(
         text,

@@ -1,5 +1,5 @@
 // Section 11: records for other tools, read and written.
-use crate::cells;
+use crate::lists;
 use common::refusal::{Answer, Refusal};
 use json_file::FileRead;
 use put::put_bytes;
@@ -92,7 +92,7 @@ fn put(file: &mut [u8], n: usize, piece: &[u8]) -> usize {
 }
 
 fn read(size: usize, file: &[u8], reply: Numbers) -> Numbers {
-    let mut space = cells::marked(size);
+    let mut space = lists::marked(size);
     let list: &mut [u32] = &mut space;
     let answer = read_first(size, file, list);
     told(answer, part(&list[..], 0, size), reply)

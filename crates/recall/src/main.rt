@@ -2,7 +2,7 @@
 // questions with their answers; ours are asked the same, and each line whose answer isn't the same is told. The head of each list says how to read it.
 #![tactic(auto)]
 
-mod cells; // lists of so many cells
+mod lists; // lists of so many cells
 mod covers; // section 7: the cursor
 mod explains; // section 10: why a line is not on the work sheet
 mod files; // section 11: records for other tools

@@ -1,5 +1,5 @@
 // Section 6: regions, and the bytes that are searched for.
-use crate::cells;
+use crate::lists;
 use common::grammar::Grammar;
 use common::refusal::Answer;
 use lines::fence_tests::fence_table;
@@ -52,10 +52,10 @@ fn grammar_of(bytes: &[u8], i: usize) -> Grammar {
 }
 
 fn built(question: Question, asked: &[u32], bytes: &[u8], text: &[u8], reply: Numbers) -> Numbers {
-    let mut space = [0u32; cells::ROOM];
+    let mut space = [0u32; lists::ROOM];
     let list: &mut [u32] = &mut space;
     let answer = build(question, asked, bytes, grammar_of(bytes, 0), text, list);
-    cells::entries(answer, &list[..], 2, reply)
+    lists::entries(answer, &list[..], 2, reply)
 }
 
 fn built_into(
@@ -66,10 +66,10 @@ fn built_into(
     text: &[u8],
     reply: Numbers,
 ) -> Numbers {
-    let mut space = cells::marked(size);
+    let mut space = lists::marked(size);
     let list: &mut [u32] = &mut space;
     let answer = build_first(size, question, asked, bytes, text, list);
-    cells::told(answer, part(&list[..], 0, size), reply)
+    lists::told(answer, part(&list[..], 0, size), reply)
 }
 
 // Builds into so many cells of a list.

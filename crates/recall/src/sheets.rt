@@ -1,5 +1,5 @@
 // Section 8: the work sheet.
-use crate::cells;
+use crate::lists;
 use common::grammar::Grammar;
 use common::refusal::Answer;
 use common::sets;
@@ -35,7 +35,7 @@ fn whole(
     text: &[u8],
     reply: Numbers,
 ) -> Numbers {
-    let mut space = [0u32; cells::ROOM];
+    let mut space = [0u32; lists::ROOM];
     let list: &mut [u32] = &mut space;
     let answer = sheet(
         question,
@@ -46,7 +46,7 @@ fn whole(
         text,
         list,
     );
-    cells::entries(answer, &list[..], 5, reply)
+    lists::entries(answer, &list[..], 5, reply)
 }
 
 fn into_cells(
@@ -58,10 +58,10 @@ fn into_cells(
     text: &[u8],
     reply: Numbers,
 ) -> Numbers {
-    let mut space = cells::marked(size);
+    let mut space = lists::marked(size);
     let list: &mut [u32] = &mut space;
     let answer = sheet_first(size, question, bytes, regions, count, text, list);
-    cells::told(answer, part(&list[..], 0, size), reply)
+    lists::told(answer, part(&list[..], 0, size), reply)
 }
 
 // Writes into so many cells of a list.

@@ -1,5 +1,4 @@
 -- `records_of` is safe and ends: the place rises to the array's end. Assumes nothing.
-use borrow.Author.Rules.{rules}
 use mathlib.Core.Path.{◌≡◌}
 use Prim.Native.Nat.{◌-◌}
 use lib.ListN.{length}
