@@ -6,7 +6,7 @@ use Rattle.search.specs.Promise.{Gives, Steps}
 use Rattle.common.specs.Entry.{rows, room, shaped, wide}
 use Rattle.common.specs.Refusals.{given, refused}
 use Rattle.cover.specs.Cursor.{passed, cover_answer, cover_next}
-use Rattle.cover.specs.CursorLaws.{cover_refused, cover_past, cover_before, cover_found}
+use Rattle.cover.proofs.CursorLaws.{cover_refused, cover_past, cover_before, cover_found}
 use Rattle.cover.specs.Shape.{misshapen, region_at}
 use Rattle.cover.specs.ShapeLaws.{misshapen-over, misshapen_no, misshapen_yes, region_there, region_none}
 use Rattle.cells.specs.Bytes.{cells, row_bytes}

@@ -12,7 +12,7 @@ use Rattle.region.specs.Regions.{regions}
 use Rattle.common.specs.Lists.{crowded, Filled, build_answer}
 use Rattle.region.specs.Ahead.{regions-shaped}
 use Rattle.cover.specs.Cursor.{coverage, cover_run, Rising}
-use Rattle.cover.specs.CursorLaws.{fresh_plain}
+use Rattle.cover.proofs.CursorLaws.{fresh_plain}
 use Rattle.context.specs.Build.{Built, built_answer, built_list}
 use Rattle.region.specs.LoopLaws.{row-wide}
 

@@ -1,4 +1,3 @@
 pub mod Cursor
 pub mod Shape
-pub mod CursorLaws
 pub mod ShapeLaws

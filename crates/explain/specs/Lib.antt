@@ -1,9 +1,4 @@
 pub mod Reasons
-pub mod Examples
 pub mod LedLaws
 pub mod SheetLines
-pub mod TrueLaws
-pub mod OnceLaws
 pub mod Parts
-pub mod WayLaws
-pub mod AnswerLaws

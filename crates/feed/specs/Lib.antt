@@ -3,4 +3,3 @@ pub mod Ahead
 pub mod Feeds
 pub mod FeedLaws
 pub mod HouseLaws
-pub mod TestedLaws

@@ -18,7 +18,7 @@ use Rattle.cover.specs.Cursor.{Rising}
 use Rattle.feed.specs.Items.{marked, counted, mark_items_from, numbered_items_from, mark_items, numbered_items, merge, tested_place}
 use Rattle.sheet.specs.Sheet.{inside, outside}
 use Rattle.feed.specs.FeedLaws.{merge_number, merge-mark}
-use Rattle.feed.specs.TestedLaws.{two_before_lem}
+use Rattle.feed.proofs.TestedLaws.{two_before_lem}
 use Rattle.feed.specs.declared.item.SheetItem.{SheetItem}
 
 -- items whose content starts never fall, none of them before `low`

@@ -8,7 +8,7 @@ use Rattle.common.specs.Entry.{rows, wide}
 use Rattle.common.specs.declared.refusal.Found.{Found}
 use Rattle.common.specs.declared.refusal.Found.TheVariants as found
 use Rattle.cover.specs.Cursor.{cover_answer, cover_next, covers, coverage, Ended}
-use Rattle.cover.specs.CursorLaws.{query_ended}
+use Rattle.cover.proofs.CursorLaws.{query_ended}
 use Rattle.cover.specs.declared.cursor.Cover.{Cover}
 use Rattle.feed.specs.Items.{tested_place}
 use Rattle.sheet.specs.Sheet.{inside}

@@ -2,7 +2,7 @@
 use Prim.Native.Nat.{◌-◌}
 use Rattle.common.specs.Entry.{wide}
 use Rattle.cells.specs.Bytes.{cells}
-use Rattle.cover.specs.CursorLaws.{Passes}
+use Rattle.cover.proofs.CursorLaws.{Passes}
 use Rattle.byte_list.proofs.pass.Given as goal
 
 abbrev pub invariant-loop-i : goal.invariant-loop-i

@@ -1,5 +1,5 @@
 -- `explain` meets its contract. Assumes nothing.
-use Rattle.explain.specs.AnswerLaws.{explain_rules}
+use Rattle.explain.proofs.AnswerLaws.{explain_rules}
 use Rattle.explain.proofs.explain.Goals as goal
 
 pub returns-then-is_misshapen : goal.returns-then-is_misshapen

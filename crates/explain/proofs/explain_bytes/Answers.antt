@@ -1,5 +1,5 @@
 -- `explain_bytes` meets its contract. Assumes nothing.
-use Rattle.explain.specs.AnswerLaws.{explain_rules}
+use Rattle.explain.proofs.AnswerLaws.{explain_rules}
 use Rattle.explain.proofs.explain_bytes.Goals as goal
 
 pub returns-then-is_misshapen : goal.returns-then-is_misshapen

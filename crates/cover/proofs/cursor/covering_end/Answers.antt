@@ -1,5 +1,5 @@
 -- `covering_end` meets its contract: its four ways out. Assumes nothing.
-use Rattle.cover.specs.CursorLaws.{cover_refused, cover_past, cover_before, cover_found}
+use Rattle.cover.proofs.CursorLaws.{cover_refused, cover_past, cover_before, cover_found}
 use Rattle.cover.proofs.cursor.covering_end.Goals as goal
 
 pub returns-then-list-count : goal.returns-then-list-count

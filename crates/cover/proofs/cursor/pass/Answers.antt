@@ -1,5 +1,5 @@
 -- `pass` meets its contract: a loop that skips regions. Assumes nothing.
-use Rattle.cover.specs.CursorLaws.{pass_rules}
+use Rattle.cover.proofs.CursorLaws.{pass_rules}
 use Rattle.cover.proofs.cursor.pass.Goals as goal
 
 pub loop-i-init : goal.loop-i-init

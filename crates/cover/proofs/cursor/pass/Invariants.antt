@@ -1,6 +1,6 @@
 -- `pass` meets its contract: a loop that skips regions. Assumes nothing.
 use Prim.Native.Nat.{◌-◌}
-use Rattle.cover.specs.CursorLaws.{Passes}
+use Rattle.cover.proofs.CursorLaws.{Passes}
 use Rattle.common.specs.Entry.{wide}
 use Rattle.cover.proofs.cursor.pass.Given as goal
 

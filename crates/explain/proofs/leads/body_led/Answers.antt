@@ -1,5 +1,5 @@
 -- `body_led` meets its contract. Assumes nothing.
-use Rattle.explain.specs.WayLaws.{body_rules, body_digit}
+use Rattle.explain.proofs.WayLaws.{body_rules, body_digit}
 use Rattle.explain.proofs.leads.body_led.Goals as goal
 
 pub number_led-requires-clause-p_value : goal.number_led-requires-clause-p_value

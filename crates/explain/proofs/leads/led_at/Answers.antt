@@ -1,5 +1,5 @@
 -- `led_at` meets its contract. Assumes nothing.
-use Rattle.explain.specs.WayLaws.{led_read, line-front, front-short}
+use Rattle.explain.proofs.WayLaws.{led_read, line-front, front-short}
 use Rattle.explain.proofs.leads.led_at.Goals as goal
 
 pub slice_bounds-line-end : goal.slice_bounds-line-end

@@ -1,5 +1,5 @@
 -- `line_begin` meets its contract. Assumes nothing.
-use Rattle.explain.specs.WayLaws.{seeking_rules}
+use Rattle.explain.proofs.WayLaws.{seeking_rules}
 use Rattle.explain.proofs.leads.line_begin.Goals as goal
 
 pub returns-then-line-eq0 : goal.returns-then-line-eq0

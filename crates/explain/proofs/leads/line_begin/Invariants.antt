@@ -1,5 +1,5 @@
 -- `line_begin` meets its contract. Assumes nothing.
-use Rattle.explain.specs.WayLaws.{Seeking}
+use Rattle.explain.proofs.WayLaws.{Seeking}
 use Rattle.explain.proofs.leads.line_begin.Given as goal
 
 abbrev pub invariant-loop-left : goal.invariant-loop-left

@@ -1,5 +1,5 @@
 -- `line_led` meets its contract. Assumes nothing.
-use Rattle.explain.specs.WayLaws.{line-within, line_there, line_not}
+use Rattle.explain.proofs.WayLaws.{line-within, line_there, line_not}
 use Rattle.explain.proofs.leads.line_led.Goals as goal
 
 pub led_at-requires-clause-a_in_bounds : goal.led_at-requires-clause-a_in_bounds

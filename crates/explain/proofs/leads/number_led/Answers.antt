@@ -1,5 +1,5 @@
 -- `number_led` meets its contract. Assumes nothing.
-use Rattle.explain.specs.WayLaws.{number_rules}
+use Rattle.explain.proofs.WayLaws.{number_rules}
 use Rattle.explain.proofs.leads.number_led.Goals as goal
 
 pub returns-then-next-eq-DIGITS : goal.returns-then-next-eq-DIGITS

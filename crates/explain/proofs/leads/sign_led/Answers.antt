@@ -1,5 +1,5 @@
 -- `sign_led` meets its contract. Assumes nothing.
-use Rattle.explain.specs.WayLaws.{sign_rules, sign_fits}
+use Rattle.explain.proofs.WayLaws.{sign_rules, sign_fits}
 use Rattle.explain.proofs.leads.sign_led.Goals as goal
 
 pub returns-then-j-line : goal.returns-then-j-line

@@ -17,7 +17,7 @@ use Rattle.sheet.specs.Sheet.{sheet_of}
 use Rattle.feed.specs.declared.item.SheetItem.{SheetItem}
 use Rattle.explain.specs.LedLaws.{led_items, Lies}
 use Rattle.explain.specs.SheetLines.{line_items, shown_on, lies_on, sheet_by_lines}
-use Rattle.explain.specs.TrueLaws.{Shown, each_member, member_flat, drop_member, Begun, starts_begun, line_begun, shown-item, one_line}
+use Rattle.explain.proofs.TrueLaws.{Shown, each_member, member_flat, drop_member, Begun, starts_begun, line_begun, shown-item, one_line}
 
 -- ---- lines begin one behind the other, so that no two have a start in common
 abbrev Ascends : List ℕ → Type 0

@@ -27,7 +27,7 @@ use Rattle.sheet.specs.Parts.{SortedRows, is_at}
 use Rattle.sheet.specs.ShowLaws.{hid}
 use Rattle.explain.specs.Reasons.{hiders, hidden_by, why, line_led, explain_answer, reason_values, told_explained}
 use Rattle.explain.specs.Parts.{led_place, reason_by, reason_of, line_answer}
-use Rattle.explain.specs.TrueLaws.{hiders_none, hiders_one, Shown, on_sheet, sheet_on, HidesLine, hidden_by_lem, by_hidden, hidden_one}
+use Rattle.explain.proofs.TrueLaws.{hiders_none, hiders_one, Shown, on_sheet, sheet_on, HidesLine, hidden_by_lem, by_hidden, hidden_one}
 use Rattle.common.specs.declared.span.Span.{Span}
 use Rattle.feed.specs.declared.item.SheetItem.{SheetItem}
 use Rattle.explain.specs.declared.leads.Lead.{Lead}

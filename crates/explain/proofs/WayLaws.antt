@@ -26,7 +26,7 @@ use Rattle.common.specs.Sets.{is_marker, is_delimiter, class_of}
 use Rattle.common.specs.ClassLaws.{class_marker, class_delimiter, class_digit}
 use Rattle.common.specs.Grammars.{house_marks}
 use Rattle.explain.specs.Parts.{begins_at, sign_led}
-use Rattle.explain.specs.TrueLaws.{line_begun}
+use Rattle.explain.proofs.TrueLaws.{line_begun}
 use Rattle.explain.specs.declared.leads.Lead.{Lead}
 use Rattle.explain.specs.declared.leads.Lead.TheVariants as led
 use Rattle.explain.specs.declared.leads.Begin.{Begin}

@@ -1,0 +1,5 @@
+pub mod TrueLaws
+pub mod OnceLaws
+pub mod WayLaws
+pub mod AnswerLaws
+pub mod Examples
