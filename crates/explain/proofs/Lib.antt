@@ -2,4 +2,3 @@ pub mod TrueLaws
 pub mod OnceLaws
 pub mod WayLaws
 pub mod AnswerLaws
-pub mod Examples

@@ -1,4 +1,5 @@
 pub mod Reasons
+pub mod Examples
 pub mod LedLaws
 pub mod SheetLines
 pub mod Parts
