@@ -25,7 +25,7 @@ lock() {
     flock 9
 }
 
-# Whether a file is there and no source of the crates is newer; an edit that must fail is none.
+# Whether a file is there and no source of the crates is newer; an edit that must fail is none, nor is what rt makes in a crate's out/.
 current() {
-    [ -e "$1" ] && [ -z "$(find "$top/crates" "$top/crates.txt" -name must-fail -prune -o -newer "$1" -print -quit)" ]
+    [ -e "$1" ] && [ -z "$(find "$top/crates" "$top/crates.txt" \( -name must-fail -o -name out \) -prune -o -type f -newer "$1" -print -quit)" ]
 }
