@@ -1,3 +1,4 @@
 pub mod Page
 pub mod Marked
 pub mod Requests
+pub mod Dropped

@@ -1,11 +1,11 @@
 -- The grammar of rules given as columns. Assumes nothing.
 -- The page: "Rules come as columns of numbers" and "Bytes searched for: fence bytes, symmetric bytes, asymmetric openers, in that order,
 -- without repeats, the first eleven kept."
-use Rattle.std.specs.Prelude.{Bool, false, cond, ◌||◌, List, [], ◌∷◌, ◌++◌, ℕ, ◌+◌, leb, length, get_or, take, set}
+use Rattle.std.specs.Prelude.{Bool, false, not, cond, ◌||◌, ◌&&◌, List, [], ◌∷◌, ◌++◌, ℕ, zero, suc, ◌+◌, leb, length, get_or, take, set}
 use Rattle.common.specs.Refusals.{differ}
-use Rattle.common.specs.Sets.{padded}
+use Rattle.common.specs.Sets.{padded, as_flag}
 use Rattle.search.specs.Search.{one_of}
-use Rattle.common.specs.Rules.{rule_index, has_rule, least_of, on_byte}
+use Rattle.common.specs.Rules.{rule_index, has_rule, least_of, entry, on_byte}
 use Rattle.lines.specs.Reader.{reader}
 use Rattle.common.specs.declared.grammar.Grammar.{Grammar}
 use Rattle.rules.specs.Grammar.{Rule, plain, sym, asym, Gram}
@@ -58,6 +58,28 @@ gained_of fences symmetric openers = gained_all (gained_all (gained_all [] fence
 
 unfoldable pub searched : Columns → List ℕ
 searched c = gained_of c.fence_bytes c.inline.sym_bytes c.inline.openers
+
+-- ---- the bytes left out
+-- how many numbers below n pass a test
+unfoldable pub how_many : (ℕ → Bool) → ℕ → ℕ
+how_many t zero = 0
+how_many t (suc n) = as_flag (t n) + how_many t n
+
+-- whether a byte is a fence's, a symmetric one or an opener
+abbrev pub rule_byte : List ℕ → List ℕ → List ℕ → ℕ → Bool
+rule_byte fences symmetric openers b = one_of fences b || (one_of symmetric b || one_of openers b)
+
+-- "how many distinct bytes were left out": of the 256 bytes, those that are a rule's and none of the kept ones
+abbrev pub left_of : List ℕ → List ℕ → List ℕ → List ℕ → ℕ
+left_of kept fences symmetric openers = how_many (λ b. rule_byte fences symmetric openers b && not (one_of kept b)) 256
+
+-- of all rules
+unfoldable pub left_out : Columns → ℕ
+left_out c = left_of (searched c) c.fence_bytes c.inline.sym_bytes c.inline.openers
+
+-- how many of three sets, which such columns may be given as, have a number
+abbrev pub sets_with : List Bool → List Bool → List Bool → ℕ → ℕ
+sets_with a b c x = as_flag (entry false a x) + as_flag (entry false b x) + as_flag (entry false c x)
 
 -- ---- the same as an array of eleven and a count
 abbrev pub as_bytes : List ℕ → SearchBytes

@@ -2,7 +2,9 @@ pub mod Grammar
 pub mod Columns
 pub mod Rows
 pub mod ColumnLaws
+pub mod LeftOutLaws
 pub mod DifferLaws
 pub mod RowLaws
 pub mod Records
 pub mod RecordLaws
+pub mod DistinctLaws

@@ -1,8 +1,8 @@
 -- Laws of fence rules as records: one rule more, and that the kept rules say what all rules of the run say. Assumes nothing.
-use Rattle.std.specs.Prelude.{◌≡◌, refl, Bool, true, ◌||◌, ◌⊎◌, eqb, ltb, leb, length, take, drop, set, replicate}
+use Rattle.std.specs.Prelude.{◌≡◌, refl, Bool, true, ◌||◌, ◌&&◌, ◌⊎◌, eqb, ltb, leb, length, take, drop, set, replicate}
 use Rattle.std.proofs.Math.Path.{sym as inv, ap, fun_ext}
 use Rattle.std.proofs.Common.{subst, ◌∙◌, inl, inr, ⊎_elim, not-suc-le-zero, add-zero, add-one, arith, length-append, drop_of_length-le, take_all, drop-cons, get_or-append-add}
-use Rattle.std.proofs.Math.Bool.{false, cond, or-true}
+use Rattle.std.proofs.Math.Bool.{false, not, cond, or-true}
 use mathlib.Core.List.{List, [], ◌∷◌, ◌++◌, map-append, append-nil, append_assoc}
 use Prim.Native.Nat.{ℕ, zero, suc, ◌+◌, ◌-◌, ◌≤◌, ◌<◌, min}
 use Rattle.std.proofs.Math.ListN.{get_or, get_or-append}
@@ -10,13 +10,13 @@ use Rattle.std.proofs.lemmas.List.{length-map}
 use borrow.Author.Tests.{eq-eqb, eqb-true, eqb-false, lt-ltb, le-ltb, ltb-true, ltb-false, ne_eqb, le-leb, lt-leb, leb-true, leb-false}
 use Rattle.search.specs.Promise.{Gives}
 use Rattle.search.specs.Search.{is, one_of, find}
-use Rattle.search.specs.SearchLaws.{decide, clash, is_yes, is_no, is_true, one_append, find_here, find-next, find_end, find_at, find_prefix, find_past}
+use Rattle.search.specs.SearchLaws.{decide, clash, is_yes, is_no, is_true, one_append, find_here, find-next, find_end, find_at, find_before, find_prefix, find_past}
 use Rattle.common.specs.Sets.{padded}
 use Rattle.common.specs.Rules.{rule_index, has_rule, least_of, on_byte}
 use Rattle.common.specs.declared.grammar.Grammar.{Grammar}
 use Rattle.lines.specs.Reader.{reader}
 use Rattle.rules.specs.Grammar.{plain, Gram}
-use Rattle.rules.specs.Columns.{inline_rules, columns, searched, holding, gained, gained_all, inline_rule, fence_index_of, gram_of}
+use Rattle.rules.specs.Columns.{Columns, inline_rules, columns, how_many, rule_byte, left_out, searched, holding, gained, gained_all, inline_rule, fence_index_of, gram_of}
 use Rattle.rules.specs.ColumnLaws.{pad_take, pad_set}
 use Rattle.rules.specs.Records.{no_rule, no_rules, rule_bytes, rule_mins, kept_bytes, kept_mins, unkept, with_rule, OneMore, gathered_from, gathered_of, AllGathered}
 use Rattle.rules.specs.declared.records.FenceRule.{FenceRule}
@@ -127,7 +127,7 @@ held_same : (l : List ℕ) (b : ℕ) → holding l b ≡ true → gained l b ≡
 held_same l b e = rw e
 
 -- a byte that a list has, a longer one has
-one_first : (l k : List ℕ) (b : ℕ) → one_of l b ≡ true → one_of (l ++ k) b ≡ true
+pub one_first : (l k : List ℕ) (b : ℕ) → one_of l b ≡ true → one_of (l ++ k) b ≡ true
 unfolding one_of
 one_first [] k b e = absurd (clash e refl)
 one_first (x ∷ l) k b e = by (decide (eqb b x)) (one_first l k b)
@@ -173,11 +173,30 @@ held_rule bs b e =
     let h = ltb-true (rule_index bs b) (length bs) e in
     held_at [] bs b (rule_index bs b) h (is_true b (get_or bs (rule_index bs b) 0) (find_at (is b) bs 0 h))
 
--- ---- how many numbers below n pass a test
-unfoldable how_many : (ℕ → Bool) → ℕ → ℕ
-how_many t zero = 0
-how_many t (suc n) = cond (t n) 1 0 + how_many t n
+-- a rule has a byte exactly where it is one of the column's
+pub one_at : (l : List ℕ) (x k : ℕ) → k < length l → get_or l k 0 ≡ x → one_of l x ≡ true
+unfolding one_of
+one_at [] x k h e = absurd (not-suc-le-zero h)
+one_at (y ∷ l) x zero h e = rw (eq-eqb x y (inv e))
+one_at (y ∷ l) x (suc k) h e = ap (λ (z : Bool). eqb x y || z) (one_at l x k (omega arith) e) ∙ or-true (eqb x y)
 
+one_none : (l : List ℕ) (x : ℕ) → ((k : ℕ) → k < length l → is x (get_or l k 0) ≡ false) → one_of l x ≡ false
+unfolding one_of is
+one_none [] x h = refl
+one_none (y ∷ l) x h = let z : eqb x y ≡ false = ne_eqb x y (λ e. eqb-false y x (h 0 (omega arith)) (inv e)) in rw z (one_none l x (λ k i. h (suc k) (omega arith)))
+
+pub has_one : (bs : List ℕ) (x : ℕ) → one_of bs x ≡ has_rule bs x
+has_one bs x = by (decide (has_rule bs x))
+  where
+    by : (has_rule bs x ≡ true) ⊎ (has_rule bs x ≡ false) → one_of bs x ≡ has_rule bs x
+    by (inl e) =
+        let h = ltb-true (rule_index bs x) (length bs) e in
+        one_at bs x (rule_index bs x) h (is_true x (get_or bs (rule_index bs x) 0) (find_at (is x) bs 0 h)) ∙ inv e
+    by (inr e) =
+        let h = ltb-false (rule_index bs x) (length bs) e in
+        one_none bs x (λ k i. find_before (is x) bs 0 k (omega arith) (omega arith)) ∙ inv e
+
+-- ---- how many numbers below n pass a test
 counted_le : (t : ℕ → Bool) (n : ℕ) → how_many t n ≤ n
 unfolding how_many
 counted_le t zero = omega arith
@@ -186,6 +205,11 @@ counted_le t (suc n) = by (t n) (counted_le t n)
     by : (y : Bool) → how_many t n ≤ n → cond y 1 0 + how_many t n ≤ suc n
     by true h = omega arith
     by false h = omega arith
+
+-- so at most 256 bytes are left out
+pub dropped_few : (c : Columns) → left_out c ≤ 256
+unfolding left_out
+dropped_few c = counted_le (λ b. rule_byte c.fence_bytes c.inline.sym_bytes c.inline.openers b && not (one_of (searched c) b)) 256
 
 -- as many as there are: each passes
 counted-all : (t : ℕ → Bool) (n b : ℕ) → how_many t n ≡ n → b < n → t b ≡ true
@@ -200,7 +224,7 @@ counted-all t (suc n) b e h = by (decide (t n)) (decide (ltb b n)) (counted_le t
 
 -- one more: b
 module _ (t t' : ℕ → Bool) (b : ℕ) (before : t b ≡ false) (now : t' b ≡ true) (others : (x : ℕ) → (x ≡ b → ⊥) → t' x ≡ t x) where
-  counted-more : (n : ℕ) → how_many t' n ≡ how_many t n + cond (ltb b n) 1 0
+  pub counted-more : (n : ℕ) → how_many t' n ≡ how_many t n + cond (ltb b n) 1 0
   unfolding how_many
   counted-more zero = rw (le-ltb b 0 (omega arith))
   counted-more (suc n) = by (decide (eqb n b)) (decide (ltb b n)) (counted-more n)
@@ -365,6 +389,13 @@ module _ (bs ms kb km kp : List ℕ) (w : KeptRules bs ms kb km kp) where
       index x (inl u) = rw u (inv (w.own x))
       index x (inr u) = rw u (inv w.none)
 
+  -- as many bytes are left out
+  kept-left : (ms' : List ℕ) (y t o k n : List ℕ) → left_out (columns bs ms y t o k n) ≡ left_out (columns kb ms' y t o k n)
+  unfolding left_out searched
+  kept-left ms' y t o k n =
+      ap (λ (z : List ℕ). how_many (λ x. rule_byte bs y o x && not (one_of (gained_all (gained_all z y) o) x)) 256) (inv w.search)
+      ∙ ap (λ (z : ℕ → Bool). how_many (λ x. (z x || (one_of y x || one_of o x)) && not (one_of (gained_all (gained_all (gained_all [] kb) y) o) x)) 256) (fun_ext (λ x. has_one bs x ∙ inv (w.one x)))
+
 -- ---- gathering: the arrays and the count are the kept rules' columns
 abbrev packed : List ℕ → List ℕ → List ℕ → ℕ → Gathered
 packed kb km kp l = record { bytes = padded 256 kb; mins = padded 256 km; places = padded 256 kp; count = length kb; last = l }
@@ -474,6 +505,12 @@ module _ (rules : List FenceRule) (f : Gathered) (w : AllGathered rules f) where
   gathered_gram g y t o k n =
       kept_gram (rule_bytes rules) (rule_mins rules) keeps.kb keeps.km keeps.kp keeps.kept g y t o k n
       ∙ (λ j. reindexed (inv places_are j) (gram_of g (columns (inv bytes_are j) (inv mins_are j) y t o k n)))
+
+  -- and as many bytes are left out by the one as by the other
+  pub gathered-left : (y t o k n : List ℕ) → left_out (columns (rule_bytes rules) (rule_mins rules) y t o k n) ≡ left_out (columns (kept_bytes f) (kept_mins f) y t o k n)
+  gathered-left y t o k n =
+      kept-left (rule_bytes rules) (rule_mins rules) keeps.kb keeps.km keeps.kp keeps.kept keeps.km y t o k n
+      ∙ (λ j. left_out (columns (inv bytes_are j) (inv mins_are j) y t o k n))
 
 pub gathered_unique : {rules : List FenceRule} {f f' : Gathered} → AllGathered rules f → AllGathered rules f' → f ≡ f'
 gathered_unique v w = v.answer ∙ inv w.answer
