@@ -19,7 +19,7 @@ pub record Linewise (eol : ℕ) (f : Fences) : Type 0 where
   pub size : Local eol f.size
   pub shuts : (b n : ℕ) → Local eol (f.shuts b n)
 
--- ---- a line end that neither escapes nor opens: the opposite of refusal 9 (`usesLineEnd`), of any grammar
+-- ---- a line end that neither escapes nor opens: the opposite of refusal 9 (`uses_line_end`), of any grammar
 pub record FreeLineEnd (g : Gram) : Type 0 where
   pub escape : g.escape ≡ g.eol → ⊥
   pub opener : g.rule g.eol ≡ plain

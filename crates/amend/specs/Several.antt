@@ -1,6 +1,6 @@
 -- Several edits of one text at one go: the edited text, its list, and the edits that are taken. Assumes nothing.
--- The page speaks of one edit: its text is `edited`, its list `amendedRegions` (Amended.antt), and these two decide. Here both are said of
--- any number of edits, since the proof of demand 3 goes from cut to cut; of one edit they are the page's (laws `relist-one`, `unless-end`).
+-- The page speaks of one edit: its text is `edited`, its list `amended_regions` (Amended.antt), and these two decide. Here both are said of
+-- any number of edits, since the proof of demand 3 goes from cut to cut; of one edit they are the page's (laws `relist_one`, `unless_end`).
 use Rattle.std.specs.Prelude.{◌≡◌, List, [], ◌∷◌, ◌++◌, ℕ, ◌+◌, ◌-◌, ◌≤◌, length, take, drop}
 use Rattle.region.specs.Region.{Region, up, keep_before, keep_from}
 use Rattle.amend.specs.Amend.{Edit, moved_by, Joint}
@@ -16,7 +16,7 @@ finished q (e ∷ es) s = part q e.first s ++ (e.text ++ finished e.second es s)
 
 -- its list: for each edit "regions starting before the first cut; the replacement's own moved up by the first cut; … regions starting at or
 -- after [the second] moved by the change in length", from old place q on, which has become place n. Whether the second cut is the text's
--- end isn't asked: no region of a list in order starts there (law `from-none`).
+-- end isn't asked: no region of a list in order starts there (law `from_none`).
 unfoldable pub relist : {T : Type 0} → (List ℕ → List (Region T)) → ℕ → ℕ → List Edit → List (Region T) → List (Region T)
 relist build q n [] l = moved_by q n (keep_from q l)
 relist build q n (e ∷ es) l =

@@ -15,7 +15,7 @@ use Rattle.amend.specs.OwnLaws.{Moving, moving_room, moving_fits}
 use Rattle.amending.specs.Amending.{listed_bytes}
 use Rattle.amending.specs.ByteParts.{RowBytesFit}
 
--- a region is `rowBytes` bytes of a list
+-- a region is `row_bytes` bytes of a list
 pub listed_long : (r : Listed) → length (listed_bytes r) ≡ row_bytes
 listed_long r = refl
 

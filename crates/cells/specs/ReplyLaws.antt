@@ -49,7 +49,7 @@ module _ (from : ℕ) (l out : List ℕ) (y : Bool) (g : Gives (ltb (length out)
 pub laid_there : (k : ℕ) (l out out' : List ℕ) → k + length l ≤ length out → LaidIf k l out out' → LaidAt k l out out'
 laid_there k l out out' h d = record { list = d.list ∙ simp (le-ltb (length out) (k + length l) h) }
 
--- a region in a row of `rowBytes`
+-- a region in a row of `row_bytes`
 pub laid_region : (n start end : ℕ) (out out' : List ℕ) → n * row_bytes + row_bytes ≤ length out → LaidIf (n * row_bytes) (flatten four (start ∷ end ∷ [])) out out' → RowPut (flatten four (start ∷ end ∷ [])) n out out' (n + 1)
 laid_region n start end out out' h d = record { next = refl; list = (laid_there (n * row_bytes) (flatten four (start ∷ end ∷ [])) out out' h d).list }
 

@@ -21,9 +21,9 @@ use Rattle.context.specs.Build.{built_answer, built_list, Built}
 
 -- building by the kept rules that were gathered from records
 module _ (rules : List FenceRule) {g : Grammar} {f : Gathered} {y t o k n s out out' : List ℕ} {a : Outcome} where
-  pub records-built : AllGathered rules f → Built g (columns (kept_bytes f) (kept_mins f) y t o k n) s out out' a → Built g (columns (rule_bytes rules) (rule_mins rules) y t o k n) s out out' a
+  pub records_built : AllGathered rules f → Built g (columns (kept_bytes f) (kept_mins f) y t o k n) s out out' a → Built g (columns (rule_bytes rules) (rule_mins rules) y t o k n) s out out' a
   unfolding built_answer build_answer built_list
-  records-built w b = record { answer = b.answer ∙ (λ j. answer (same j) (count j)); list = b.list ∙ (λ j. list (same j) (count j) (flat j)) }
+  records_built w b = record { answer = b.answer ∙ (λ j. answer (same j) (count j)); list = b.list ∙ (λ j. list (same j) (count j) (flat j)) }
     where
       answer : Bool → ℕ → Outcome
       answer bad m = refuse 1 (too_long s) (refuse 6 bad (refuse 3 (ltb (room wide out) m) (given (m ∷ []))))

@@ -10,7 +10,7 @@ unfoldable pub decimal_by : ℕ → ℕ → List ℕ
 decimal_by zero n = []
 decimal_by (suc f) n = elim (ltb n 10) [ true ↦ (48 + n) ∷ [] | false ↦ decimal_by f (n / 10) ++ ((48 + n % 10) ∷ []) ]
 
--- "decimal": a number below 10 is its digit; another has the digits of its tenth before its last one (DecimalLaws: `decimal-small`, `decimal-more`)
+-- "decimal": a number below 10 is its digit; another has the digits of its tenth before its last one (DecimalLaws: `decimal_small`, `decimal-more`)
 unfoldable pub decimal : ℕ → List ℕ
 decimal n = decimal_by (suc n) n
 

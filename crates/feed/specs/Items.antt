@@ -49,6 +49,6 @@ two_before (suc zero) = 0
 two_before zero = 0
 
 -- request 2: "Test the marker byte for marker items and the delimiter byte for numbered ones." That byte stands two before the content's
--- start, by every grammar and in both scans (`tested-byte`, TestedLaws.antt)
+-- start, by every grammar and in both scans (`tested_byte`, TestedLaws.antt)
 abbrev pub tested_place : SheetItem → ℕ
 tested_place i = two_before i.start

@@ -10,13 +10,13 @@ use Rattle.json_file.specs.Form.{outset, follow, is_whole, broken_at, regions_re
 use Rattle.json_file.specs.declared.phase.Name.{Name}
 use Rattle.json_file.specs.declared.phase.Name.TheVariants as name
 use Rattle.json_file.specs.Grammar.{White, nothing, space, tab, feed, back, MoreDigits, no_digit, one_digit, Number, nought, int, Member, start_member, end_member, Members, start_first, end_first, Object, object, More, no_more, one_more, Array, empty, filled, File, BeginsFile, file}
-use Rattle.json_file.specs.Records.{broken, list_shaped, recordsIn, read_answer}
+use Rattle.json_file.specs.Records.{broken, list_shaped, records_in, read_answer}
 use Rattle.json_file.specs.GrammarLaws.{file_followed}
 use Rattle.json_file.specs.GrammarBack.{whole_file}
 use Rattle.json_file.specs.PlaceLaws.{begins-front, file_begins, place_length, place_only}
 
 -- the regions of a file are its list
-pub file_records : {l : List Span} {s : List ℕ} → File l s → recordsIn s ≡ l
+pub file_records : {l : List Span} {s : List ℕ} → File l s → records_in s ≡ l
 file_records f = ap regions_read (file_followed f)
 
 module _ (w : ℕ) (out : List ℕ) where
@@ -31,7 +31,7 @@ module _ (w : ℕ) (out : List ℕ) where
   read-other s n = by (decide (is_whole (follow outset s)))
     where
       by : (is_whole (follow outset s) ≡ true) ⊎ (is_whole (follow outset s) ≡ false) → read_answer w s out ≡ broken (broken_at outset s)
-      by (inl e) = absurd (n (recordsIn s) (whole_file s e))
+      by (inl e) = absurd (n (records_in s) (whole_file s e))
       by (inr e) = rw e
 
   -- what 10 says: no list has the text as its file
@@ -97,5 +97,5 @@ array_least : {l : List Span} {s t : List ℕ} → Array l s t → length l * 20
 array_least (empty u) = omega (arith, white_least u)
 array_least (filled u o v k) = omega (arith, white_least u, object_least o, white_least v, more_least k)
 
-pub records-few : {l : List Span} {s : List ℕ} → File l s → length l * 20 ≤ length s
-records-few (file u v w) = omega (arith, white_least u, array_least v, white_least w)
+pub records_few : {l : List Span} {s : List ℕ} → File l s → length l * 20 ≤ length s
+records_few (file u v w) = omega (arith, white_least u, array_least v, white_least w)

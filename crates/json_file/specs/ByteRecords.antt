@@ -8,7 +8,7 @@ use Rattle.common.specs.declared.span.Span.{Span}
 use Rattle.cells.specs.Bytes.{four, cells, row_bytes}
 use Rattle.cells.specs.Poured.{ListRuns, Poured}
 use Rattle.json_file.specs.Layout.{layout}
-use Rattle.json_file.specs.Records.{regions_of, write_answer, read_answer, recordsIn}
+use Rattle.json_file.specs.Records.{regions_of, write_answer, read_answer, records_in}
 
 -- a length in two numbers of 32 bits, the low one first
 abbrev pub halves : ℕ → List ℕ
@@ -32,5 +32,5 @@ span_bytes r = flatten four (span_values r)
 
 -- the promise of reading a list in bytes
 pub record ReadBytes (s : List ℕ) (before after : ListRuns) (r place : ℕ) : Type 0 where
-  pub poured : Poured (read_answer row_bytes s before.list) (flatten span_bytes (recordsIn s)) before after r
+  pub poured : Poured (read_answer row_bytes s before.list) (flatten span_bytes (records_in s)) before after r
   pub placed : place ≡ place_behind (read_answer row_bytes s before.list)

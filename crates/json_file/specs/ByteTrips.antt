@@ -21,7 +21,7 @@ use Rattle.cells.specs.ReplyLaws.{enough}
 use Rattle.json_file.specs.Form.{outset, follow, is_whole, broken_at}
 use Rattle.json_file.specs.Grammar.{File, greatest}
 use Rattle.json_file.specs.Layout.{layout}
-use Rattle.json_file.specs.Records.{regions_of, write_answer, broken, list_shaped, read_answer, recordsIn}
+use Rattle.json_file.specs.Records.{regions_of, write_answer, broken, list_shaped, read_answer, records_in}
 use Rattle.json_file.specs.ByteRecords.{halves, in_halves, WroteBytes, place_behind, span_bytes, ReadBytes}
 use Rattle.json_file.specs.GrammarBack.{whole_file}
 use Rattle.json_file.specs.LayoutLaws.{SpansFit, layout_file, file_fits, layout-few}
@@ -52,8 +52,8 @@ poured_given : {vs l : List ℕ} {before after : ListRuns} {r : ℕ} → suc (le
 unfolding fitted
 poured_given {vs} {before = before} h w = w.reply.number ∙ rw (enough vs before.answer (length before.answer / 4) (record { answer = refl }) (omega arith))
 
-records-most : (l : List Span) → list_shaped l ≡ true → length l ≤ greatest
-records-most l e = omega (arith, length-map l span_values, shaped-few 0 greatest (map span_values l) (omega arith) (shaped-holds 0 greatest (map span_values l) e))
+records_most : (l : List Span) → list_shaped l ≡ true → length l ≤ greatest
+records_most l e = omega (arith, length-map l span_values, shaped-few 0 greatest (map span_values l) (omega arith) (shaped-holds 0 greatest (map span_values l) e))
 
 fit_narrow : (l : List Span) → SpansFit l → Narrow (flatten span_values l)
 fit_narrow [] h i j = absurd (omega arith)
@@ -76,25 +76,25 @@ passed_tests true false c p n e = absurd (omega (arith, e))
 passed_tests false b c p n e = absurd (omega (arith, e))
 
 module _ {s : List ℕ} {before after : ListRuns} {p : ℕ} (w : ReadBytes s before after 0 p) where
-  read-passed : (is_whole (follow outset s) ≡ true) × (list_shaped (recordsIn s) ≡ true) × (read_answer row_bytes s before.list ≡ given (length (recordsIn s) ∷ []))
+  read-passed : (is_whole (follow outset s) ≡ true) × (list_shaped (records_in s) ≡ true) × (read_answer row_bytes s before.list ≡ given (length (records_in s) ∷ []))
   unfolding read_answer
   read-passed =
-      passed_tests (is_whole (follow outset s)) (list_shaped (recordsIn s)) (crowded row_bytes (recordsIn s) before.list) (broken_at outset s) (length (recordsIn s)) (poured_served w.poured).0
+      passed_tests (is_whole (follow outset s)) (list_shaped (records_in s)) (crowded row_bytes (records_in s) before.list) (broken_at outset s) (length (records_in s)) (poured_served w.poured).0
 
   -- has left, read as numbers, the file's regions over the front of the run's numbers
-  pub bytes_read : cells after.list ≡ over (flatten span_values (recordsIn s)) (cells before.list)
+  pub bytes_read : cells after.list ≡ over (flatten span_values (records_in s)) (cells before.list)
   bytes_read =
-      ap cells ((poured_served w.poured).1 ∙ ap (λ (z : List ℕ). over z before.list) (spans_flat (recordsIn s)))
-      ∙ cells_over (flatten span_values (recordsIn s)) before.list (fit_narrow (recordsIn s) (file_fits (whole_file s read-passed.0)))
+      ap cells ((poured_served w.poured).1 ∙ ap (λ (z : List ℕ). over z before.list) (spans_flat (records_in s)))
+      ∙ cells_over (flatten span_values (records_in s)) before.list (fit_narrow (records_in s) (file_fits (whole_file s read-passed.0)))
 
   -- the answer run says how many they are
-  pub bytes_counted : cells after.answer ≡ over (1 ∷ length (recordsIn s) ∷ []) (cells before.answer)
+  pub bytes_counted : cells after.answer ≡ over (1 ∷ length (records_in s) ∷ []) (cells before.answer)
   bytes_counted =
-      reply_back {o = given (length (recordsIn s) ∷ [])} narrow (subst (λ (o : Outcome). Replied o before.answer after.answer 0) read-passed.2 w.poured.reply)
+      reply_back {o = given (length (records_in s) ∷ [])} narrow (subst (λ (o : Outcome). Replied o before.answer after.answer 0) read-passed.2 w.poured.reply)
     where
-      narrow : Narrow (1 ∷ length (recordsIn s) ∷ [])
+      narrow : Narrow (1 ∷ length (records_in s) ∷ [])
       narrow zero j = omega arith
-      narrow (suc zero) j = omega (arith, records-most (recordsIn s) read-passed.1)
+      narrow (suc zero) j = omega (arith, records_most (records_in s) read-passed.1)
       narrow (suc (suc i)) j = absurd (omega arith)
 
   -- there is no place
@@ -157,8 +157,8 @@ bytes_write_read l n {before} {after} {before2} {after2} {r} {p} w v h k =
     let text : take (length b) after.list ≡ b = rw (bytes_wrote l n w) (take-append_seam b (drop (length b) before.list)) in
     let u : ReadBytes b before2 after2 r p = subst (λ (s : List ℕ). ReadBytes s before2 after2 r p) text v in
     let answer : read_answer row_bytes b before2.list ≡ given (n ∷ []) = layout-answer (cells l) n e row_bytes before2.list h in
-    let none : r ≡ 0 = poured_given k (subst (λ (o : Outcome). Poured o (flatten span_bytes (recordsIn b)) before2 after2 r) answer u.poured) in
-    let regions : recordsIn b ≡ regions_of n (cells l) = file_records (layout_file (regions_of n (cells l)) (spans_fit (cells l) n e)) in
+    let none : r ≡ 0 = poured_given k (subst (λ (o : Outcome). Poured o (flatten span_bytes (records_in b)) before2 after2 r) answer u.poured) in
+    let regions : records_in b ≡ regions_of n (cells l) = file_records (layout_file (regions_of n (cells l)) (spans_fit (cells l) n e)) in
     let numbers = flatten_spans n (cells l) (room_fits wide n (cells l) (shape_fits (cells l) n greatest e)) in
     (none, bytes_read (subst (λ (m : ℕ). ReadBytes b before2 after2 m p) none u) ∙ rw (regions, numbers))
 

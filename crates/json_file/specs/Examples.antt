@@ -9,7 +9,7 @@ use Rattle.common.specs.Refusals.{given, refused}
 use Rattle.cover.specs.Shape.{misshapen}
 use Rattle.json_file.specs.Form.{phase_move, span, follow, broken_at}
 use Rattle.json_file.specs.Layout.{object_of, objects_of, layout}
-use Rattle.json_file.specs.Records.{write_answer, broken, recordsIn, read_answer}
+use Rattle.json_file.specs.Records.{write_answer, broken, records_in, read_answer}
 
 -- ---- what is read
 -- `[]`
@@ -43,7 +43,7 @@ unfolding digit phase_move follow broken_at read_answer
 touching = refl
 
 -- the regions of `[{"end":3,"start":0},{"start":5,"end":9}]`
-either-list : recordsIn (91 ∷ 123 ∷ 34 ∷ 101 ∷ 110 ∷ 100 ∷ 34 ∷ 58 ∷ 51 ∷ 44 ∷ 34 ∷ 115 ∷ 116 ∷ 97 ∷ 114 ∷ 116 ∷ 34 ∷ 58 ∷ 48 ∷ 125 ∷ 44 ∷ 123 ∷ 34 ∷ 115 ∷ 116 ∷ 97 ∷ 114 ∷ 116 ∷ 34 ∷ 58 ∷ 53 ∷ 44 ∷ 34 ∷ 101 ∷ 110 ∷ 100 ∷ 34 ∷ 58 ∷ 57 ∷ 125 ∷ 93 ∷ []) ≡ span 0 3 ∷ span 5 9 ∷ []
+either-list : records_in (91 ∷ 123 ∷ 34 ∷ 101 ∷ 110 ∷ 100 ∷ 34 ∷ 58 ∷ 51 ∷ 44 ∷ 34 ∷ 115 ∷ 116 ∷ 97 ∷ 114 ∷ 116 ∷ 34 ∷ 58 ∷ 48 ∷ 125 ∷ 44 ∷ 123 ∷ 34 ∷ 115 ∷ 116 ∷ 97 ∷ 114 ∷ 116 ∷ 34 ∷ 58 ∷ 53 ∷ 44 ∷ 34 ∷ 101 ∷ 110 ∷ 100 ∷ 34 ∷ 58 ∷ 57 ∷ 125 ∷ 93 ∷ []) ≡ span 0 3 ∷ span 5 9 ∷ []
 unfolding digit phase_move follow
 either-list = refl
 

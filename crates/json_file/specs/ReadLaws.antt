@@ -16,7 +16,7 @@ use Rattle.cells.specs.Reply.{fitted, answered, Replied}
 use Rattle.cells.specs.Poured.{ListRuns, PouredAs}
 use Rattle.cells.specs.PouredLaws.{poured_off, pour_full, pour_done}
 use Rattle.json_file.specs.Form.{outset, follow, is_whole, broken_at}
-use Rattle.json_file.specs.Records.{broken, list_shaped, recordsIn, read_answer, ReadRecords, checked_of}
+use Rattle.json_file.specs.Records.{broken, list_shaped, records_in, read_answer, ReadRecords, checked_of}
 use Rattle.json_file.specs.ByteRecords.{place_behind, span_bytes, ReadBytes}
 use Rattle.json_file.specs.declared.check.Checked.{Checked}
 use Rattle.json_file.specs.declared.check.Checked.TheVariants.{Broken, Misshapen, Whole}
@@ -26,28 +26,28 @@ use Rattle.json_file.specs.declared.check.Checked.TheVariants.{Broken, Misshapen
 abbrev answer_told : ℕ → List ℕ → List ℕ → Checked → Outcome
 answer_told w s out (Broken p) = broken p
 answer_told w s out Misshapen = refused 5
-answer_told w s out (Whole n) = filled_answer w (recordsIn s) out
+answer_told w s out (Whole n) = filled_answer w (records_in s) out
 
 -- and of a file that it finds whole
 abbrev WholeTold : List ℕ → Checked → Type 0
 WholeTold s (Broken p) = Unit {0}
 WholeTold s Misshapen = Unit {0}
-WholeTold s (Whole n) = (is_whole (follow outset s) ≡ true) × (n ≡ length (recordsIn s))
+WholeTold s (Whole n) = (is_whole (follow outset s) ≡ true) × (n ≡ length (records_in s))
 
 answer-told : (w : ℕ) (s out : List ℕ) → read_answer w s out ≡ answer_told w s out (checked_of (follow outset s) (broken_at outset s))
 unfolding read_answer checked_of
-answer-told w s out = by (decide (is_whole (follow outset s))) (decide (list_shaped (recordsIn s)))
+answer-told w s out = by (decide (is_whole (follow outset s))) (decide (list_shaped (records_in s)))
   where
-    by : (is_whole (follow outset s) ≡ true) ⊎ (is_whole (follow outset s) ≡ false) → (list_shaped (recordsIn s) ≡ true) ⊎ (list_shaped (recordsIn s) ≡ false) → read_answer w s out ≡ answer_told w s out (checked_of (follow outset s) (broken_at outset s))
+    by : (is_whole (follow outset s) ≡ true) ⊎ (is_whole (follow outset s) ≡ false) → (list_shaped (records_in s) ≡ true) ⊎ (list_shaped (records_in s) ≡ false) → read_answer w s out ≡ answer_told w s out (checked_of (follow outset s) (broken_at outset s))
     by (inl a) (inl b) = rw (a, b) refl
     by (inl a) (inr b) = rw (a, b) refl
     by (inr a) b = rw a refl
 
 whole_told : (s : List ℕ) → WholeTold s (checked_of (follow outset s) (broken_at outset s))
 unfolding checked_of
-whole_told s = by (decide (is_whole (follow outset s))) (decide (list_shaped (recordsIn s)))
+whole_told s = by (decide (is_whole (follow outset s))) (decide (list_shaped (records_in s)))
   where
-    by : (is_whole (follow outset s) ≡ true) ⊎ (is_whole (follow outset s) ≡ false) → (list_shaped (recordsIn s) ≡ true) ⊎ (list_shaped (recordsIn s) ≡ false) → WholeTold s (checked_of (follow outset s) (broken_at outset s))
+    by : (is_whole (follow outset s) ≡ true) ⊎ (is_whole (follow outset s) ≡ false) → (list_shaped (records_in s) ≡ true) ⊎ (list_shaped (records_in s) ≡ false) → WholeTold s (checked_of (follow outset s) (broken_at outset s))
     by (inl a) (inl b) = rw (a, b) (a, refl)
     by (inl a) (inr b) = rw (a, b) tt
     by (inr a) b = rw a tt
@@ -63,10 +63,10 @@ module _ (s : List ℕ) (r : Checked) where
     pub read_whole : is_whole (follow outset s) ≡ true
     read_whole = found.0
 
-    pub read_count : n ≡ length (recordsIn s)
+    pub read_count : n ≡ length (records_in s)
     read_count = found.1
 
-    pub read-room : (w : ℕ) (out : List ℕ) → n ≤ length out / w → length (recordsIn s) ≤ room w out
+    pub read-room : (w : ℕ) (out : List ℕ) → n ≤ length out / w → length (records_in s) ≤ room w out
     read-room w out h = omega (arith, read_count)
 
 -- ---- the ways out of reading
@@ -80,13 +80,13 @@ module _ (flat : Span → List ℕ) (w : ℕ) (s out : List ℕ) (r : Checked) w
   module _ (n : ℕ) (e : r ≡ Whole n) (g : Gives (checked_of (follow outset s) (broken_at outset s)) r) where
     pub read_full : length out / w < n → ReadRecords flat w s out out (refused 3)
     read_full h =
-        let t : crowded w (recordsIn s) out ≡ true = lt-ltb (length out / w) (length (recordsIn s)) (omega (arith, read_count s r n e g)) in
+        let t : crowded w (records_in s) out ≡ true = lt-ltb (length out / w) (length (records_in s)) (omega (arith, read_count s r n e g)) in
         let a : read_answer w s out ≡ refused 3 = answer-read s r w out (Whole n) e g ∙ rw t refl in
         record { answer = sym a; list = rw a refl }
 
-    pub read_done : (out' : List ℕ) (k : ℕ) → n ≤ length out / w → Wrote flat (recordsIn s) out out' k → ReadRecords flat w s out out' (given (k ∷ []))
+    pub read_done : (out' : List ℕ) (k : ℕ) → n ≤ length out / w → Wrote flat (records_in s) out out' k → ReadRecords flat w s out out' (given (k ∷ []))
     read_done out' k h v =
-        let f = fill_done flat w (recordsIn s) out (length out / w) refl out' k (read-room s r n e g w out h) v in
+        let f = fill_done flat w (records_in s) out (length out / w) refl out' k (read-room s r n e g w out h) v in
         let a = answer-read s r w out (Whole n) e g in
         record { answer = f.answer ∙ sym a; list = rw a f.list }
 
@@ -109,15 +109,15 @@ module _ (s : List ℕ) (lent : ListRuns) (r : Checked) where
 
   pub placed_misshapen : r ≡ Misshapen → Gives (checked_of (follow outset s) (broken_at outset s)) r → ReadBytes s lent lent 5 0
   placed_misshapen e g = record {
-    poured = rw (answer-read s r row_bytes lent.list Misshapen e g) (poured_off 5 (flatten span_bytes (recordsIn s)) lent refl);
+    poured = rw (answer-read s r row_bytes lent.list Misshapen e g) (poured_off 5 (flatten span_bytes (records_in s)) lent refl);
     placed = rw (answer-read s r row_bytes lent.list Misshapen e g) refl;
   }
 
-  pub placed_poured : (n : ℕ) (after : ListRuns) (k : ℕ) → r ≡ Whole n → Gives (checked_of (follow outset s) (broken_at outset s)) r → PouredAs span_bytes row_bytes (recordsIn s) lent after k → ReadBytes s lent after k 0
+  pub placed_poured : (n : ℕ) (after : ListRuns) (k : ℕ) → r ≡ Whole n → Gives (checked_of (follow outset s) (broken_at outset s)) r → PouredAs span_bytes row_bytes (records_in s) lent after k → ReadBytes s lent after k 0
   placed_poured n after k e g v =
       let a = answer-read s r row_bytes lent.list (Whole n) e g in
-      record { poured = rw a v; placed = unplaced (decide (crowded row_bytes (recordsIn s) lent.list)) ∙ ap place_behind (sym a) }
+      record { poured = rw a v; placed = unplaced (decide (crowded row_bytes (records_in s) lent.list)) ∙ ap place_behind (sym a) }
     where
-      unplaced : (crowded row_bytes (recordsIn s) lent.list ≡ true) ⊎ (crowded row_bytes (recordsIn s) lent.list ≡ false) → 0 ≡ place_behind (filled_answer row_bytes (recordsIn s) lent.list)
+      unplaced : (crowded row_bytes (records_in s) lent.list ≡ true) ⊎ (crowded row_bytes (records_in s) lent.list ≡ false) → 0 ≡ place_behind (filled_answer row_bytes (records_in s) lent.list)
       unplaced (inl u) = rw u refl
       unplaced (inr u) = rw u refl

@@ -17,7 +17,7 @@ use Rattle.json_file.specs.declared.phase.Phase.{Phase}
 use Rattle.json_file.specs.declared.check.Checked.{Checked}
 use Rattle.json_file.specs.declared.check.Checked.TheVariants as checked
 use Rattle.json_file.specs.declared.FileRead.{FileRead}
-use Rattle.json_file.specs.declared.FileRead.TheVariants as fileRead
+use Rattle.json_file.specs.declared.FileRead.TheVariants as file_read
 
 -- ---- writing
 -- the first n regions of a list
@@ -43,24 +43,24 @@ abbrev pub list_shaped : List Span → Bool
 list_shaped l = shaped 0 greatest (map span_values l)
 
 -- the regions of a file
-abbrev pub recordsIn : List ℕ → List Span
-recordsIn s = regions_read (follow outset s)
+abbrev pub records_in : List ℕ → List Span
+records_in s = regions_read (follow outset s)
 
 -- 10, then 5, then 3, else how many regions; a region has w numbers of the list that is left
 unfoldable pub read_answer : ℕ → List ℕ → List ℕ → Outcome
 read_answer w s out =
-    cond (is_whole (follow outset s)) (refuse 5 (not (list_shaped (recordsIn s))) (filled_answer w (recordsIn s) out)) (broken (broken_at outset s))
+    cond (is_whole (follow outset s)) (refuse 5 (not (list_shaped (records_in s))) (filled_answer w (records_in s) out)) (broken (broken_at outset s))
 
 -- the promise of reading a file into a list, a region in the numbers that `flat` gives: its answer, and the list that it leaves
 pub record ReadRecords (flat : Span → List ℕ) (w : ℕ) (s out out' : List ℕ) (o : Outcome) : Type 0 where
   pub answer : o ≡ read_answer w s out
-  pub list : out' ≡ filled_by (read_answer w s out) (flatten flat (recordsIn s)) out
+  pub list : out' ≡ filled_by (read_answer w s out) (flatten flat (records_in s)) out
 
 -- what the answer says
 abbrev pub told_read : FileRead → Outcome
-told_read (fileRead.Value n) = given (n ∷ [])
-told_read (fileRead.Broken p) = broken p
-told_read (fileRead.Refused r) = refused (number_of r)
+told_read (file_read.Value n) = given (n ∷ [])
+told_read (file_read.Broken p) = broken p
+told_read (file_read.Refused r) = refused (number_of r)
 
 -- ---- the first pass
 -- of how far a file was read, and of the place of the first byte that can't continue

@@ -18,9 +18,9 @@ use Rattle.cover.specs.Shape.{misshapen}
 use Rattle.cover.specs.ShapeLaws.{shape_fits, shape_order}
 use Rattle.json_file.specs.Grammar.{File, greatest}
 use Rattle.json_file.specs.Layout.{layout}
-use Rattle.json_file.specs.Records.{regions_of, write_answer, WroteRecords, list_shaped, read_answer, ReadRecords, recordsIn, told_read}
+use Rattle.json_file.specs.Records.{regions_of, write_answer, WroteRecords, list_shaped, read_answer, ReadRecords, records_in, told_read}
 use Rattle.json_file.specs.declared.FileRead.{FileRead}
-use Rattle.json_file.specs.declared.FileRead.TheVariants as fileRead
+use Rattle.json_file.specs.declared.FileRead.TheVariants as file_read
 use Rattle.json_file.specs.LayoutLaws.{SpansFit, layout_file}
 use Rattle.json_file.specs.AnswerLaws.{file_records, read_file}
 
@@ -89,7 +89,7 @@ write_read {l} {n} {out} {out'} {m} {dst} {dst'} {o} w r h =
     let left : out' ≡ over b out = w.list ∙ rw (p.0, q.0) in
     let text : take m out' ≡ b = rw (size, left) (take-append_seam b (drop (length b) out)) in
     let answered : read_answer wide (take m out') dst ≡ given (n ∷ []) = rw text (layout-answer l n p.0 wide dst h) in
-    let regions : recordsIn (take m out') ≡ regions_of n l = rw text (file_records (layout_file (regions_of n l) (spans_fit l n p.0))) in
+    let regions : records_in (take m out') ≡ regions_of n l = rw text (file_records (layout_file (regions_of n l) (spans_fit l n p.0))) in
     let numbers = flatten_spans n l (room_fits wide n l (shape_fits l n greatest p.0)) in
     (r.answer ∙ answered, r.list ∙ rw (answered, regions, numbers))
 
@@ -133,13 +133,13 @@ writing_unique {l} {n} {out} a b = (answer_unique {o = write_answer l n out} (re
 
 -- what says an outcome of reading: with values a count or a place, else a refusal
 read_back : Outcome → FileRead
-read_back o = unless_none (read (λ l. fileRead.Value 0) fileRead.Refused o) (λ l. cond (served o) (fileRead.Value (get_or l 0 0)) (fileRead.Broken (get_or l 0 0))) o.values
+read_back o = unless_none (read (λ l. file_read.Value 0) file_read.Refused o) (λ l. cond (served o) (file_read.Value (get_or l 0 0)) (file_read.Broken (get_or l 0 0))) o.values
 
 read_back_lem : (r : FileRead) → read_back (told_read r) ≡ r
 unfolding read_back
-read_back_lem (fileRead.Value n) = refl
-read_back_lem (fileRead.Broken p) = refl
-read_back_lem (fileRead.Refused r) = read-refused (λ l. fileRead.Value 0) fileRead.Refused r
+read_back_lem (file_read.Value n) = refl
+read_back_lem (file_read.Broken p) = refl
+read_back_lem (file_read.Refused r) = read-refused (λ l. file_read.Value 0) file_read.Refused r
 
 pub reading_unique : {flat : Span → List ℕ} {w : ℕ} {s out out' out'' : List ℕ} {r r' : FileRead}
     → ReadRecords flat w s out out' (told_read r) → ReadRecords flat w s out out'' (told_read r') → (r ≡ r') × (out' ≡ out'')

@@ -8,7 +8,7 @@ use Rattle.common.specs.Refusals.{span_values}
 use Rattle.common.specs.declared.span.Span.{Span}
 use Rattle.cells.specs.Bytes.{row_bytes}
 use Rattle.json_file.specs.Form.{upto, outset, span, phase_move, move_on, follow, is_whole, regions_read}
-use Rattle.json_file.specs.Records.{recordsIn}
+use Rattle.json_file.specs.Records.{records_in}
 use Rattle.json_file.specs.ByteRecords.{span_bytes}
 use Rattle.json_file.specs.FormLaws.{follow_off}
 use Rattle.json_file.specs.Walk.{Reached, WalkedTo, Walks}
@@ -45,7 +45,7 @@ first_read [] l g e = record { rest = []; same = sym (append-nil l) }
 first_read (x ∷ s) l g e = front-move s (first_read s) l (phase_move g x) e
 
 -- of the file's regions
-pub first_reached : (s : List ℕ) (i : ℕ) (g : Phase) (l : List Span) → Reached s i g l → is_whole (follow outset s) ≡ true → FirstOf l (recordsIn s)
+pub first_reached : (s : List ℕ) (i : ℕ) (g : Phase) (l : List Span) → Reached s i g l → is_whole (follow outset s) ≡ true → FirstOf l (records_in s)
 first_reached s i g l w e =
     let f = first_read (drop i s) l g (ap is_whole (sym w.same) ∙ e) in
     record { rest = f.rest; same = ap regions_read w.same ∙ f.same }
@@ -59,9 +59,9 @@ pub record Entered (flat : Span → List ℕ) (w : ℕ) (s out₀ out : List ℕ
   pub reached : Reached s i g behind
   pub count : length behind ≡ n
   pub within : i ≤ length s
-  pub wrote : (rest : List Span) → recordsIn s ≡ behind ++ rest → Written (flatten flat (recordsIn s)) (flatten flat rest) out₀ out (n * w)
+  pub wrote : (rest : List Span) → records_in s ≡ behind ++ rest → Written (flatten flat (records_in s)) (flatten flat rest) out₀ out (n * w)
 
-pub entered_first : (flat : Span → List ℕ) (w : ℕ) (s out : List ℕ) → ((r : Span) → length (flat r) ≡ w) → is_whole (follow outset s) ≡ true → length (recordsIn s) ≤ room w out → Entered flat w s out out 0 phase.Begin 0
+pub entered_first : (flat : Span → List ℕ) (w : ℕ) (s out : List ℕ) → ((r : Span) → length (flat r) ≡ w) → is_whole (follow outset s) ≡ true → length (records_in s) ≤ room w out → Entered flat w s out out 0 phase.Begin 0
 entered_first flat w s out size whole h =
     let k : 0 * w ≡ 0 = omega arith in
     record {
@@ -71,7 +71,7 @@ entered_first flat w s out size whole h =
       reached = reached_first s;
       count = refl;
       within = omega arith;
-      wrote = λ rest e. rw (← e, k) (written_none (omega (arith, room_fits w (length (recordsIn s)) out h, length-flatten flat w size (recordsIn s))));
+      wrote = λ rest e. rw (← e, k) (written_none (omega (arith, room_fits w (length (records_in s)) out h, length-flatten flat w size (records_in s))));
     }
 
 module _ (flat : Span → List ℕ) (w : ℕ) (s out₀ out : List ℕ) (i : ℕ) (g : Phase) (n : ℕ) (x : Entered flat w s out₀ out i g n) where
@@ -83,7 +83,7 @@ module _ (flat : Span → List ℕ) (w : ℕ) (s out₀ out : List ℕ) (i : ℕ
       walked : WalkedTo s i g (next.Region a b k)
       walked = subst (WalkedTo s i g) e v.to
 
-      next-written : (rest : List Span) → recordsIn s ≡ (x.behind ++ (span a b ∷ [])) ++ rest → Written (flatten flat (recordsIn s)) (flat (span a b) ++ flatten flat rest) out₀ out (n * w)
+      next-written : (rest : List Span) → records_in s ≡ (x.behind ++ (span a b ∷ [])) ++ rest → Written (flatten flat (records_in s)) (flat (span a b) ++ flatten flat rest) out₀ out (n * w)
       next-written rest q = x.wrote (span a b ∷ rest) (q ∙ append_assoc x.behind (span a b ∷ []) rest)
 
       -- there is room for the region
@@ -107,12 +107,12 @@ module _ (flat : Span → List ℕ) (w : ℕ) (s out₀ out : List ℕ) (i : ℕ
           }
 
     -- in a whole file no byte can't continue
-    pub entered_bad : (p : ℕ) → r ≡ next.Bad p → Wrote flat (recordsIn s) out₀ out n
+    pub entered_bad : (p : ℕ) → r ≡ next.Bad p → Wrote flat (records_in s) out₀ out n
     entered_bad p e = absurd (true≢false (sym x.whole ∙ ap is_whole (subst (WalkedTo s i g) e v.to x.behind x.reached).0))
 
-    pub entered_over : (k : Phase) → r ≡ next.Over k → Wrote flat (recordsIn s) out₀ out n
+    pub entered_over : (k : Phase) → r ≡ next.Over k → Wrote flat (records_in s) out₀ out n
     entered_over k e =
-        let q : recordsIn s ≡ x.behind = ap regions_read (subst (WalkedTo s i g) e v.to x.behind x.reached).0 in
+        let q : records_in s ≡ x.behind = ap regions_read (subst (WalkedTo s i g) e v.to x.behind x.reached).0 in
         record { count = sym (ap length q ∙ x.count); list = written_all (x.wrote [] (q ∙ sym (append-nil x.behind))) }
 
 pub entered_same : {flat : Span → List ℕ} {w : ℕ} {s out₀ out : List ℕ} {i : ℕ} {g : Phase} {n : ℕ} → Entered flat w s out₀ out i g n → length out ≡ length out₀

@@ -3,7 +3,7 @@ ghost use Rattle.std.specs.Prelude.{◌≡◌, true, length};
 ghost use Rattle.cells.specs.Bytes.{row_bytes};
 ghost use Rattle.cells.specs.Poured.{PouredAs};
 ghost use Rattle.json_file.specs.Form.{outset, follow, is_whole};
-ghost use Rattle.json_file.specs.Records.{recordsIn};
+ghost use Rattle.json_file.specs.Records.{records_in};
 ghost use Rattle.json_file.specs.ByteRecords.{span_bytes, WroteBytes, ReadBytes};
 
 use crate::check::{Checked, check};
@@ -47,8 +47,8 @@ pub fn write_bytes(list: &[u8], count: usize, out: &mut [u8], answer: &mut [u8])
 // A whole file of `n` regions in order, poured into a list. Both runs are refused with 3, so that the answer run may be looked at first.
 fn pour_file(file: &[u8], n: usize, out: &mut [u8], answer: &mut [u8]) -> u32
     requires file_value { is_whole (follow outset file.now) ≡ true }
-    requires n_value { n ≡ length (recordsIn file.now) }
-    ensures { PouredAs span_bytes row_bytes (recordsIn file.now) (record { list = out.old; answer = answer.old })
+    requires n_value { n ≡ length (records_in file.now) }
+    ensures { PouredAs span_bytes row_bytes (records_in file.now) (record { list = out.old; answer = answer.old })
         (record { list = out.new; answer = answer.new }) result }
 {
     if 1 < reply::room_of(answer.len()) {

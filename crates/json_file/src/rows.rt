@@ -5,7 +5,7 @@ ghost use Rattle.common.specs.Lists.{RowPut, Wrote};
 ghost use Rattle.common.specs.Refusals.{span_values};
 ghost use Rattle.cells.specs.Bytes.{four, row_bytes};
 ghost use Rattle.json_file.specs.Form.{outset, follow, is_whole};
-ghost use Rattle.json_file.specs.Records.{recordsIn};
+ghost use Rattle.json_file.specs.Records.{records_in};
 ghost use Rattle.json_file.specs.ByteRecords.{span_bytes};
 
 use crate::objects::{NextObject, next_object};
@@ -38,8 +38,8 @@ fn pour_row(out: &mut [u8], n: usize, start: u32, end: u32) -> usize
 // Writes a file's regions over the front of a list, and says how many there are.
 pub(crate) fn write_rows(file: &[u8], out: &mut [u32]) -> usize
     requires file_value { is_whole (follow outset file.now) ≡ true }
-    requires file_len_bound { length (recordsIn file.now) ≤ room wide out.old }
-    ensures { Wrote span_values (recordsIn file.now) out.old out.new result }
+    requires file_len_bound { length (records_in file.now) ≤ room wide out.old }
+    ensures { Wrote span_values (records_in file.now) out.old out.new result }
 {
     let mut g = Phase::Begin;
     let mut n = 0;
@@ -64,8 +64,8 @@ pub(crate) fn write_rows(file: &[u8], out: &mut [u32]) -> usize
 // The same of a list in bytes.
 pub(crate) fn pour_rows(file: &[u8], out: &mut [u8]) -> usize
     requires file_value { is_whole (follow outset file.now) ≡ true }
-    requires file_len_bound { length (recordsIn file.now) ≤ room row_bytes out.old }
-    ensures { Wrote span_bytes (recordsIn file.now) out.old out.new result }
+    requires file_len_bound { length (records_in file.now) ≤ room row_bytes out.old }
+    ensures { Wrote span_bytes (records_in file.now) out.old out.new result }
 {
     let mut g = Phase::Begin;
     let mut n = 0;

@@ -11,11 +11,11 @@ use Rattle.common.specs.Scanning.{Scanner, fresh, first, answer, state, items}
 use Rattle.common.specs.ScanningLaws.{Lawful, run_all, fresh_place}
 use Rattle.common.specs.declared.span.Span.{Span}
 use Rattle.fence.specs.Fence as fence
-use Rattle.fence.specs.Run as fenceRun
+use Rattle.fence.specs.Run as fence_run
 use Rattle.fence.specs.declared.FenceIter.{FenceIter}
 use Rattle.cont.specs.Frames.{frames}
 use Rattle.cont.specs.Cont as cont
-use Rattle.cont.specs.Run as contRun
+use Rattle.cont.specs.Run as cont_run
 use Rattle.cont.specs.declared.ContIter.{ContIter}
 use Rattle.listing.specs.Room.{Room}
 use Rattle.listing.specs.Listing.{house_fence, fence_lines_of, frame_lines, item_lines_of}
@@ -58,8 +58,8 @@ fences-first byte s e h l =
     (λ k. reads_refuse span_values span_back 1 (too_long s) (refuse 2 (past s k.pos) (said span_values (fence.first_open k s)))
     (reads_refuse span_values span_back 2 (past s k.pos) (said span_values (fence.first_open k s)) (said_reads span_values span_back (λ a n. refl) (fence.first_open k s))))
     g (fence.fences g s)
-    (λ n i. fenceRun.run_from g s n (omega arith) i (λ k. step_for span_back (fence.answer k s).values (fence.state k s))
-    (λ q j. fenceRun.kept_step (fence.at g q) s (fence.answer (fence.at g q) s) (fence.state (fence.at g q) s) (omega arith) j (record { answer = refl; next = refl })))) l)
+    (λ n i. fence_run.run_from g s n (omega arith) i (λ k. step_for span_back (fence.answer k s).values (fence.state k s))
+    (λ q j. fence_run.kept_step (fence.at g q) s (fence.answer (fence.at g q) s) (fence.state (fence.at g q) s) (omega arith) j (record { answer = refl; next = refl })))) l)
 
 -- ---- the scanner of frames
 pub frames-first : (s : List ℕ) {out : List ℕ} {n : ℕ} {g : ContIter} → Gives (cont.fresh 62 10 32 9 8) g → length s ≤ 8192 → Room n (frame_lines s) → FramesGoing s n out g out n
@@ -72,7 +72,7 @@ frames-first s e h l =
     (λ k. reads_refuse span_values span_back 1 (too_long s) (refuse 2 (cont.misplaced k s) (cont.span_of (cont.stepped k s)))
     (reads_refuse span_values span_back 2 (cont.misplaced k s) (cont.span_of (cont.stepped k s)) (span_reads (cont.stepped k s))))
     g (frames (cont.framing_of g) s)
-    (λ n i. contRun.run_said 62 10 32 9 8 s n i (λ k. cont.answer k s) (λ k. cont.state k s) (λ k v. record { answer = refl; next = refl }) (omega arith))) l)
+    (λ n i. cont_run.run_said 62 10 32 9 8 s n i (λ k. cont.answer k s) (λ k. cont.state k s) (λ k v. record { answer = refl; next = refl }) (omega arith))) l)
   where
     span_reads : (t : Step Span ContIter) → Reads ContIter span_values span_back (cont.span_of t).values
     span_reads (yields f g) n = refl

@@ -16,16 +16,16 @@ use Rattle.common.specs.ItemLaws.{both}
 use Rattle.region.specs.Region.{Caused, InOrder, row_of}
 use Rattle.region.specs.Ahead.{regions_in_order}
 use Rattle.fence.specs.Fence as fence
-use Rattle.fence.specs.Laws as fenceLaws
-use Rattle.fence.specs.Run as fenceRun
+use Rattle.fence.specs.Laws as fence_laws
+use Rattle.fence.specs.Run as fence_run
 use Rattle.cont.specs.Frames.{frames}
 use Rattle.common.specs.Scanning.{Scanner, fresh, turn, items}
 use Rattle.common.specs.ScanningLaws.{Lawful, turn_adv, fresh_place}
 use Rattle.block_marker.specs.Marker as marker
-use Rattle.block_marker.specs.MarkerRun as markerRun
+use Rattle.block_marker.specs.MarkerRun as marker_run
 use Rattle.block_marker.specs.declared.MarkerItem.{MarkerItem}
 use Rattle.block_numbered.specs.Numbered as numbered
-use Rattle.block_numbered.specs.NumberedRun as numberedRun
+use Rattle.block_numbered.specs.NumberedRun as numbered_run
 use Rattle.block_numbered.specs.declared.NumberedItem.{NumberedItem}
 use Rattle.feed.specs.Items.{marked, counted, mark_items_from, numbered_items_from, merge}
 use Rattle.sheet.specs.Sheet.{sheet_of}
@@ -112,10 +112,10 @@ module _ (s : List ℕ) (h : length s ≤ 8192) where
   unfolding fence_lines_of fence.fences
   fence_most byte k =
       let g = house_fence byte in
-      let adv = fenceLaws.turn_adv g s in
+      let adv = fence_laws.turn_adv g s in
       let l = collect (fence.open_turn g s) (suc (length s)) 0 in
       let w : Each (λ f. length (line 70 (fence_fields byte f)) ≤ 16) l = collect_each adv (λ f. length (line 70 (fence_fields byte f)) ≤ 16) (λ q n f i v. three_most 70 f.start f.end (omega arith) (omega arith) byte k) (suc (length s)) 0 (omega arith) in
-      rw (← (fenceRun.turns_find g s 0 (omega arith))) (omega (arith, found_few adv (suc (length s)) 0 (omega arith), lines_most 70 16 (fence_fields byte) l w))
+      rw (← (fence_run.turns_find g s 0 (omega arith))) (omega (arith, found_few adv (suc (length s)) 0 (omega arith), lines_most 70 16 (fence_fields byte) l w))
 
   -- ---- frames
   frame_most : length (frame_lines s) ≤ 98304
@@ -131,7 +131,7 @@ module _ (s : List ℕ) (h : length s ≤ 8192) where
       let l = marker.items g house_markers s in
       let In : MarkerItem → Type 0 = λ i. (i.span.start ≤ 8192) × (i.span.end ≤ 8192) in
       each_as (λ i. In i × Mark i) (λ i. (i.span.start ≤ 8192) × (i.span.end ≤ 8192) × (i.marker < 256)) (λ i w. (w.0.0, w.0.1, w.1)) l
-      (each_both In Mark l (collect_each (turn_adv markerRun.lawful g house_markers s) In (λ q n i k w. (omega arith, omega arith)) (suc (length s)) 0 (omega arith)) (turns_each Mark (turn marker.scanner g house_markers s) (mark_byte s) (suc (length s)) 0))
+      (each_both In Mark l (collect_each (turn_adv marker_run.lawful g house_markers s) In (λ q n i k w. (omega arith, omega arith)) (suc (length s)) 0 (omega arith)) (turns_each Mark (turn marker.scanner g house_markers s) (mark_byte s) (suc (length s)) 0))
 
   numbers_fit : Each (λ i. (i.span.start ≤ 8192) × (i.span.end ≤ 8192) × (i.delimiter < 256) × (i.number < 1000000000)) (numbered.items (numbered.fresh 10 32 9 house_delims) house_delims s)
   numbers_fit =
@@ -139,18 +139,18 @@ module _ (s : List ℕ) (h : length s ≤ 8192) where
       let l = numbered.items g house_delims s in
       let In : NumberedItem → Type 0 = λ i. (i.span.start ≤ 8192) × (i.span.end ≤ 8192) × (i.number < 1000000000) in
       each_as (λ i. In i × Delimiter i) (λ i. (i.span.start ≤ 8192) × (i.span.end ≤ 8192) × (i.delimiter < 256) × (i.number < 1000000000)) (λ i w. (w.0.0, w.0.1, w.1, w.0.2)) l
-      (each_both In Delimiter l (collect_each (turn_adv numberedRun.lawful g house_delims s) In (λ q n i k w. (omega arith, omega arith, omega arith)) (suc (length s)) 0 (omega arith))
+      (each_both In Delimiter l (collect_each (turn_adv numbered_run.lawful g house_delims s) In (λ q n i k w. (omega arith, omega arith, omega arith)) (suc (length s)) 0 (omega arith))
       (turns_each Delimiter (turn numbered.scanner g house_delims s) (number_byte s) (suc (length s)) 0))
 
   marker_most : length (marker_lines s) ≤ 131072
   unfolding marker_lines
   marker_most =
-      omega (arith, items_most markerRun.lawful 77 16 house_markers s (λ i. (i.span.start ≤ 8192) × (i.span.end ≤ 8192) × (i.marker < 256)) (λ i w. three_most 77 i.span.start i.span.end w.0 w.1 i.marker w.2) marks_fit)
+      omega (arith, items_most marker_run.lawful 77 16 house_markers s (λ i. (i.span.start ≤ 8192) × (i.span.end ≤ 8192) × (i.marker < 256)) (λ i w. three_most 77 i.span.start i.span.end w.0 w.1 i.marker w.2) marks_fit)
 
   numbered_most : length (numbered_lines s) ≤ 212992
   unfolding numbered_lines
   numbered_most =
-      omega (arith, items_most numberedRun.lawful 78 26 house_delims s (λ i. (i.span.start ≤ 8192) × (i.span.end ≤ 8192) × (i.delimiter < 256) × (i.number < 1000000000)) (λ i w. four_most 78 i.span.start i.span.end w.0 w.1 i.delimiter w.2 i.number w.3) numbers_fit)
+      omega (arith, items_most numbered_run.lawful 78 26 house_delims s (λ i. (i.span.start ≤ 8192) × (i.span.end ≤ 8192) × (i.delimiter < 256) × (i.number < 1000000000)) (λ i w. four_most 78 i.span.start i.span.end w.0 w.1 i.delimiter w.2 i.number w.3) numbers_fit)
 
   -- ---- the work sheet
   shown_fit : Each (λ i. length (line 87 (sheet_row i)) ≤ 26) (house_sheet s)

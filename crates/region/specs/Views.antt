@@ -7,7 +7,7 @@ use Rattle.lines.specs.declared.fence_tests.Hit.TheVariants as hit
 use Rattle.region.specs.Region.{Caused, region_of}
 use Rattle.region.specs.Sight.{Sight, turned, lost}
 use Rattle.region.specs.declared.pairs.PairTurn.{PairTurn}
-use Rattle.region.specs.declared.pairs.PairTurn.TheVariants as pairTurn
+use Rattle.region.specs.declared.pairs.PairTurn.TheVariants as pair_turn
 use Rattle.region.specs.declared.Turn.{Turn as Told}
 use Rattle.region.specs.declared.Turn.TheVariants as told
 use Rattle.region.specs.declared.Next.{Next}
@@ -15,9 +15,9 @@ use Rattle.region.specs.declared.Next.TheVariants as next
 
 -- a turn of a close search
 abbrev pub view_pair : PairTurn → Turn ℕ
-view_pair (pairTurn.Go n) = go n
-view_pair (pairTurn.Close t) = found t t
-view_pair (pairTurn.End u) = stop u
+view_pair (pair_turn.Go n) = go n
+view_pair (pair_turn.Close t) = found t t
+view_pair (pair_turn.End u) = stop u
 
 -- a close search's answer: the end of the close, or where the paragraph ended
 abbrev pub view_hit : Hit → Turn ℕ

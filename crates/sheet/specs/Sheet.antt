@@ -1,6 +1,6 @@
 -- The work sheet of a text: what it holds, and what making one answers and writes. Assumes nothing.
 -- The page: "It holds the marker and numbered items, both scanned from place 0 … by rising content start, the marker item first where two
--- are equal." and "For a work sheet: 1, 5, 3."; those are left out whose tested byte is inside a region (request 2, `testedPlace`).
+-- are equal." and "For a work sheet: 1, 5, 3."; those are left out whose tested byte is inside a region (request 2, `tested_place`).
 use Rattle.std.specs.Prelude.{◌≡◌, Bool, true, false, ◌||◌, List, [], ◌∷◌, ℕ, length}
 use Rattle.common.specs.Entry.{flatten, rows, wide}
 use Rattle.common.specs.Lists.{filled_answer, filled_by}
