@@ -108,7 +108,7 @@ fn pour(
 ) -> u32
     requires { Planned (gram_by alphabet fences.now rules.now) (cells list.now) split cuts text.now total }
     ensures { PouredAs listed_bytes row_bytes
-        (parts (gram_by alphabet fences.now rules.now) (cells list.entry.now) split cuts text.now)
+        (parts (gram_by alphabet fences.now rules.now) (cells list.now) split cuts text.now)
         (record { list = out.old; answer = answer.old })
         (record { list = out.new; answer = answer.new }) result }
 {
@@ -137,7 +137,7 @@ fn settle(
 ) -> u32
     requires { CutsReady (cells list.now) count cuts text.now }
     ensures { SettledBytes alphabet.grammar.eol cuts.len (list_regions (gram_by alphabet fences.now rules.now))
-        (regions_in count (cells list.entry.now)) (edit cuts.first cuts.second text.now)
+        (regions_in count (cells list.now)) (edit cuts.first cuts.second text.now)
         (record { list = out.old; answer = answer.old })
         (record { list = out.new; answer = answer.new }) result }
 {
@@ -194,7 +194,7 @@ fn with_columns(
             open_counts = counts.now;
           };
         }))))
-        (regions_in count (cells list.entry.now)) (edit cuts.first cuts.second text.now)
+        (regions_in count (cells list.now)) (edit cuts.first cuts.second text.now)
         (record { list = out.old; answer = answer.old })
         (record { list = out.new; answer = answer.new }) result }
 {
@@ -245,7 +245,7 @@ pub fn amend_columns(
             open_counts = counts.now;
           };
         })
-        old.now list.entry.now count (edit first second text.now)
+        old.now list.now count (edit first second text.now)
         (record { list = out.old; answer = answer.old })
         (record { list = out.new; answer = answer.new }) result }
 {

@@ -27,7 +27,7 @@ pub struct PlacedReply {
 
 // Writes the first `count` regions of a list in our one layout, and replies how many bytes it has, in two numbers, the low one first. Refusals 5, 3.
 pub fn write_bytes(list: &[u8], count: usize, out: &mut [u8], answer: &mut [u8]) -> u32
-    ensures { WroteBytes list.entry.now count (record { list = out.old; answer = answer.old })
+    ensures { WroteBytes list.now count (record { list = out.old; answer = answer.old })
         (record { list = out.new; answer = answer.new }) result }
 {
     if is_misshapen(list, count, MAX_INPUT_LEN) {

@@ -190,7 +190,7 @@ fn fill(
 ) -> u32
     requires text_len_bound { length text.now ≤ 4294967295 }
     requires text_value { misshapen (cells list.now) count (length text.now) ≡ false }
-    ensures { SheetPoured (sheet_of g markers.now delims.now (cells list.entry.now) count text.now)
+    ensures { SheetPoured (sheet_of g markers.now delims.now (cells list.now) count text.now)
         (record { list = out.old; answer = answer.old })
         (record { list = out.new; answer = answer.new }) result }
 {
@@ -262,7 +262,7 @@ pub fn sheet_listed(
     answer: &mut [u8],
 ) -> u32
     ensures { ListedSheet (record { eol = eol; escape = escape; sep = sep; tab = tab }) markers.now delims.now
-        list.entry.now count text.now (record { list = out.old; answer = answer.old })
+        list.now count text.now (record { list = out.old; answer = answer.old })
         (record { list = out.new; answer = answer.new }) result }
 {
     let refusal = judge(text, list, count);

@@ -42,7 +42,7 @@ pub extern "C" fn rack_amend(
             open_counts = counts.now;
           };
         })
-        old.now list.entry.now count (edit first second text.now)
+        old.now list.now count (edit first second text.now)
         (record { list = out.old; answer = answer.old })
         (record { list = out.new; answer = answer.new }) result }
 {

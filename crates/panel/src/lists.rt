@@ -221,7 +221,7 @@ pub extern "C" fn rack_sheet_listed(
     answer: &mut [u8],
 ) -> u32
     ensures { ListedSheet (record { eol = eol; escape = escape; sep = sep; tab = tab }) markers.now delims.now
-        list.entry.now count text.now (record { list = out.old; answer = answer.old })
+        list.now count text.now (record { list = out.old; answer = answer.old })
         (record { list = out.new; answer = answer.new }) result }
 {
     sheet_listed(

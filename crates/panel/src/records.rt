@@ -7,7 +7,7 @@ use json_file::bytes::{PlacedReply, read_bytes, write_bytes};
 // numbers, the low one first.
 #[unsafe(no_mangle)]
 pub extern "C" fn rack_json_write(list: &[u8], count: u32, out: &mut [u8], answer: &mut [u8]) -> u32
-    ensures { WroteBytes list.entry.now count (record { list = out.old; answer = answer.old })
+    ensures { WroteBytes list.now count (record { list = out.old; answer = answer.old })
         (record { list = out.new; answer = answer.new }) result }
 {
     write_bytes(list, count as usize, out, answer)
@@ -17,8 +17,8 @@ pub extern "C" fn rack_json_write(list: &[u8], count: u32, out: &mut [u8], answe
 // handed out by value.
 #[unsafe(no_mangle)]
 pub extern "C" fn rack_json_read(file: &[u8], list: &mut [u8], answer: &mut [u8]) -> PlacedReply
-    ensures { ReadBytes file.now (record { list = list.entry.now; answer = answer.old })
-        (record { list = list.exit.now; answer = answer.new }) result.refusal result.place }
+    ensures { ReadBytes file.now (record { list = list.old; answer = answer.old })
+        (record { list = list.new; answer = answer.new }) result.refusal result.place }
 {
     read_bytes(file, list, answer)
 }

@@ -37,8 +37,8 @@ pub extern "C" fn rack_fence_new(
 #[unsafe(no_mangle)]
 pub extern "C" fn rack_fence_step(text: &[u8], state: &mut [u8], answer: &mut [u8]) -> u32
     ensures { Stepped fence_stepper text.now
-        (record { state = state.entry.now; answer = answer.old })
-        (record { state = state.exit.now; answer = answer.new }) result }
+        (record { state = state.old; answer = answer.old })
+        (record { state = state.new; answer = answer.new }) result }
 {
     if text.len() > MAX_INPUT_LEN {
         return 1;
@@ -79,8 +79,8 @@ pub extern "C" fn rack_marker_step(
     answer: &mut [u8],
 ) -> u32
     ensures { Stepped (marker_stepper (set_of accepted.now)) text.now
-        (record { state = state.entry.now; answer = answer.old })
-        (record { state = state.exit.now; answer = answer.new }) result }
+        (record { state = state.old; answer = answer.old })
+        (record { state = state.new; answer = answer.new }) result }
 {
     if text.len() > MAX_INPUT_LEN {
         return 1;
@@ -123,8 +123,8 @@ pub extern "C" fn rack_numbered_step(
     answer: &mut [u8],
 ) -> u32
     ensures { Stepped (numbered_stepper (set_of accepted.now)) text.now
-        (record { state = state.entry.now; answer = answer.old })
-        (record { state = state.exit.now; answer = answer.new }) result }
+        (record { state = state.old; answer = answer.old })
+        (record { state = state.new; answer = answer.new }) result }
 {
     if text.len() > MAX_INPUT_LEN {
         return 1;
@@ -161,8 +161,8 @@ pub extern "C" fn rack_cont_new(
 #[unsafe(no_mangle)]
 pub extern "C" fn rack_cont_step(text: &[u8], state: &mut [u8], answer: &mut [u8]) -> u32
     ensures { Stepped cont_stepper text.now
-        (record { state = state.entry.now; answer = answer.old })
-        (record { state = state.exit.now; answer = answer.new }) result }
+        (record { state = state.old; answer = answer.old })
+        (record { state = state.new; answer = answer.new }) result }
 {
     if text.len() > MAX_INPUT_LEN {
         return 1;

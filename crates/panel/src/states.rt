@@ -2,8 +2,8 @@
 ghost use Rattle.std.specs.Prelude.{◌≡◌, true, ◌*◌, length};
 ghost use Rattle.search.specs.Promise.{Gives};
 ghost use Rattle.common.specs.Refusals.{given, told_span};
-ghost use Rattle.block_marker.specs.Marker.{told as toldMarker};
-ghost use Rattle.block_numbered.specs.Numbered.{told as toldNumbered};
+ghost use Rattle.block_marker.specs.Marker.{told as told_marker};
+ghost use Rattle.block_numbered.specs.Numbered.{told as told_numbered};
 ghost use Rattle.cells.specs.Bytes.{cells, readable};
 ghost use Rattle.panel.specs.State.{Made, Moved, fence_limits, fence_cells, fence_from, item_limits, marker_cells, marker_from, numbered_cells, numbered_from};
 
@@ -31,8 +31,8 @@ pub(crate) fn made(all: &[usize], state: &mut [u8]) -> u32
 fn moved(all: &[usize], next: &[usize], state: &mut [u8], answer: &mut [u8]) -> u32
     requires { length next.now * 4 ≡ length state.old }
     ensures { Moved (given all.now) next.now
-        (record { state = state.entry.now; answer = answer.old })
-        (record { state = state.exit.now; answer = answer.new }) result }
+        (record { state = state.old; answer = answer.old })
+        (record { state = state.new; answer = answer.new }) result }
 {
     if all.len() < room_of(answer.len()) {
         put_numbers(state, 0, next);
@@ -50,8 +50,8 @@ pub(crate) fn moved_span(
 ) -> u32
     requires { length next.now * 4 ≡ length state.old }
     ensures { Moved (told_span found) next.now
-        (record { state = state.entry.now; answer = answer.old })
-        (record { state = state.exit.now; answer = answer.new }) result }
+        (record { state = state.old; answer = answer.old })
+        (record { state = state.new; answer = answer.new }) result }
 {
     match found {
         SpanFound::At(span) => {
@@ -73,9 +73,9 @@ pub(crate) fn moved_marker(
     answer: &mut [u8],
 ) -> u32
     requires { length next.now * 4 ≡ length state.old }
-    ensures { Moved (toldMarker found) next.now
-        (record { state = state.entry.now; answer = answer.old })
-        (record { state = state.exit.now; answer = answer.new }) result }
+    ensures { Moved (told_marker found) next.now
+        (record { state = state.old; answer = answer.old })
+        (record { state = state.new; answer = answer.new }) result }
 {
     match found {
         MarkerFound::Item(item) => {
@@ -101,9 +101,9 @@ pub(crate) fn moved_numbered(
     answer: &mut [u8],
 ) -> u32
     requires { length next.now * 4 ≡ length state.old }
-    ensures { Moved (toldNumbered found) next.now
-        (record { state = state.entry.now; answer = answer.old })
-        (record { state = state.exit.now; answer = answer.new }) result }
+    ensures { Moved (told_numbered found) next.now
+        (record { state = state.old; answer = answer.old })
+        (record { state = state.new; answer = answer.new }) result }
 {
     match found {
         NumberedFound::Item(item) => {
