@@ -1,5 +1,5 @@
 -- Laws of the amendment: the ways out of the entry, that its promise leaves one answer and one list, and that it sees little of the old text. Assumes nothing.
-use Rattle.std.specs.Prelude.{◌≡◌, Bool, true, false, cond, ◌||◌, ◌⊎◌, ℕ, ◌+◌, ◌-◌, ◌≤◌, ◌<◌, ltb, leb, get_or}
+use Rattle.std.specs.Prelude.{◌≡◌, Bool, true, false, cond, ◌||◌, ◌⊎◌, ℕ, ◌+◌, ◌-◌, ◌≤◌, ◌<◌, ltb, leb, get_or, Err, Ok, Result}
 use Rattle.std.proofs.Common.{sym, ap, subst, ◌∙◌, inl, inr, arith, length-append, ltb-false, leb-true}
 use mathlib.Core.List.{List, [], ◌++◌}
 use Rattle.std.proofs.Math.ListN.{length, length-take, length-drop}
@@ -12,7 +12,6 @@ use Rattle.common.specs.Refusals.{Outcome, given, refused, too_long, past, numbe
 use Rattle.common.specs.RefusalLaws.{number_some, answer_unique}
 use Rattle.common.specs.declared.grammar.Grammar.{Grammar}
 use Rattle.common.specs.declared.refusal.Refusal.{Refusal}
-use Rattle.common.specs.declared.refusal.Answer.{Answer}
 use Rattle.region.specs.Region.{Region, move, up, keep_before, keep_from}
 use Rattle.rules.specs.Grammar.{Gram}
 use Rattle.rules.specs.Columns.{Columns, inline_rules, columns, unequal, alphabet_of, gram_of}
@@ -28,8 +27,6 @@ use Rattle.amend.specs.Parts.{told_verdict, Judged, CutsReady, Settled}
 use Rattle.amend.specs.Starts.{apart_few}
 use Rattle.amend.specs.RowLaws.{orderly_told}
 use Rattle.amend.specs.JudgeLaws.{not_given, refuse-same, refuse_pass, edited-length, edit-same, edit-passed}
-use Rattle.amend.specs.declared.Verdict.{Verdict}
-use Rattle.amend.specs.declared.Verdict.TheVariants as verdict
 
 -- ---- cuts that are judged
 module _ (eol : ℕ) (s l : List ℕ) (n : ℕ) (e : Edit) (u m : Bool) where
@@ -56,7 +53,7 @@ module _ (eol : ℕ) (s l : List ℕ) (n : ℕ) (e : Edit) (u m : Bool) where
   unfolding judged judged_edit
   judged_on fine o = let p = judged-passed (given []) [] fine in simp (p.0, p.1, p.2, p.3, p.4, p.5, p.6)
 
-pub ready_told : (eol : ℕ) (s l : List ℕ) (n first second : ℕ) (r : List ℕ) (u m : Bool) (v : Verdict) → v ≡ verdict.Fine → Judged eol s l n (edit first second r) u m v
+pub ready_told : (eol : ℕ) (s l : List ℕ) (n first second : ℕ) (r : List ℕ) (u m : Bool) (v : Result Unit Refusal) → v ≡ (Ok tt) → Judged eol s l n (edit first second r) u m v
     → CutsReady l n (record { first = first; second = second; len = length s }) r
 ready_told eol s l n first second r u m v e g =
     let p = judged-passed eol s l n (edit first second r) u m (given []) [] (sym g.answer ∙ ap told_verdict e) in
@@ -74,27 +71,27 @@ ready_told eol s l n first second r u m v e g =
 
 -- ---- the ways out of the entry
 module _ (g : Grammar) (c : Columns) (s l : List ℕ) (n : ℕ) (e : Edit) (out : List ℕ) where
-  module _ (u m : Bool) (v : Verdict) (hv : Judged g.eol s l n e u m v) (hu : Gives (unequal c) u) (hm : Gives (uses_line_end g c) m) where
+  module _ (u m : Bool) (v : Result Unit Refusal) (hv : Judged g.eol s l n e u m v) (hu : Gives (unequal c) u) (hm : Gives (uses_line_end g c) m) where
     as_told : amended_answer g c s l n e out ≡ judged g.eol s l n e u m (settled_answer wide g.eol (length s) (list_regions (gram_of g c)) (regions_in n l) e out)
     unfolding amended_answer amend_answer
     as_told = rw (← hu.answer, ← hm.answer)
 
-    amended_stop : (q : Refusal) → v ≡ verdict.Refused q → Amended g c s l n e out out (refused (number_of q))
+    amended_stop : (q : Refusal) → v ≡ Err q → Amended g c s l n e out out (refused (number_of q))
     amended_stop q d =
         let a : amended_answer g c s l n e out ≡ refused (number_of q) = as_told ∙ judged_stop g.eol s l n e u m q _ (sym hv.answer ∙ ap told_verdict d) in
         record { answer = sym a; list = rw (a, number_some q) }
 
-    amended_on : (out' : List ℕ) (o : Outcome) → v ≡ verdict.Fine → Settled g.eol (length s) (list_regions (gram_of g c)) (regions_in n l) e out out' o → Amended g c s l n e out out' o
+    amended_on : (out' : List ℕ) (o : Outcome) → v ≡ (Ok tt) → Settled g.eol (length s) (list_regions (gram_of g c)) (regions_in n l) e out out' o → Amended g c s l n e out out' o
     amended_on out' o d w =
         let a : amended_answer g c s l n e out ≡ settled_answer wide g.eol (length s) (list_regions (gram_of g c)) (regions_in n l) e out = as_told ∙ judged_on g.eol s l n e u m (sym hv.answer ∙ ap told_verdict d) _ in
         record { answer = w.answer ∙ sym a; list = w.list ∙ rw a }
 
-module _ (g : Grammar) (f m y t o k c s l : List ℕ) (n first second : ℕ) (r out : List ℕ) (u w : Bool) (v : Verdict) where
-  pub amended_refused : (q : Refusal) → v ≡ verdict.Refused q → Judged g.eol s l n (edit first second r) u w v → Gives (unequal (columns f m y t o k c)) u
+module _ (g : Grammar) (f m y t o k c s l : List ℕ) (n first second : ℕ) (r out : List ℕ) (u w : Bool) (v : Result Unit Refusal) where
+  pub amended_refused : (q : Refusal) → v ≡ Err q → Judged g.eol s l n (edit first second r) u w v → Gives (unequal (columns f m y t o k c)) u
       → Gives (line_end_is_mark g.eol g.escape y o) w → Amended g (columns f m y t o k c) s l n (edit first second r) out out (refused (number_of q))
   amended_refused q d hv hu hw = amended_stop g (columns f m y t o k c) s l n (edit first second r) out u w v hv hu hw q d
 
-  pub amended_settled : (alphabet : Alphabet) (fences : List ℕ) (rules : List (List ℕ)) (out' : List ℕ) (a : Outcome) → v ≡ verdict.Fine → Judged g.eol s l n (edit first second r) u w v
+  pub amended_settled : (alphabet : Alphabet) (fences : List ℕ) (rules : List (List ℕ)) (out' : List ℕ) (a : Outcome) → v ≡ (Ok tt) → Judged g.eol s l n (edit first second r) u w v
       → Gives (unequal (columns f m y t o k c)) u → Gives (line_end_is_mark g.eol g.escape y o) w → Gives (alphabet_of g f y o) alphabet → Gives (fence_table f m) fences → Folded f (inline_rules y t o k c) rules
       → Settled alphabet.grammar.eol (length s) (list_regions (gram_by alphabet fences rules)) (regions_in n l) (edit first second r) out out' a → Amended g (columns f m y t o k c) s l n (edit first second r) out out' a
   amended_settled alphabet fences rules out' a d hv hu hw hs hf hr z =
@@ -118,7 +115,7 @@ amended_regions-few {T} build len e l h = by (decide (follows len e.second))
 
 -- ---- one answer, one list
 -- two results of an amendment for the same arguments are one: the answer, and the list that is left
-pub amended_unique : {g : Grammar} {c : Columns} {s l : List ℕ} {n : ℕ} {e : Edit} {out out' out'' : List ℕ} {r r' : Answer}
+pub amended_unique : {g : Grammar} {c : Columns} {s l : List ℕ} {n : ℕ} {e : Edit} {out out' out'' : List ℕ} {r r' : Result ℕ Refusal}
     → Amended g c s l n e out out' (told r) → Amended g c s l n e out out'' (told r') → (r ≡ r') × (out' ≡ out'')
 amended_unique {g} {c} {s} {l} {n} {e} {out} a b =
     (answer_unique {o = amended_answer g c s l n e out} (record { answer = a.answer }) (record { answer = b.answer }), a.list ∙ sym b.list)
@@ -151,7 +148,7 @@ module _ (g : Grammar) (c : Columns) (l : List ℕ) (n : ℕ) (e : Edit) (out : 
 
 -- "Of the old text only its length and the two bytes before each cut are read": another old text that is alike there gives the same answer
 -- and leaves the same list
-pub amended_alike : {g : Grammar} {c : Columns} {s s' l : List ℕ} {n : ℕ} {e : Edit} {out out' out'' : List ℕ} {r r' : Answer}
+pub amended_alike : {g : Grammar} {c : Columns} {s s' l : List ℕ} {n : ℕ} {e : Edit} {out out' out'' : List ℕ} {r r' : Result ℕ Refusal}
     → Alike s s' e → Amended g c s l n e out out' (told r) → Amended g c s' l n e out out'' (told r') → (r ≡ r') × (out' ≡ out'')
 amended_alike {g} {c} {s} {s'} {l} {n} {e} {out} w a b =
     let same : amended_answer g c s l n e out ≡ amended_answer g c s' l n e out = answer_alike g c l n e out s s' w in

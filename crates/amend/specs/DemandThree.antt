@@ -2,18 +2,17 @@
 -- The mission: "Replacing the stretch between two joints of a text, the kept regions, the new bytes' own and the moved ones are exactly those
 -- of the edited text built afresh." The page: "mission demand 3 adds that the old list was built from the old text, by the grammar and rules
 -- the amendment is given".
-use Rattle.std.specs.Prelude.{◌≡◌, false, List, ◌⊎◌, ℕ, ◌-◌, ◌*◌, ◌≤◌, ◌<◌, length, get_or}
+use Rattle.std.specs.Prelude.{◌≡◌, false, List, ◌⊎◌, ℕ, ◌-◌, ◌*◌, ◌≤◌, ◌<◌, length, get_or, Ok, Result}
 use Rattle.common.specs.Entry.{room, wide}
 use Rattle.common.specs.Refusals.{told}
 use Rattle.common.specs.declared.grammar.Grammar.{Grammar}
-use Rattle.common.specs.declared.refusal.Answer.{Answer}
-use Rattle.common.specs.declared.refusal.Answer.TheVariants.{Value}
 use Rattle.region.specs.Region.{Region, reaches, Listed}
 use Rattle.region.specs.Regions.{regions}
 use Rattle.rules.specs.Columns.{Columns, unequal, gram_of}
 use Rattle.context.specs.Build.{Built}
 use Rattle.amend.specs.Amend.{Edit, Joint}
 use Rattle.amend.specs.Amended.{list_regions, edited, uses_line_end, Amended}
+use Rattle.common.specs.declared.refusal.Refusal.{Refusal}
 
 -- a replacement that old text may follow: it is empty, or it "ends in two line ends" and no region of it, "built alone", is one "reaching its end"
 -- (`EndsAtJoint` of Several.antt says it by the test of a joint, as the proof needs it; Serves.antt shows that they are one)
@@ -42,9 +41,9 @@ region_count g c s = length (regions (gram_of g c) s)
 
 -- an amendment has answered r and left `out'` of `out`, building the edited text over `blank` has answered a and left `fresh`: both answer k,
 -- every cell of a region is the same in both lists, and over the same run the lists are equal
-pub record Agree (k : ℕ) (out out' blank fresh : List ℕ) (r a : Answer) : Type 0 where
-  pub amended : r ≡ Value k
-  pub built : a ≡ Value k
+pub record Agree (k : ℕ) (out out' blank fresh : List ℕ) (r a : Result ℕ Refusal) : Type 0 where
+  pub amended : r ≡ Ok k
+  pub built : a ≡ Ok k
   pub cells : (i : ℕ) → i < k * wide → get_or fresh i 0 ≡ get_or out' i 0
   pub whole : blank ≡ out → fresh ≡ out'
 
@@ -53,7 +52,7 @@ pub record Agree (k : ℕ) (out out' blank fresh : List ℕ) (r a : Answer) : Ty
 -- answer, and the amended list is the one built afresh.
 abbrev pub DemandThree : Type 0
 DemandThree =
-    (g : Grammar) (c : Columns) (old run l : List ℕ) (e : Edit) (out out' blank fresh : List ℕ) (q r a : Answer)
+    (g : Grammar) (c : Columns) (old run l : List ℕ) (e : Edit) (out out' blank fresh : List ℕ) (q r a : Result ℕ Refusal)
     → length old ≤ 4294967295
     → unequal c ≡ false
     → region_count g c old ≤ room wide run
@@ -63,4 +62,4 @@ DemandThree =
     → Built g c old run l (told q)
     → Amended g c old l (region_count g c old) e out out' (told r)
     → Built g c (edited e old) blank fresh (told a)
-    → (q ≡ Value (region_count g c old)) × Agree (region_count g c (edited e old)) out out' blank fresh r a
+    → (q ≡ Ok (region_count g c old)) × Agree (region_count g c (edited e old)) out out' blank fresh r a

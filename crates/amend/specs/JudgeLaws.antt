@@ -1,5 +1,5 @@
 -- Laws of judging an edit and its cuts: the ways out of the functions that do, and what a verdict tells. Assumes nothing.
-use Rattle.std.specs.Prelude.{◌≡◌, refl, Bool, true, false, ◌||◌, ℕ, suc, ◌+◌, ◌-◌, ◌≤◌, ◌<◌, length, take, drop}
+use Rattle.std.specs.Prelude.{◌≡◌, refl, Bool, true, false, ◌||◌, ℕ, suc, ◌+◌, ◌-◌, ◌≤◌, ◌<◌, length, take, drop, Err, Ok, Result}
 use Rattle.std.proofs.Math.Path.{sym, ap}
 use Rattle.std.proofs.Common.{◌∙◌, arith, length-append, length-take, length-drop}
 use mathlib.Core.List.{List, [], ◌++◌}
@@ -13,8 +13,6 @@ use Rattle.cover.specs.Shape.{misshapen}
 use Rattle.amend.specs.Amend.{Edit}
 use Rattle.amend.specs.Amended.{regions_in, edit, edited, miscut, off_joint, judged_edit, judged}
 use Rattle.amend.specs.Parts.{Fair, told_verdict, JudgedEdit, Judged}
-use Rattle.amend.specs.declared.Verdict.{Verdict}
-use Rattle.amend.specs.declared.Verdict.TheVariants as verdict
 
 -- ---- chains of refusals
 -- a refusal is not served
@@ -38,14 +36,14 @@ refuse_pass n true o l e =
 refuse_pass n false o l e = (refl, e)
 
 -- ---- one verdict
-verdict_back : (v : Verdict) → read (λ l. verdict.Fine) verdict.Refused (told_verdict v) ≡ v
+verdict_back : (v : Result Unit Refusal) → read (λ l. (Ok tt)) Err (told_verdict v) ≡ v
 unfolding read
-verdict_back verdict.Fine = refl
-verdict_back (verdict.Refused r) = read-refused (λ l. verdict.Fine) verdict.Refused r
+verdict_back (Ok tt) = refl
+verdict_back (Err r) = read-refused (λ l. (Ok tt)) Err r
 
 -- two verdicts on the same arguments are one
-pub judged-edit_unique : {s : List ℕ} {e : Edit} {unequal : Bool} {v v' : Verdict} → JudgedEdit s e unequal v → JudgedEdit s e unequal v' → v ≡ v'
-judged-edit_unique a b = told_unique told_verdict (read (λ l. verdict.Fine) verdict.Refused) verdict_back (record { answer = a.answer }) (record { answer = b.answer })
+pub judged-edit_unique : {s : List ℕ} {e : Edit} {unequal : Bool} {v v' : Result Unit Refusal} → JudgedEdit s e unequal v → JudgedEdit s e unequal v' → v ≡ v'
+judged-edit_unique a b = told_unique told_verdict (read (λ l. (Ok tt)) Err) verdict_back (record { answer = a.answer }) (record { answer = b.answer })
 
 -- ---- the first four refusals
 pub edited-length : (s : List ℕ) (first second : ℕ) (r : List ℕ) → first ≤ second → second ≤ length s → length (edited (edit first second r) s) ≡ length s - (second - first) + length r
@@ -117,14 +115,14 @@ module _ (s : List ℕ) (e : Edit) (unequal : Bool) where
   edit_on z o = let p = edit-passed (given []) [] z in simp (p.0, p.1, p.2, p.3)
 
 -- ---- the next three, where a verdict v has told of the first four
-module _ (eol : ℕ) (s l : List ℕ) (n first second : ℕ) (r : List ℕ) (unequal marked : Bool) (v : Verdict) where
-  pub judged_early : (q : Refusal) → v ≡ verdict.Refused q → JudgedEdit s (edit first second r) unequal v → Judged eol s l n (edit first second r) unequal marked (verdict.Refused q)
+module _ (eol : ℕ) (s l : List ℕ) (n first second : ℕ) (r : List ℕ) (unequal marked : Bool) (v : Result Unit Refusal) where
+  pub judged_early : (q : Refusal) → v ≡ Err q → JudgedEdit s (edit first second r) unequal v → Judged eol s l n (edit first second r) unequal marked (Err q)
   unfolding judged
   judged_early q d j =
       let z = sym j.answer ∙ ap told_verdict d in
       record { answer = sym (edit-same s (edit first second r) unequal (refused (number_of q)) (given []) _ (λ x. absurd (not_given q (sym x))) z) }
 
-  module _ (d : v ≡ verdict.Fine) (j : JudgedEdit s (edit first second r) unequal v) where
+  module _ (d : v ≡ (Ok tt)) (j : JudgedEdit s (edit first second r) unequal v) where
     fine : judged_edit s (edit first second r) unequal (given []) ≡ given []
     fine = sym j.answer ∙ ap told_verdict d
 

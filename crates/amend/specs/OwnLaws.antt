@@ -1,5 +1,5 @@
 -- Laws of a replacement's own regions: the rules of the loops that count and write them, by steps of `next_region`. Assumes nothing.
-use Rattle.std.specs.Prelude.{◌≡◌, Bool, false, ◌||◌, ℕ, ◌+◌, ◌-◌, ◌*◌, ◌≤◌, ◌<◌, leb, length, replicate}
+use Rattle.std.specs.Prelude.{◌≡◌, Bool, false, ◌||◌, ℕ, ◌+◌, ◌-◌, ◌*◌, ◌≤◌, ◌<◌, leb, length, replicate, None, Option, Some}
 use Rattle.std.proofs.Math.Path.{sym, ap}
 use Rattle.std.proofs.Common.{subst, ◌∙◌, add_comm, arith}
 use Rattle.std.proofs.Math.Bool.{true, or-false, or_assoc}
@@ -20,11 +20,10 @@ use Rattle.common.specs.Entry.{wide}
 use Rattle.common.specs.Lists.{RowPut}
 use Rattle.region.specs.Room.{RowFits}
 use Rattle.region.specs.declared.Region.{Region as Told}
-use Rattle.region.specs.declared.Next.{Next}
-use Rattle.region.specs.declared.Next.TheVariants as step
 use Rattle.amend.specs.Parts.{PutRows, Owns, surveyed}
 use Rattle.amend.specs.RowLaws.{PuttingRows, putting_first, putting_room, putting_put, putting_end}
 use Rattle.amend.specs.Amended.{list_regions}
+use Rattle.region.specs.declared.Region.{Region}
 
 -- ---- the loop that counts: n regions found before q, and whether one of them reaches the text's end
 pub record Surveying (g : Gram) (s m : List ℕ) (n : ℕ) (reached : Bool) (q : ℕ) : Type 0 where
@@ -34,21 +33,21 @@ pub record Surveying (g : Gram) (s m : List ℕ) (n : ℕ) (reached : Bool) (q :
 pub surveying_first : (g : Gram) (s : List ℕ) → Surveying g s (replicate 256 0) 0 false 0
 surveying_first g s = record { counting = counting-first g s; reach = ap (reaches (length s)) (from_start g s) }
 
-module _ (g : Gram) (s m : List ℕ) (n : ℕ) (y : Bool) (q : ℕ) (d : Next) (m' : List ℕ) (i : Surveying g s m n y q) (kept : KeptNext g s m q d m') where
+module _ (g : Gram) (s m : List ℕ) (n : ℕ) (y : Bool) (q : ℕ) (d : Option (Region × ℕ)) (m' : List ℕ) (i : Surveying g s m n y q) (kept : KeptNext g s m q d m') where
   t : Gives (found_region (next_region g s q)) (view_next d)
   t = counting-told g s m n q d m' i.counting kept
 
   inside : q ≤ length s
   inside = i.counting.here
 
-  pub surveying_end : d ≡ step.Nothing → record { count = n; reaching = y } ≡ surveyed g s
+  pub surveying_end : d ≡ None → record { count = n; reaching = y } ≡ surveyed g s
   unfolding reaches
   surveying_end e =
       let a = counting_end g s m n q d m' i.counting kept e in
       let b : y ≡ reaches (length s) (regions g s) = sym (i.reach ∙ ap (λ (l : List Caused). y || reaches (length s) l) (next_none g s q inside d t e) ∙ or-false y) in
       rw (← a, ← b)
 
-  module _ (r : Told) (k : ℕ) (e : d ≡ step.Region r k) where
+  module _ (r : Told) (k : ℕ) (e : d ≡ Some (r, k)) where
     pub surveying_less : length s - k < length s - q
     surveying_less = counting_less g s m n q d m' i.counting kept r k e
 
@@ -84,14 +83,14 @@ moving_first flat w g s by at out size owns =
           (putting_first size (subst (λ (k : ℕ). at * w + k * w ≤ length out) (sym many) owns.room));
     }
 
-module _ (flat : Listed → List ℕ) (w : ℕ) (g : Gram) (s dead : List ℕ) (by at : ℕ) (out₀ out : List ℕ) (m q : ℕ) (d : Next) (dead' : List ℕ) (i : Moving flat w g s dead by at out₀ out m q) (kept : KeptNext g s dead q d dead') where
+module _ (flat : Listed → List ℕ) (w : ℕ) (g : Gram) (s dead : List ℕ) (by at : ℕ) (out₀ out : List ℕ) (m q : ℕ) (d : Option (Region × ℕ)) (dead' : List ℕ) (i : Moving flat w g s dead by at out₀ out m q) (kept : KeptNext g s dead q d dead') where
   told : Gives (found_region (next_region g s q)) (view_next d)
   told = keeps_told g s dead q i.inside i.sound d dead' kept
 
-  pub moving_end : d ≡ step.Nothing → PutRows flat w (up by (list_regions g s)) at out₀ out m
+  pub moving_end : d ≡ None → PutRows flat w (up by (list_regions g s)) at out₀ out m
   moving_end e = putting_end (subst (λ (l : List Caused). PuttingRows flat w (up by (list_regions g s)) (up by (map as_listed l)) at m out₀ out) (next_none g s q i.inside d told e) i.putting)
 
-  module _ (r : Told) (n : ℕ) (e : d ≡ step.Region r n) where
+  module _ (r : Told) (n : ℕ) (e : d ≡ Some (r, n)) where
     pub moving_less : length s - n < length s - q
     moving_less = let w = next-ahead g s q i.inside d told r n e in omega arith
 
@@ -118,8 +117,8 @@ module _ (flat : Listed → List ℕ) (w : ℕ) (g : Gram) (s dead : List ℕ) (
         }
 
 -- a row of numbers
-pub moving_puts : (flat : Listed → List ℕ) (g : Gram) (s dead : List ℕ) (by at : ℕ) (out₀ out : List ℕ) (m q : ℕ) (d : Next) (dead' : List ℕ) → Moving flat wide g s dead by at out₀ out m q → KeptNext g s dead q d dead'
-    → (r : Told) (n : ℕ) → d ≡ step.Region r n → RowFits m (r.start + by) (r.end + by) out
+pub moving_puts : (flat : Listed → List ℕ) (g : Gram) (s dead : List ℕ) (by at : ℕ) (out₀ out : List ℕ) (m q : ℕ) (d : Option (Region × ℕ)) (dead' : List ℕ) → Moving flat wide g s dead by at out₀ out m q → KeptNext g s dead q d dead'
+    → (r : Told) (n : ℕ) → d ≡ Some (r, n) → RowFits m (r.start + by) (r.end + by) out
 moving_puts flat g s dead by at out₀ out m q d dead' i kept r n e =
     let fits = moving_fits flat wide g s dead by at out₀ out m q d dead' i kept r n e in
     record { room = moving_room flat wide g s dead by at out₀ out m q d dead' i kept r n e; low = fits.0; high = fits.1 }

@@ -1,6 +1,6 @@
 -- What the parts of an amendment ask and promise. Assumes nothing.
 -- The page's sentences stand in Amended.antt; here are its parts, a function each.
-use Rattle.std.specs.Prelude.{◌≡◌, Bool, false, List, [], ◌++◌, ℕ, ◌+◌, ◌-◌, ◌*◌, ◌≤◌, length, drop}
+use Rattle.std.specs.Prelude.{◌≡◌, Bool, false, List, [], ◌++◌, ℕ, ◌+◌, ◌-◌, ◌*◌, ◌≤◌, length, drop, Err, Ok, Result}
 use Rattle.common.specs.Lists.{filled_by}
 use Rattle.common.specs.Entry.{flatten, put_at, wide}
 use Rattle.common.specs.Refusals.{Outcome, given, refused, number_of}
@@ -10,11 +10,10 @@ use Rattle.region.specs.Regions.{regions}
 use Rattle.amend.specs.Amend.{Edit, moved_by}
 use Rattle.cover.specs.Shape.{misshapen}
 use Rattle.amend.specs.Amended.{regions_in, list_regions, amended_regions, judged_edit, judged, settled_answer}
-use Rattle.amend.specs.declared.Verdict.{Verdict}
-use Rattle.amend.specs.declared.Verdict.TheVariants as verdict
 use Rattle.amend.specs.declared.Cuts.{Cuts}
 use Rattle.amend.specs.declared.Split.{Split}
 use Rattle.amend.specs.declared.own.Counted.{Counted}
+use Rattle.common.specs.declared.refusal.Refusal.{Refusal}
 
 -- ---- lists
 -- a list with its first n regions in order, up to len
@@ -59,15 +58,15 @@ pub record Owns (w : ℕ) (l : List Caused) (s : List ℕ) (by : ℕ) (out : Lis
   pub room : at * w + length l * w ≤ length out
 
 -- ---- refusals
-abbrev pub told_verdict : Verdict → Outcome
-told_verdict verdict.Fine = given []
-told_verdict (verdict.Refused r) = refused (number_of r)
+abbrev pub told_verdict : Result Unit Refusal → Outcome
+told_verdict (Ok tt) = given []
+told_verdict (Err r) = refused (number_of r)
 
 -- what a verdict says: the first four refusals, or the first seven, and nothing behind them
-pub record JudgedEdit (s : List ℕ) (e : Edit) (unequal : Bool) (v : Verdict) : Type 0 where
+pub record JudgedEdit (s : List ℕ) (e : Edit) (unequal : Bool) (v : Result Unit Refusal) : Type 0 where
   pub answer : told_verdict v ≡ judged_edit s e unequal (given [])
 
-pub record Judged (eol : ℕ) (s l : List ℕ) (n : ℕ) (e : Edit) (unequal marked : Bool) (v : Verdict) : Type 0 where
+pub record Judged (eol : ℕ) (s l : List ℕ) (n : ℕ) (e : Edit) (unequal marked : Bool) (v : Result Unit Refusal) : Type 0 where
   pub answer : told_verdict v ≡ judged eol s l n e unequal marked (given [])
 
 -- cuts that may be made in a text of a length with its list

@@ -1,6 +1,6 @@
 -- Mission demand 3, proved: from its conditions alone the amendment answers the count, and its list is the one built afresh; a list that was
 -- built is amended under these conditions only. Assumes nothing.
-use Rattle.std.specs.Prelude.{◌≡◌, refl, Bool, true, ◌||◌, ◌&&◌, List, [], ◌∷◌, ◌⊎◌, ℕ, ◌-◌, ◌≤◌, ltb, eqb, get_or}
+use Rattle.std.specs.Prelude.{◌≡◌, refl, Bool, true, ◌||◌, ◌&&◌, List, [], ◌∷◌, ◌⊎◌, ℕ, ◌-◌, ◌≤◌, ltb, eqb, get_or, Ok, Result}
 use Rattle.std.proofs.Common.{sym, subst, ◌∙◌, arith}
 use Rattle.std.proofs.Math.Path.{ap}
 use Rattle.std.proofs.Math.Bool.{false, not}
@@ -14,8 +14,6 @@ use Rattle.common.specs.Lists.{build_answer}
 use Rattle.common.specs.Refusals.{given, too_long, told}
 use Rattle.common.specs.RefusalLaws.{answer_unique}
 use Rattle.common.specs.declared.grammar.Grammar.{Grammar}
-use Rattle.common.specs.declared.refusal.Answer.{Answer}
-use Rattle.common.specs.declared.refusal.Answer.TheVariants.{Value}
 use Rattle.region.specs.Region.{Region, Listed, as_listed}
 use Rattle.region.specs.Regions.{regions}
 use Rattle.rules.specs.Columns.{Columns, unequal, gram_of}
@@ -28,6 +26,7 @@ use Rattle.amend.specs.Edits.{joint-cut}
 use Rattle.amend.specs.JudgeLaws.{refuse_pass}
 use Rattle.amend.specs.Theorem.{built_told, built_holds, built_shaped, Admitted, accepted-told, same, Rebuilt, amend_is_rebuild}
 use Rattle.amend.specs.DemandThree.{ShutEnd, Conditions, region_count, Agree, DemandThree}
+use Rattle.common.specs.declared.refusal.Refusal.{Refusal}
 
 -- ---- they are what is tested
 and_no : (b : Bool) → (b && false) ≡ false
@@ -58,7 +57,7 @@ sound_shut eol build r j = by (decide (eqb (length r) 0))
 abbrev afresh_count : Grammar → Columns → List ℕ → Edit → ℕ
 afresh_count g c old e = region_count g c (edited e old)
 
-module _ {g : Grammar} {c : Columns} {old run l : List ℕ} {n : ℕ} {e : Edit} (b : Built g c old run l (told (Value n))) (w : Conditions g c old (regions_in n l) e) where
+module _ {g : Grammar} {c : Columns} {old run l : List ℕ} {n : ℕ} {e : Edit} (b : Built g c old run l (told (Ok n))) (w : Conditions g c old (regions_in n l) e) where
   on_joints : off_joint g.eol old (regions_in n l) e.first e.second ≡ false
   unfolding off_joint
   on_joints = by w.stop
@@ -106,7 +105,7 @@ module _ {g : Grammar} {c : Columns} {old run l : List ℕ} {n : ℕ} {e : Edit}
   amend_serves out h = amend_serves_by wide (unequal c) out (built_told b).equal h
 
 -- ---- nothing less is served
-module _ {g : Grammar} {c : Columns} {old run l : List ℕ} {n : ℕ} {e : Edit} (b : Built g c old run l (told (Value n))) (out : List ℕ) (k : ℕ)
+module _ {g : Grammar} {c : Columns} {old run l : List ℕ} {n : ℕ} {e : Edit} (b : Built g c old run l (told (Ok n))) (out : List ℕ) (k : ℕ)
     (served : given (k ∷ []) ≡ amended_answer g c old l n e out) where
   -- where a list was built, the amendment answers a count only where the conditions hold and there is room
   pub serves_only : Conditions g c old (regions_in n l) e × (k ≡ afresh_count g c old e) × (afresh_count g c old e ≤ room wide out)
@@ -137,8 +136,8 @@ module _ {g : Grammar} {c : Columns} {old run l : List ℕ} {n : ℕ} {e : Edit}
 
 -- ---- the theorem
 -- of a list that was built, by the conditions with that list
-pub built_agrees : {g : Grammar} {c : Columns} {old run l : List ℕ} {n : ℕ} {e : Edit} {out out' blank fresh : List ℕ} {r a : Answer}
-    → Built g c old run l (told (Value n))
+pub built_agrees : {g : Grammar} {c : Columns} {old run l : List ℕ} {n : ℕ} {e : Edit} {out out' blank fresh : List ℕ} {r a : Result ℕ Refusal}
+    → Built g c old run l (told (Ok n))
     → Conditions g c old (regions_in n l) e
     → afresh_count g c old e ≤ room wide out
     → afresh_count g c old e ≤ room wide blank
@@ -147,16 +146,16 @@ pub built_agrees : {g : Grammar} {c : Columns} {old run l : List ℕ} {n : ℕ} 
     → Agree (afresh_count g c old e) out out' blank fresh r a
 built_agrees {g} {c} {old} {run} {l} {n} {e} {out} {out'} {blank} {fresh} {r} {a} b w h i m f =
     let k = afresh_count g c old e in
-    let served : amended_answer g c old l n e out ≡ told (Value k) = amend_serves b w out h in
-    let z : r ≡ Value k = answer_unique {o = amended_answer g c old l n e out} (record { answer = m.answer }) (record { answer = sym served }) in
-    let m' : Amended g c old l n e out out' (told (Value k)) = subst (λ (x : Answer). Amended g c old l n e out out' (told x)) z m in
+    let served : amended_answer g c old l n e out ≡ told (Ok k) = amend_serves b w out h in
+    let z : r ≡ Ok k = answer_unique {o = amended_answer g c old l n e out} (record { answer = m.answer }) (record { answer = sym served }) in
+    let m' : Amended g c old l n e out out' (told (Ok k)) = subst (λ (x : Result ℕ Refusal). Amended g c old l n e out out' (told x)) z m in
     let v : Rebuilt k out out' blank fresh a = amend_is_rebuild b m' f in
     record { amended = z; built = v.count i; cells = v.places i; whole = λ y. (v.whole y).1 }
 
 -- ---- with no answer assumed
 -- building answers the count of the text's regions where the text is within the limit, the columns agree and there is room
-pub build_serves : {g : Grammar} {c : Columns} {s out l : List ℕ} {a : Answer} → length s ≤ 4294967295 → unequal c ≡ false → length (regions (gram_of g c) s) ≤ room wide out
-    → Built g c s out l (told a) → a ≡ Value (length (regions (gram_of g c) s))
+pub build_serves : {g : Grammar} {c : Columns} {s out l : List ℕ} {a : Result ℕ Refusal} → length s ≤ 4294967295 → unequal c ≡ false → length (regions (gram_of g c) s) ≤ room wide out
+    → Built g c s out l (told a) → a ≡ Ok (length (regions (gram_of g c) s))
 unfolding built_answer build_answer
 build_serves {g} {c} {s} {out} {l} {a} h u r b =
     let k = length (regions (gram_of g c) s) in
@@ -167,6 +166,6 @@ pub demand_three : DemandThree
 demand_three g c old run l e out out' blank fresh q r a short u roomy w h i b m f =
     let n = length (regions (gram_of g c) old) in
     let z = build_serves short u roomy b in
-    let b' : Built g c old run l (told (Value n)) = subst (λ (x : Answer). Built g c old run l (told x)) z b in
+    let b' : Built g c old run l (told (Ok n)) = subst (λ (x : Result ℕ Refusal). Built g c old run l (told x)) z b in
     let w' : Conditions g c old (regions_in n l) e = subst (λ (x : List Listed). Conditions g c old x e) (sym (built_holds b')) w in
     (z, built_agrees b' w' h i m f)

@@ -1,6 +1,6 @@
 -- Mission demand 3, of the promises that the code keeps: where a list holds the regions of the old text and an amendment accepts, it leaves the list that building the edited text afresh leaves. Assumes nothing.
 -- The page: "mission demand 3 adds that the old list was built from the old text, by the grammar and rules the amendment is given".
-use Rattle.std.specs.Prelude.{◌≡◌, refl, Bool, true, ◌&&◌, ◌⊎◌, ℕ, ◌+◌, ◌-◌, ◌*◌, ◌≤◌, ◌<◌, ltb, drop}
+use Rattle.std.specs.Prelude.{◌≡◌, refl, Bool, true, ◌&&◌, ◌⊎◌, ℕ, ◌+◌, ◌-◌, ◌*◌, ◌≤◌, ◌<◌, ltb, drop, Ok, Result}
 use Rattle.std.proofs.Math.Path.{sym, ap, subst}
 use Rattle.std.proofs.Common.{◌∙◌, inl, inr, length-drop}
 use Rattle.std.proofs.Math.Bool.{false, not}
@@ -15,8 +15,6 @@ use Rattle.common.specs.EntryLaws.{length-flatten, rows-flatten, fits_room, hold
 use Rattle.common.specs.Refusals.{Outcome, given, refuse, too_long, past, told}
 use Rattle.common.specs.RefusalLaws.{answer_unique}
 use Rattle.common.specs.declared.grammar.Grammar.{Grammar}
-use Rattle.common.specs.declared.refusal.Answer.{Answer}
-use Rattle.common.specs.declared.refusal.Answer.TheVariants.{Value}
 use Rattle.region.specs.Region.{Caused, up, keep_before, InOrder, Listed, tag_of, as_listed, row, unrow, row_of}
 use Rattle.region.specs.Regions.{regions}
 use Rattle.rules.specs.Columns.{Columns, gram_of}
@@ -35,6 +33,7 @@ use Rattle.amend.specs.AmendedLaws.{judged-passed}
 use Rattle.region.specs.LoopLaws.{row-wide}
 use Rattle.amend.specs.Lists.{retag_order}
 use Rattle.amend.specs.Demand.{demand_columns}
+use Rattle.common.specs.declared.refusal.Refusal.{Refusal}
 
 -- a list whose first n regions are those of a text, by a grammar and rules
 abbrev pub HoldsRegions : Grammar → Columns → List ℕ → List ℕ → ℕ → Type 0
@@ -57,7 +56,7 @@ pub record BuiltLeft (g : Grammar) (c : Columns) (s out l : List ℕ) (n : ℕ) 
   pub count : length (regions (gram_of g c) s) ≡ n
   pub left : l ≡ over (flatten row_of (regions (gram_of g c) s)) out
 
-module _ {g : Grammar} {c : Columns} {s out l : List ℕ} {n : ℕ} (b : Built g c s out l (told (Value n))) where
+module _ {g : Grammar} {c : Columns} {s out l : List ℕ} {n : ℕ} (b : Built g c s out l (told (Ok n))) where
   pub built_told : BuiltLeft g c s out l n
   unfolding built_answer build_answer built_list
   built_told =
@@ -175,12 +174,12 @@ module _ (g : Grammar) (c : Columns) (s l : List ℕ) (n : ℕ) (e : Edit) (a : 
 -- ---- the theorem
 -- an amendment has left k regions in `out'`, which was `out`; building afresh over `blank` has answered a and left `fresh`. Where there is
 -- room for k regions, the counts are equal, and so are the two lists at every place of a region; over the same run all of it is equal
-pub record Rebuilt (k : ℕ) (out out' blank fresh : List ℕ) (a : Answer) : Type 0 where
-  pub count : k ≤ room wide blank → a ≡ Value k
+pub record Rebuilt (k : ℕ) (out out' blank fresh : List ℕ) (a : Result ℕ Refusal) : Type 0 where
+  pub count : k ≤ room wide blank → a ≡ Ok k
   pub places : k ≤ room wide blank → (i : ℕ) → i < k * wide → get_or fresh i 0 ≡ get_or out' i 0
-  pub whole : blank ≡ out → (a ≡ Value k) × (fresh ≡ out')
+  pub whole : blank ≡ out → (a ≡ Ok k) × (fresh ≡ out')
 
-module _ (g : Grammar) (c : Columns) (s l : List ℕ) (n : ℕ) (e : Edit) (out out' : List ℕ) (k : ℕ) (holds : HoldsRegions g c s l n) (m : Amended g c s l n e out out' (told (Value k))) where
+module _ (g : Grammar) (c : Columns) (s l : List ℕ) (n : ℕ) (e : Edit) (out out' : List ℕ) (k : ℕ) (holds : HoldsRegions g c s l n) (m : Amended g c s l n e out out' (told (Ok k))) where
   tested : Accepted wide (unequal c) g c s l n e out k
   tested = accepted-told g c s l n e out k m.answer
 
@@ -201,15 +200,15 @@ module _ (g : Grammar) (c : Columns) (s l : List ℕ) (n : ℕ) (e : Edit) (out 
   left : out' ≡ over (flatten row_of afresh) out
   left = m.list ∙ rw (← m.answer) (ap (λ (x : List ℕ). over x out) (ap (flatten row) alike ∙ flatten-map row as_listed afresh))
 
-  module _ (blank fresh : List ℕ) (a : Answer) (b : Built g c (edited e s) blank fresh (told a)) (h : k ≤ room wide blank) where
+  module _ (blank fresh : List ℕ) (a : Result ℕ Refusal) (b : Built g c (edited e s) blank fresh (told a)) (h : k ≤ room wide blank) where
     free : crowded wide afresh blank ≡ false
     free = le-ltb (room wide blank) (length afresh) (omega (arith, size))
 
-    answered : a ≡ Value k
+    answered : a ≡ Ok k
     unfolding built_answer build_answer afresh
     answered =
         let x : told a ≡ given (length afresh ∷ []) = b.answer ∙ simp (tested.short, tested.equal, free) in
-        let y : told (Value k) ≡ given (length afresh ∷ []) = ap (λ (j : ℕ). given (j ∷ [])) size in
+        let y : told (Ok k) ≡ given (length afresh ∷ []) = ap (λ (j : ℕ). given (j ∷ [])) size in
         answer_unique {o = given (length afresh ∷ [])} (record { answer = x }) (record { answer = y })
 
     built : fresh ≡ over (flatten row_of afresh) blank
@@ -224,9 +223,9 @@ module _ (g : Grammar) (c : Columns) (s l : List ℕ) (n : ℕ) (e : Edit) (out 
         ∙ sym (ap (λ (z : List ℕ). get_or z i 0) left ∙ get_or-append (flatten row_of afresh) (drop (length (flatten row_of afresh)) out) 0 i x)
 
 -- where a list holds the regions of the old text and an amendment accepts, building the edited text afresh gives the same list
-pub amend_is_rebuild_held : {g : Grammar} {c : Columns} {old l : List ℕ} {n : ℕ} {e : Edit} {out out' blank fresh : List ℕ} {k : ℕ} {a : Answer}
+pub amend_is_rebuild_held : {g : Grammar} {c : Columns} {old l : List ℕ} {n : ℕ} {e : Edit} {out out' blank fresh : List ℕ} {k : ℕ} {a : Result ℕ Refusal}
     → HoldsRegions g c old l n
-    → Amended g c old l n e out out' (told (Value k))
+    → Amended g c old l n e out out' (told (Ok k))
     → Built g c (edited e old) blank fresh (told a)
     → Rebuilt k out out' blank fresh a
 amend_is_rebuild_held {g} {c} {old} {l} {n} {e} {out} {out'} {blank} {fresh} {k} {a} holds m b =
@@ -240,9 +239,9 @@ amend_is_rebuild_held {g} {c} {old} {l} {n} {e} {out} {out'} {blank} {fresh} {k}
 
 -- Mission demand 3, of the promises that `build` and `amend` keep. Build the old text; amend its list, by the same grammar and rules, for
 -- the text that an edit makes; build that text afresh: two equal lists.
-pub amend_is_rebuild : {g : Grammar} {c : Columns} {old run l : List ℕ} {n : ℕ} {e : Edit} {out out' blank fresh : List ℕ} {k : ℕ} {a : Answer}
-    → Built g c old run l (told (Value n))
-    → Amended g c old l n e out out' (told (Value k))
+pub amend_is_rebuild : {g : Grammar} {c : Columns} {old run l : List ℕ} {n : ℕ} {e : Edit} {out out' blank fresh : List ℕ} {k : ℕ} {a : Result ℕ Refusal}
+    → Built g c old run l (told (Ok n))
+    → Amended g c old l n e out out' (told (Ok k))
     → Built g c (edited e old) blank fresh (told a)
     → Rebuilt k out out' blank fresh a
 amend_is_rebuild b = amend_is_rebuild_held (built_holds b)

@@ -17,7 +17,7 @@ ghost use Rattle.amend.specs.Parts.{JudgedEdit, Judged, CutsReady, parts, Roomy,
 
 use common::grammar::Grammar;
 use common::list::WIDE;
-use common::refusal::{Answer, Refusal};
+use common::refusal::Refusal;
 use common::span::MAX_INPUT_LEN;
 use cover::shape::is_misshapen;
 use joint::{is_left_open, marks_line_end};
@@ -28,13 +28,6 @@ use rows::{copy_rows, starts_before};
 use rules::columns::columns_differ;
 use rules::rows::{Rows, rule_rows};
 use rules::search_bytes::Alphabet;
-
-// Whether the cuts may be made.
-#[derive(Clone, Copy)]
-pub enum Verdict {
-    Fine,
-    Refused(Refusal),
-}
 
 // What is wrong with the rules: columns differ; a line end escapes or opens.
 #[derive(Clone, Copy)]
@@ -60,29 +53,35 @@ pub struct Split {
 }
 
 // The refusals that the texts' lengths, the columns and the cuts decide, in the page's order.
-pub fn judge_edit(old: &[u8], first: usize, second: usize, text: &[u8], unequal: bool) -> Verdict
+pub fn judge_edit(
+    old: &[u8],
+    first: usize,
+    second: usize,
+    text: &[u8],
+    unequal: bool,
+) -> Result<(), Refusal>
     ensures { JudgedEdit old.now (edit first second text.now) unequal result }
 {
     let len = old.len();
     if len > MAX_INPUT_LEN {
-        return Verdict::Refused(Refusal::TextTooLong);
+        return Err(Refusal::TextTooLong);
     }
     if text.len() > MAX_INPUT_LEN {
-        return Verdict::Refused(Refusal::TextTooLong);
+        return Err(Refusal::TextTooLong);
     }
     if unequal {
-        return Verdict::Refused(Refusal::ColumnsDiffer);
+        return Err(Refusal::ColumnsDiffer);
     }
     if first > second {
-        return Verdict::Refused(Refusal::CutsOutOfOrder);
+        return Err(Refusal::CutsOutOfOrder);
     }
     if second > len {
-        return Verdict::Refused(Refusal::CutsOutOfOrder);
+        return Err(Refusal::CutsOutOfOrder);
     }
     if len - (second - first) + text.len() > MAX_INPUT_LEN {
-        return Verdict::Refused(Refusal::TextTooLong);
+        return Err(Refusal::TextTooLong);
     }
-    Verdict::Fine
+    Ok(())
 }
 
 // These, and then those that the list, the rules and the bytes before the cuts decide.
@@ -95,23 +94,23 @@ fn judge(
     text: &[u8],
     flaws: Flaws,
     eol: u8,
-) -> Verdict
+) -> Result<(), Refusal>
     ensures { Judged eol old.now list.now count (edit first second text.now) flaws.unequal
         flaws.marked result }
 {
     match judge_edit(old, first, second, text, flaws.unequal) {
-        Verdict::Refused(r) => Verdict::Refused(r),
-        Verdict::Fine => {
+        Err(r) => Err(r),
+        Ok(()) => {
             if is_misshapen(list, count, old.len()) {
-                return Verdict::Refused(Refusal::ListMisshapen);
+                return Err(Refusal::ListMisshapen);
             }
             if flaws.marked {
-                return Verdict::Refused(Refusal::LineEndMark);
+                return Err(Refusal::LineEndMark);
             }
             if is_off_joint(old, list, count, first, second, eol) {
-                return Verdict::Refused(Refusal::NotAtJoint);
+                return Err(Refusal::NotAtJoint);
             }
-            Verdict::Fine
+            Ok(())
         }
     }
 }
@@ -156,7 +155,7 @@ fn settle(
     fences: &[u16; 256],
     rules: &Rows,
     out: &mut [u32],
-) -> Answer
+) -> Result<usize, Refusal>
     requires { CutsReady list.now count cuts text.now }
     ensures { Settled alphabet.grammar.eol cuts.len (list_regions (gram_by alphabet fences.now rules.now))
         (regions_in count list.now) (edit cuts.first cuts.second text.now) out.old
@@ -173,17 +172,17 @@ fn settle(
     let after = starts_before(list, count, cuts.second);
     let total = before + own.count + (count - after);
     if left_open {
-        return Answer::Refused(Refusal::ReplacementOpen);
+        return Err(Refusal::ReplacementOpen);
     }
     if out.len() / WIDE < total {
-        return Answer::Refused(Refusal::NoRoom);
+        return Err(Refusal::NoRoom);
     }
     let split = Split {
         before,
         after,
         count,
     };
-    Answer::Value(write(list, split, cuts, text, alphabet, fences, rules, out))
+    Ok(write(list, split, cuts, text, alphabet, fences, rules, out))
 }
 
 // Amends the list of an old text, whose first `count` regions it has, for the text in which the bytes from the first cut up to the
@@ -208,7 +207,7 @@ pub fn amend(
     closers: &[u8],
     counts: &[u32],
     out: &mut [u32],
-) -> Answer
+) -> Result<usize, Refusal>
     ensures { Amended g (columns fences.now mins.now symmetric.now times.now
         openers.now closers.now counts.now) old.now list.now count
         (edit first second text.now) out.old out.new (told result) }
@@ -218,8 +217,8 @@ pub fn amend(
         marked: marks_line_end(g.eol, g.escape, symmetric, openers),
     };
     match judge(old, list, count, first, second, text, flaws, g.eol) {
-        Verdict::Refused(r) => Answer::Refused(r),
-        Verdict::Fine => {
+        Err(r) => Err(r),
+        Ok(()) => {
             let alphabet = Alphabet::of(g, fences, symmetric, openers);
             let table = fence_table(fences, mins);
             let rules = rule_rows(fences, symmetric, times, openers, closers, counts);

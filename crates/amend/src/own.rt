@@ -9,7 +9,7 @@ ghost use Rattle.amend.specs.Parts.{surveyed, Owns, PutRows};
 ghost use Rattle.amend.specs.Amended.{list_regions};
 
 use crate::rows::put_moved;
-use region::{Next, next_region};
+use region::next_region;
 use rules::rows::Rows;
 use rules::search_bytes::Alphabet;
 
@@ -40,13 +40,13 @@ pub fn survey(text: &[u8], alphabet: Alphabet, fences: &[u16; 256], rules: &Rows
     let mut q = 0;
     loop {
         match next_region(text, q, alphabet, fences, rules, &mut dead) {
-            Next::Nothing => {
+            None => {
                 return Counted {
                     count: found,
                     reaching,
                 };
             }
-            Next::Region(r, next) => {
+            Some((r, next)) => {
                 found += 1;
                 reaching = reached(reaching, r.end, text.len());
                 q = next;
@@ -74,10 +74,10 @@ pub(crate) fn write_own(
     let mut q = 0;
     loop {
         match next_region(text, q, alphabet, fences, rules, &mut dead) {
-            Next::Nothing => {
+            None => {
                 return at;
             }
-            Next::Region(r, next) => {
+            Some((r, next)) => {
                 at = put_moved(out, at, r.start, r.end, by);
                 q = next;
             }

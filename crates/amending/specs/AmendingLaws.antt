@@ -1,5 +1,5 @@
 -- Laws of the amendment in bytes: the ways out of its functions, and that its promise leaves one result. Assumes nothing.
-use Rattle.std.specs.Prelude.{◌≡◌, refl, Bool, true, false, List, [], ◌∷◌, ℕ, ◌+◌, ◌-◌, ◌*◌, ◌/◌, ◌^◌, ◌≤◌, ◌<◌, ltb, length}
+use Rattle.std.specs.Prelude.{◌≡◌, refl, Bool, true, false, List, [], ◌∷◌, ℕ, ◌+◌, ◌-◌, ◌*◌, ◌/◌, ◌^◌, ◌≤◌, ◌<◌, ltb, length, Err, Ok, Result}
 use Rattle.std.proofs.Common.{sym, ap, subst, ◌∙◌, arith, Fits, le-leb}
 use Rattle.std.specs.Int.{w64}
 use Rattle.std.proofs.lemmas.Bool.{lt-leb}
@@ -29,8 +29,6 @@ use Rattle.amend.specs.Amended.{regions_in, list_regions, edit, amended_regions,
 use Rattle.amend.specs.Parts.{surveyed, told_verdict, Judged, CutsReady, parts, Roomy}
 use Rattle.amend.specs.SettleLaws.{split, answer_open, answer-shut, parts_same, total_told, two_fit, three_fit, roomy}
 use Rattle.amend.specs.AmendedLaws.{judged_stop, judged_on}
-use Rattle.amend.specs.declared.Verdict.{Verdict}
-use Rattle.amend.specs.declared.Verdict.TheVariants as verdict
 use Rattle.amend.specs.declared.Cuts.{Cuts}
 use Rattle.amend.specs.declared.Split.{Split}
 use Rattle.amend.specs.declared.own.Counted.{Counted}
@@ -95,30 +93,30 @@ settled_columns g c len l e before after a fences rows r ha hf hr v =
     (subst (λ (x : Alphabet). SettledBytes x.grammar.eol len (list_regions (gram_by a fences rows)) l e before after r) ha.answer v)
 
 -- ---- the ways out of the entry
-module _ (g : Grammar) (c : ColumnRuns) (s l : List ℕ) (n : ℕ) (e : Edit) (u m : Bool) (v : Verdict) (lent : ListRuns)
+module _ (g : Grammar) (c : ColumnRuns) (s l : List ℕ) (n : ℕ) (e : Edit) (u m : Bool) (v : Result Unit Refusal) (lent : ListRuns)
     (hv : Judged g.eol s (cells l) n e u m v) (hu : Gives (uneven_columns c) u) (hm : Gives (line_end_is_mark g.eol g.escape c.inline.sym_bytes c.inline.openers) m) where
   as_told : amend_answer g (columns_in c) s (cells l) n e row_bytes (uneven_columns c) lent.list
       ≡ judged g.eol s (cells l) n e u m (settled_answer row_bytes g.eol (length s) (list_regions (gram_of g (columns_in c))) (regions_in n (cells l)) e lent.list)
   unfolding amend_answer columns_in
   as_told = rw (← hu.answer, ← hm.answer)
 
-  stopped : (q : Refusal) (k : ℕ) → v ≡ verdict.Refused q → Gives (number_of q) k → AmendedBytes g c s l n e lent lent k
+  stopped : (q : Refusal) (k : ℕ) → v ≡ Err q → Gives (number_of q) k → AmendedBytes g c s l n e lent lent k
   stopped q k d h =
       let L = flatten listed_bytes (amended_list g (columns_in c) s (cells l) n e) in
       let a : amend_answer g (columns_in c) s (cells l) n e row_bytes (uneven_columns c) lent.list ≡ refused (number_of q) = as_told ∙ judged_stop g.eol s (cells l) n e u m q _ (sym hv.answer ∙ ap told_verdict d) in
       subst (λ (o : Outcome). Poured o L lent lent k) (sym a) (rw h.answer (poured_off (number_of q) L lent (number_some q)))
 
-  went_on : (after : ListRuns) (k : ℕ) → v ≡ verdict.Fine → SettledBytes g.eol (length s) (list_regions (gram_of g (columns_in c))) (regions_in n (cells l)) e lent after k → AmendedBytes g c s l n e lent after k
+  went_on : (after : ListRuns) (k : ℕ) → v ≡ (Ok tt) → SettledBytes g.eol (length s) (list_regions (gram_of g (columns_in c))) (regions_in n (cells l)) e lent after k → AmendedBytes g c s l n e lent after k
   went_on after k d w =
       let L = flatten listed_bytes (amended_list g (columns_in c) s (cells l) n e) in
       subst (λ (o : Outcome). Poured o L lent after k) (sym (as_told ∙ judged_on g.eol s (cells l) n e u m (sym hv.answer ∙ ap told_verdict d) _)) w
 
-module _ (g : Grammar) (c : ColumnRuns) (s l : List ℕ) (n first second : ℕ) (r : List ℕ) (u m : Bool) (v : Verdict) (lent : ListRuns) where
-  pub bytes_refused : (q : Refusal) (k : ℕ) → v ≡ verdict.Refused q → Judged g.eol s (cells l) n (edit first second r) u m v → Gives (uneven_columns c) u
+module _ (g : Grammar) (c : ColumnRuns) (s l : List ℕ) (n first second : ℕ) (r : List ℕ) (u m : Bool) (v : Result Unit Refusal) (lent : ListRuns) where
+  pub bytes_refused : (q : Refusal) (k : ℕ) → v ≡ Err q → Judged g.eol s (cells l) n (edit first second r) u m v → Gives (uneven_columns c) u
       → Gives (line_end_is_mark g.eol g.escape c.inline.sym_bytes c.inline.openers) m → Gives (number_of q) k → AmendedBytes g c s l n (edit first second r) lent lent k
   bytes_refused q k d hv hu hm h = stopped g c s l n (edit first second r) u m v lent hv hu hm q k d h
 
-  pub bytes_settled : (after : ListRuns) (k : ℕ) → v ≡ verdict.Fine → Judged g.eol s (cells l) n (edit first second r) u m v → Gives (uneven_columns c) u
+  pub bytes_settled : (after : ListRuns) (k : ℕ) → v ≡ (Ok tt) → Judged g.eol s (cells l) n (edit first second r) u m v → Gives (uneven_columns c) u
       → Gives (line_end_is_mark g.eol g.escape c.inline.sym_bytes c.inline.openers) m
       → SettledBytes g.eol (length s) (list_regions (gram_of g (columns_in c))) (regions_in n (cells l)) (edit first second r) lent after k → AmendedBytes g c s l n (edit first second r) lent after k
   bytes_settled after k d hv hu hm w = went_on g c s l n (edit first second r) u m v lent hv hu hm after k d w

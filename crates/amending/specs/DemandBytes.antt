@@ -1,7 +1,7 @@
 -- Mission demand 3 in bytes: a list amended in bytes is the one that building the edited text in bytes leaves. Assumes nothing.
 -- The mission: "Replacing the stretch between two joints of a text, the kept regions, the new bytes' own and the moved ones are exactly those
 -- of the edited text built afresh."
-use Rattle.std.specs.Prelude.{◌≡◌, refl, not, List, [], ◌∷◌, ℕ, ◌+◌, ◌*◌, ◌/◌, ◌≤◌, length}
+use Rattle.std.specs.Prelude.{◌≡◌, refl, not, List, [], ◌∷◌, ℕ, ◌+◌, ◌*◌, ◌/◌, ◌≤◌, length, Ok}
 use Rattle.std.proofs.Math.Path.{sym, ap}
 use Rattle.std.proofs.Common.{subst, ◌∙◌, arith}
 use Rattle.std.proofs.Math.Bool.{false}
@@ -14,7 +14,6 @@ use Rattle.common.specs.EntryLaws.{flatten-map}
 use Rattle.common.specs.Lists.{crowded, build_answer}
 use Rattle.common.specs.Refusals.{Outcome, given, told, differ}
 use Rattle.common.specs.declared.grammar.Grammar.{Grammar}
-use Rattle.common.specs.declared.refusal.Answer.TheVariants.{Value}
 use Rattle.region.specs.Region.{Caused, Listed, as_listed}
 use Rattle.region.specs.Regions.{built_by}
 use Rattle.rules.specs.Columns.{unequal, gram_of}
@@ -105,7 +104,7 @@ even_equal c h =
 
 module _ (g : Grammar) (c : ColumnRuns) (s : List ℕ) (before after : ListRuns) (w : BuiltBytes g c s before after 0) where
   -- building in bytes that returns 0 has, read as numbers, kept the promise of building
-  pub built_numbers : Built g (columns_in c) s (cells before.list) (cells after.list) (told (Value (length (built_by g (columns_in c) s))))
+  pub built_numbers : Built g (columns_in c) s (cells before.list) (cells after.list) (told (Ok (length (built_by g (columns_in c) s))))
   unfolding built_answer built_list build_answer
   built_numbers =
       let p = built_passed (built_by g (columns_in c) s) (uneven_columns c) s before after w in

@@ -18,7 +18,7 @@ ghost use Rattle.amending.specs.Amending.{listed_bytes, AmendedBytes};
 ghost use Rattle.amending.specs.ByteParts.{Planned, SettledBytes};
 
 use amend::own::survey;
-use amend::{Cuts, Flaws, Split, Verdict, judge_edit};
+use amend::{Cuts, Flaws, Split, judge_edit};
 use byte_list::is_misshapen;
 use cells::columns::{columns_differ, rule_rows};
 use cells::{ROW, reply};
@@ -42,23 +42,23 @@ fn judge(
     text: &[u8],
     flaws: Flaws,
     eol: u8,
-) -> Verdict
+) -> Result<(), Refusal>
     ensures { Judged eol old.now (cells list.now) count (edit first second text.now) flaws.unequal
         flaws.marked result }
 {
     match judge_edit(old, first, second, text, flaws.unequal) {
-        Verdict::Refused(r) => Verdict::Refused(r),
-        Verdict::Fine => {
+        Err(r) => Err(r),
+        Ok(()) => {
             if is_misshapen(list, count, old.len()) {
-                return Verdict::Refused(Refusal::ListMisshapen);
+                return Err(Refusal::ListMisshapen);
             }
             if flaws.marked {
-                return Verdict::Refused(Refusal::LineEndMark);
+                return Err(Refusal::LineEndMark);
             }
             if is_off_joint(old, list, count, first, second, eol) {
-                return Verdict::Refused(Refusal::NotAtJoint);
+                return Err(Refusal::NotAtJoint);
             }
-            Verdict::Fine
+            Ok(())
         }
     }
 }
@@ -254,8 +254,8 @@ pub fn amend_columns(
         marked: marks_line_end(eol, escape, symmetric, openers),
     };
     match judge(old, list, count, first, second, text, flaws, eol) {
-        Verdict::Refused(r) => r.number(),
-        Verdict::Fine => {
+        Err(r) => r.number(),
+        Ok(()) => {
             let cuts = Cuts {
                 first,
                 second,

@@ -8,7 +8,7 @@ ghost use Rattle.amend.specs.Parts.{Owns, PutRows};
 ghost use Rattle.amending.specs.Amending.{listed_bytes};
 
 use crate::rows::put_moved;
-use region::{Next, next_region};
+use region::next_region;
 use rules::rows::Rows;
 use rules::search_bytes::Alphabet;
 
@@ -32,10 +32,10 @@ pub(crate) fn write_own(
     let mut q = 0;
     loop {
         match next_region(text, q, alphabet, fences, rules, &mut dead) {
-            Next::Nothing => {
+            None => {
                 return at;
             }
-            Next::Region(r, next) => {
+            Some((r, next)) => {
                 at = put_moved(out, at, r.start, r.end, by);
                 q = next;
             }

@@ -3,7 +3,7 @@
 use crate::tally::{number, text};
 use crate::texts::front;
 use common::grammar::Grammar;
-use common::refusal::Answer;
+use common::refusal::Refusal;
 
 pub(crate) fn print_all() {
     let mut choice = 0;
@@ -39,10 +39,10 @@ fn answered(choice: u32) -> u32 {
     number_of(amended(choice, out))
 }
 
-fn number_of(a: Answer) -> u32 {
+fn number_of(a: Result<usize, Refusal>) -> u32 {
     match a {
-        Answer::Value(_) => 0,
-        Answer::Refused(r) => r.number(),
+        Ok(_) => 0,
+        Err(r) => r.number(),
     }
 }
 
@@ -65,7 +65,7 @@ fn grammar(escaping: bool) -> Grammar {
 
 // By turns: a column that is too short, cuts out of order, a count over the list's room, an escape that is the line end, a cut that
 // is at no joint, a replacement that is open at its end; too little room is the caller's.
-fn amended(choice: u32, out: &mut [u32]) -> Answer {
+fn amended(choice: u32, out: &mut [u32]) -> Result<usize, Refusal> {
     // It has joints at 3 and 6, and no region.
     let old: &[u8] = b"a\n\nb\n\nc";
     let mins: &[u8] = &[3];

@@ -3,7 +3,7 @@ use crate::tally::Tally;
 use crate::texts;
 use crate::texts::Short;
 use common::grammar::Grammar;
-use common::refusal::Answer;
+use common::refusal::Refusal;
 
 // The cells of a list, more than any of these texts needs. What isn't written keeps its mark.
 const CELLS: usize = 36;
@@ -28,11 +28,11 @@ pub(crate) fn run(
 ) -> Tally {
     let mut out = [MARK; CELLS];
     match amended(old, list, first, second, text, &mut out) {
-        Answer::Value(count) => before.made(is_fresh(
+        Ok(count) => before.made(is_fresh(
             Listed { cells: out, count },
             built(texts::edited(old, first, second, text)),
         )),
-        Answer::Refused(r) => before.refused(r.number(), is_marked(&out)),
+        Err(r) => before.refused(r.number(), is_marked(&out)),
     }
 }
 
@@ -43,7 +43,7 @@ fn amended(
     second: usize,
     text: Short,
     out: &mut [u32; CELLS],
-) -> Answer {
+) -> Result<usize, Refusal> {
     let bytes = old.bytes;
     let own = text.bytes;
     let cells = list.cells;
@@ -82,8 +82,8 @@ pub(crate) fn built(text: Short) -> Listed {
         &[1],
         &mut cells,
     ) {
-        Answer::Value(count) => Listed { cells, count },
-        Answer::Refused(_) => Listed {
+        Ok(count) => Listed { cells, count },
+        Err(_) => Listed {
             cells,
             count: CELLS,
         },

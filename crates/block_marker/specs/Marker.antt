@@ -1,6 +1,6 @@
 -- What the marker scanner finds. Assumes nothing.
 -- The page: "Optional separators and tabs, one accepted byte, one separator or tab; the span is the rest of the line."
-use Rattle.std.specs.Prelude.{Bool, cond, ◌&&◌, List, [], ◌∷◌, ℕ, ◌+◌, ltb, length, get_or, take}
+use Rattle.std.specs.Prelude.{Bool, cond, ◌&&◌, List, [], ◌∷◌, ℕ, ◌+◌, ltb, length, get_or, take, Err, None, Ok, Option, Result, Some}
 use Rattle.std.proofs.Math.Seq.{slice}
 use Rattle.search.specs.Promise.{Gives}
 use Rattle.search.specs.Search.{either, one_of, holds, find, line_end, after_line}
@@ -11,13 +11,12 @@ use Rattle.common.specs.Scanning.{Scanner, Keeps, KeepsFrom, on_from, of_line}
 use Rattle.common.specs.Scanning as scanning
 use Rattle.block_marker.specs.declared.BlockMarkerIter.{BlockMarkerIter}
 use Rattle.block_marker.specs.declared.MarkerItem.{MarkerItem}
-use Rattle.block_marker.specs.declared.MarkerFound.{MarkerFound}
-use Rattle.block_marker.specs.declared.MarkerFound.TheVariants.{Item, Nothing, Refused}
 use Rattle.block_marker.specs.declared.MarkerStep.{MarkerStep}
 use Rattle.block_marker.specs.declared.MarkerTurn.{MarkerTurn}
 use Rattle.block_marker.specs.declared.MarkerTurn.TheVariants.{Go, Stop, Found}
 use Rattle.block_marker.specs.declared.MarkerFirst.{MarkerFirst}
 use Rattle.block_marker.specs.declared.MarkerFirst.TheVariants as first
+use Rattle.common.specs.declared.refusal.Refusal.{Refusal}
 
 -- the item of a marker, with the span of its content
 abbrev pub mark : ℕ → ℕ → ℕ → MarkerItem
@@ -122,10 +121,10 @@ abbrev pub rests : MarkerFirst → Turn MarkerItem
 rests (first.Found m a e n) = found (mark m a e) n
 rests (first.Stopped v) = stop v
 
-abbrev pub told : MarkerFound → Outcome
-told (Item i) = given (values i)
-told Nothing = given []
-told (Refused r) = refused (number_of r)
+abbrev pub told : Result (Option MarkerItem) Refusal → Outcome
+told (Ok (Some i)) = given (values i)
+told (Ok None) = given []
+told (Err r) = refused (number_of r)
 
 -- ---- the run
 -- the promise of `next` for its result

@@ -1,7 +1,7 @@
 -- The marker scanner's run: that it keeps the laws of item scanners, that a step's promise leaves one answer and one state, what it says unfolded, that stepping a fresh state until none comes yields all items, and that both scans yield the same. Assumes nothing.
 -- The page: "From place 0 the streaming and line scans are proved to yield the same items in the same order", "For markers the digit
 -- conditions drop out."
-use Rattle.std.specs.Prelude.{◌≡◌, refl, Bool, true, ◌&&◌, List, ℕ, ◌+◌, ◌≤◌, length, take}
+use Rattle.std.specs.Prelude.{◌≡◌, refl, Bool, true, ◌&&◌, List, ℕ, ◌+◌, ◌≤◌, length, take, Err, None, Ok, Option, Result, Some}
 use Rattle.search.specs.Search.{holds, find}
 use Rattle.common.specs.Sets.{accepted}
 use Rattle.common.specs.Refusals.{read, unless_none}
@@ -16,9 +16,9 @@ use Rattle.common.specs.ScanningLaws as scanning
 use Rattle.block_marker.specs.Marker.{mark_line, markers, stream_hit, stream_turn, scanner, fresh, unfolded, told, Kept, KeptFrom, told_step, items}
 use Rattle.block_marker.specs.MarkerLaws.{Marks, stream_heads, line_heads, Lies, stream_adv, line_adv, lined_items, streamed_items}
 use Rattle.block_marker.specs.declared.BlockMarkerIter.{BlockMarkerIter}
-use Rattle.block_marker.specs.declared.MarkerFound.{MarkerFound}
-use Rattle.block_marker.specs.declared.MarkerFound.TheVariants.{Item, Nothing, Refused}
 use Rattle.block_marker.specs.declared.MarkerStep.{MarkerStep}
+use Rattle.block_marker.specs.declared.MarkerItem.{MarkerItem}
+use Rattle.common.specs.declared.refusal.Refusal.{Refusal}
 
 pub lawful : Lawful scanner Lies
 lawful = record { of_made = λ f. refl; made_of = λ g. refl; reads = λ a n. refl; streams_on = stream_adv; lines_on = line_adv }
@@ -28,15 +28,15 @@ pub turn_heads : (g : BlockMarkerIter) (set : List Bool) (s : List ℕ) (q : ℕ
 turn_heads g set s q = scanning.turn_finds scanner (Marks s) s q (λ r. stream_heads r s q) (λ r. line_heads r s q) g set
 
 -- ---- one answer: it is read back from what it says
-found_back : (r : MarkerFound) → found_by scanner Item Nothing Refused (told r) ≡ r
+found_back : (r : Result (Option MarkerItem) Refusal) → found_by scanner (λ i. Ok (Some i)) (Ok None) Err (told r) ≡ r
 unfolding read
-found_back (Item i) = refl
-found_back Nothing = refl
-found_back (Refused r) = read-refused (unless_none Nothing (λ l. Item (scanner.back l))) Refused r
+found_back (Ok (Some i)) = refl
+found_back (Ok None) = refl
+found_back (Err r) = read-refused (unless_none (Ok None) (λ l. Ok (Some (scanner.back l)))) Err r
 
 -- two answers that keep the promise of a step are equal, and so are the states after it
 pub next_unique : (g : BlockMarkerIter) (set : List Bool) (s : List ℕ) (r r' : MarkerStep) → Kept g set s r → Kept g set s r' → r ≡ r'
-next_unique g set s r r' = scanning.step_unique told (found_by scanner Item Nothing Refused) found_back (λ f n. record { found = f; next = n })
+next_unique g set s r r' = scanning.step_unique told (found_by scanner (λ i. Ok (Some i)) (Ok None) Err) found_back (λ f n. record { found = f; next = n })
 
 -- ---- the step in one place: what the promise says, unfolded
 pub next-unfolded : (g : BlockMarkerIter) (set : List Bool) (s : List ℕ) → result scanner g set s ≡ unfolded g set s

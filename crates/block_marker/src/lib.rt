@@ -41,18 +41,10 @@ pub struct MarkerItem {
     pub span: Span,
 }
 
-// An item, none, or a refusal.
-#[derive(Clone, Copy)]
-pub enum MarkerFound {
-    Item(MarkerItem),
-    Nothing,
-    Refused(Refusal),
-}
-
 // What a step answers, and the state after it.
 #[derive(Clone, Copy)]
 pub struct MarkerStep {
-    pub found: MarkerFound,
+    pub found: Result<Option<MarkerItem>, Refusal>,
     pub next: BlockMarkerIter,
 }
 
@@ -309,29 +301,29 @@ impl BlockMarkerIter {
         let len = src.len();
         if len > MAX_INPUT_LEN {
             return MarkerStep {
-                found: MarkerFound::Refused(Refusal::TextTooLong),
+                found: Err(Refusal::TextTooLong),
                 next: self,
             };
         }
         if pos > len {
             return MarkerStep {
-                found: MarkerFound::Refused(Refusal::PlaceOutside),
+                found: Err(Refusal::PlaceOutside),
                 next: self,
             };
         }
         match self.first(src, matches) {
             MarkerFirst::Found(marker, a, e, after) => MarkerStep {
-                found: MarkerFound::Item(MarkerItem {
+                found: Ok(Some(MarkerItem {
                     marker,
                     span: Span {
                         start: a as u32,
                         end: e as u32,
                     },
-                }),
+                })),
                 next: self.at(after),
             },
             MarkerFirst::Stopped(v) => MarkerStep {
-                found: MarkerFound::Nothing,
+                found: Ok(None),
                 next: self.at(v),
             },
         }

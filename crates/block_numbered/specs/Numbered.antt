@@ -1,6 +1,6 @@
 -- What the numbered scanner finds. Assumes nothing.
 -- The page: "As above with 1 to 9 ASCII digits and an accepted delimiter; ten digits reject."
-use Rattle.std.specs.Prelude.{Bool, true, false, cond, ◌&&◌, List, [], ◌∷◌, ◌≡◌, ℕ, ◌+◌, ◌-◌, ltb, leb, length, get_or, take, drop}
+use Rattle.std.specs.Prelude.{Bool, true, false, cond, ◌&&◌, List, [], ◌∷◌, ◌≡◌, ℕ, ◌+◌, ◌-◌, ltb, leb, length, get_or, take, drop, Err, None, Ok, Option, Result, Some}
 use Rattle.std.proofs.Math.Seq.{slice}
 use Rattle.search.specs.Search.{either, one_of, holds, find, back, line_end, after_line, digit}
 use Rattle.decimal.specs.Decimal.{valued}
@@ -11,8 +11,6 @@ use Rattle.common.specs.Scanning.{Scanner, Keeps, KeepsFrom, on_from, of_line}
 use Rattle.common.specs.Scanning as scanning
 use Rattle.block_numbered.specs.declared.BlockNumberedIter.{BlockNumberedIter}
 use Rattle.block_numbered.specs.declared.NumberedItem.{NumberedItem}
-use Rattle.block_numbered.specs.declared.NumberedFound.{NumberedFound}
-use Rattle.block_numbered.specs.declared.NumberedFound.TheVariants.{Item, Nothing, Refused}
 use Rattle.block_numbered.specs.declared.NumberedStep.{NumberedStep}
 use Rattle.block_numbered.specs.declared.NumberedTurn.{NumberedTurn}
 use Rattle.block_numbered.specs.declared.NumberedTurn.TheVariants.{Go, Stop, Found}
@@ -20,6 +18,7 @@ use Rattle.block_numbered.specs.declared.NumberedFirst.{NumberedFirst}
 use Rattle.block_numbered.specs.declared.NumberedFirst.TheVariants as first
 use Rattle.block_numbered.specs.declared.DigitRun.{DigitRun}
 use Rattle.block_numbered.specs.declared.Trail.{Trail}
+use Rattle.common.specs.declared.refusal.Refusal.{Refusal}
 
 -- "1 to 9 ASCII digits"
 abbrev pub one_to_nine : ℕ → Bool
@@ -168,10 +167,10 @@ abbrev pub rests : NumberedFirst → Turn NumberedItem
 rests (first.Found v d a e n) = found (item v d a e) n
 rests (first.Stopped v) = stop v
 
-abbrev pub told : NumberedFound → Outcome
-told (Item i) = given (values i)
-told Nothing = given []
-told (Refused r) = refused (number_of r)
+abbrev pub told : Result (Option NumberedItem) Refusal → Outcome
+told (Ok (Some i)) = given (values i)
+told (Ok None) = given []
+told (Err r) = refused (number_of r)
 
 -- digits read from a place: their number, and where they end
 abbrev pub digits_at : ℕ → List ℕ → DigitRun

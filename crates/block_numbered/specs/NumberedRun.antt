@@ -1,7 +1,7 @@
 -- The numbered scanner's run: that it keeps the laws of item scanners, that a step's promise leaves one answer and one state, what it says unfolded, that stepping a fresh state until none comes yields all items, and that both scans yield the same. Assumes nothing.
 -- The page: "From place 0 the streaming and line scans are proved to yield the same items in the same order (their last positions may
 -- differ) when the accepted bytes are at most three and none of line end, separator, tab or digit, …"
-use Rattle.std.specs.Prelude.{◌≡◌, refl, Bool, true, ◌&&◌, List, ℕ, suc, ◌+◌, ◌-◌, ◌≤◌, ◌<◌, length, take}
+use Rattle.std.specs.Prelude.{◌≡◌, refl, Bool, true, ◌&&◌, List, ℕ, suc, ◌+◌, ◌-◌, ◌≤◌, ◌<◌, length, take, Err, None, Ok, Option, Result, Some}
 use Rattle.search.specs.Search.{holds, find, back, digit}
 use Rattle.common.specs.Sets.{accepted}
 use Rattle.common.specs.Refusals.{read, unless_none}
@@ -17,9 +17,9 @@ use Rattle.common.specs.ScanningLaws as scanning
 use Rattle.block_numbered.specs.Numbered.{one_to_nine, numbers, NoDigit, DigitsApart, stream_hit, stream_turn, read_line, scanner, fresh, unfolded, told, Kept, KeptFrom, told_step, items}
 use Rattle.block_numbered.specs.NumberedLaws.{Delimits, stream_heads, line_heads, Lies, stream_adv, line_adv, lined_items, streamed_items}
 use Rattle.block_numbered.specs.declared.BlockNumberedIter.{BlockNumberedIter}
-use Rattle.block_numbered.specs.declared.NumberedFound.{NumberedFound}
-use Rattle.block_numbered.specs.declared.NumberedFound.TheVariants.{Item, Nothing, Refused}
 use Rattle.block_numbered.specs.declared.NumberedStep.{NumberedStep}
+use Rattle.block_numbered.specs.declared.NumberedItem.{NumberedItem}
+use Rattle.common.specs.declared.refusal.Refusal.{Refusal}
 
 pub lawful : Lawful scanner Lies
 lawful = record { of_made = λ f. refl; made_of = λ g. refl; reads = λ a n. refl; streams_on = stream_adv; lines_on = line_adv }
@@ -29,15 +29,15 @@ pub turn_heads : (g : BlockNumberedIter) (set : List Bool) (s : List ℕ) (q : �
 turn_heads g set s q = scanning.turn_finds scanner (Delimits s) s q (λ r. stream_heads r s q) (λ r. line_heads r s q) g set
 
 -- ---- one answer: it is read back from what it says
-found_back : (r : NumberedFound) → found_by scanner Item Nothing Refused (told r) ≡ r
+found_back : (r : Result (Option NumberedItem) Refusal) → found_by scanner (λ i. Ok (Some i)) (Ok None) Err (told r) ≡ r
 unfolding read
-found_back (Item i) = refl
-found_back Nothing = refl
-found_back (Refused r) = read-refused (unless_none Nothing (λ l. Item (scanner.back l))) Refused r
+found_back (Ok (Some i)) = refl
+found_back (Ok None) = refl
+found_back (Err r) = read-refused (unless_none (Ok None) (λ l. Ok (Some (scanner.back l)))) Err r
 
 -- two answers that keep the promise of a step are equal, and so are the states after it
 pub next_unique : (g : BlockNumberedIter) (set : List Bool) (s : List ℕ) (r r' : NumberedStep) → Kept g set s r → Kept g set s r' → r ≡ r'
-next_unique g set s r r' = scanning.step_unique told (found_by scanner Item Nothing Refused) found_back (λ f n. record { found = f; next = n })
+next_unique g set s r r' = scanning.step_unique told (found_by scanner (λ i. Ok (Some i)) (Ok None) Err) found_back (λ f n. record { found = f; next = n })
 
 -- ---- the step in one place: what the promise says, unfolded
 pub next-unfolded : (g : BlockNumberedIter) (set : List Bool) (s : List ℕ) → result scanner g set s ≡ unfolded g set s

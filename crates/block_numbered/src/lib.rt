@@ -45,18 +45,10 @@ pub struct NumberedItem {
     pub span: Span,
 }
 
-// An item, none, or a refusal.
-#[derive(Clone, Copy)]
-pub enum NumberedFound {
-    Item(NumberedItem),
-    Nothing,
-    Refused(Refusal),
-}
-
 // What a step answers, and the state after it.
 #[derive(Clone, Copy)]
 pub struct NumberedStep {
-    pub found: NumberedFound,
+    pub found: Result<Option<NumberedItem>, Refusal>,
     pub next: BlockNumberedIter,
 }
 
@@ -360,30 +352,30 @@ impl BlockNumberedIter {
         let len = src.len();
         if len > MAX_INPUT_LEN {
             return NumberedStep {
-                found: NumberedFound::Refused(Refusal::TextTooLong),
+                found: Err(Refusal::TextTooLong),
                 next: self,
             };
         }
         if pos > len {
             return NumberedStep {
-                found: NumberedFound::Refused(Refusal::PlaceOutside),
+                found: Err(Refusal::PlaceOutside),
                 next: self,
             };
         }
         match self.first(src, matches) {
             NumberedFirst::Found(number, delimiter, a, e, after) => NumberedStep {
-                found: NumberedFound::Item(NumberedItem {
+                found: Ok(Some(NumberedItem {
                     number,
                     delimiter,
                     span: Span {
                         start: a as u32,
                         end: e as u32,
                     },
-                }),
+                })),
                 next: self.at(after),
             },
             NumberedFirst::Stopped(v) => NumberedStep {
-                found: NumberedFound::Nothing,
+                found: Ok(None),
                 next: self.at(v),
             },
         }

@@ -11,7 +11,7 @@ ghost use Rattle.cells.specs.Bytes.{cells, row_bytes};
 
 use cells::{ROW, cell};
 use common::list::{END, WIDE};
-use common::refusal::{Found, Refusal};
+use common::refusal::Refusal;
 use common::span::Span;
 use cover::cursor::Cover;
 
@@ -84,25 +84,25 @@ pub fn covering_end(list: &[u8], count: usize, index: usize, place: usize) -> Co
 {
     if list.len() / ROW < count {
         return Cover {
-            found: Found::Refused(Refusal::ListMisshapen),
+            found: Err(Refusal::ListMisshapen),
             index,
         };
     }
     let i = pass(list, count, index, place);
     if count <= i {
         return Cover {
-            found: Found::Nothing,
+            found: Ok(None),
             index: i,
         };
     }
     if place < place_in(list, i * WIDE) {
         return Cover {
-            found: Found::Nothing,
+            found: Ok(None),
             index: i,
         };
     }
     Cover {
-        found: Found::At(place_in(list, i * WIDE + END)),
+        found: Ok(Some(place_in(list, i * WIDE + END))),
         index: i,
     }
 }

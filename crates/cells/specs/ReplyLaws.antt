@@ -1,5 +1,5 @@
 -- Laws of replies: the ways out of the functions that reply, and that two replies to the same arguments are equal. Assumes nothing.
-use Rattle.std.specs.Prelude.{◌≡◌, refl, Bool, true, false, ◌⊎◌, List, [], ◌∷◌, ◌++◌, ℕ, ◌+◌, ◌-◌, ◌*◌, ◌/◌, ◌≤◌, ◌<◌, eqb, ltb, length}
+use Rattle.std.specs.Prelude.{◌≡◌, refl, Bool, true, false, ◌⊎◌, List, [], ◌∷◌, ◌++◌, ℕ, ◌+◌, ◌-◌, ◌*◌, ◌/◌, ◌≤◌, ◌<◌, eqb, ltb, length, Err, None, Ok, Option, Result, Some}
 use Rattle.std.proofs.Common.{sym, ap, ◌∙◌, inl, inr, arith, length-append, lt-ltb, le-ltb, ltb-true, ltb-false}
 use Rattle.search.specs.Promise.{Gives}
 use Rattle.search.specs.SearchLaws.{decide}
@@ -9,10 +9,6 @@ use Rattle.common.specs.Lists.{RowPut}
 use Rattle.common.specs.Refusals.{Outcome, given, refused, number_of, told, told_found}
 use Rattle.common.specs.RefusalLaws.{number_some}
 use Rattle.common.specs.declared.refusal.Refusal.{Refusal}
-use Rattle.common.specs.declared.refusal.Answer.{Answer}
-use Rattle.common.specs.declared.refusal.Answer.TheVariants as answer
-use Rattle.common.specs.declared.refusal.Found.{Found}
-use Rattle.common.specs.declared.refusal.Found.TheVariants as found
 use Rattle.cells.specs.Bytes.{four, row_bytes}
 use Rattle.cells.specs.ByteLaws.{length-four}
 use Rattle.cells.specs.Reply.{LaidAt, LaidIf, written, short, fitted, answered, Replied}
@@ -105,21 +101,21 @@ refused_by n run e = record { number = simp e; list = simp e }
 pub reply_refused : (r : Refusal) (n : ℕ) (run : List ℕ) → Gives (number_of r) n → Replied (refused (number_of r)) run run n
 reply_refused r n run g = rw g.answer (refused_by (number_of r) run (number_some r))
 
-module _ (a : Answer) (run run' : List ℕ) (n : ℕ) where
-  pub reply_value : (v : ℕ) → a ≡ answer.Value v → Replied (given (v ∷ [])) run run' n → Replied (told a) run run' n
+module _ (a : Result ℕ Refusal) (run run' : List ℕ) (n : ℕ) where
+  pub reply_value : (v : ℕ) → a ≡ Ok v → Replied (given (v ∷ [])) run run' n → Replied (told a) run run' n
   reply_value v e d = rw e d
 
-  pub reply_no_value : (r : Refusal) → a ≡ answer.Refused r → Gives (number_of r) n → Replied (told a) run run n
+  pub reply_no_value : (r : Refusal) → a ≡ Err r → Gives (number_of r) n → Replied (told a) run run n
   reply_no_value r e g = rw e (reply_refused r n run g)
 
-module _ (a : Found) (run run' : List ℕ) (n : ℕ) where
-  pub reply_found : (v : ℕ) → a ≡ found.At v → Replied (given (v ∷ [])) run run' n → Replied (told_found a) run run' n
+module _ (a : Result (Option ℕ) Refusal) (run run' : List ℕ) (n : ℕ) where
+  pub reply_found : (v : ℕ) → a ≡ Ok (Some v) → Replied (given (v ∷ [])) run run' n → Replied (told_found a) run run' n
   reply_found v e d = rw e d
 
-  pub reply_nothing : a ≡ found.Nothing → Replied (given []) run run' n → Replied (told_found a) run run' n
+  pub reply_nothing : a ≡ (Ok None) → Replied (given []) run run' n → Replied (told_found a) run run' n
   reply_nothing e d = rw e d
 
-  pub reply_unfound : (r : Refusal) → a ≡ found.Refused r → Gives (number_of r) n → Replied (told_found a) run run n
+  pub reply_unfound : (r : Refusal) → a ≡ Err r → Gives (number_of r) n → Replied (told_found a) run run n
   reply_unfound r e g = rw e (reply_refused r n run g)
 
 -- an entry that replies what the core gives

@@ -7,7 +7,7 @@ ghost use Rattle.common.specs.Refusals.{given, told, told_found};
 ghost use Rattle.cells.specs.Bytes.{four};
 ghost use Rattle.cells.specs.Reply.{Replied, LaidAt, LaidIf};
 
-use common::refusal::{Answer, Found};
+use common::refusal::Refusal;
 use common::sets::index;
 
 // Writes a number's four bytes from place `k` on.
@@ -113,31 +113,31 @@ pub fn mixed(head: &[usize], tail: &[u8], answer: &mut [u8]) -> u32
 }
 
 // A number, or a refusal.
-pub fn number(a: Answer, answer: &mut [u8]) -> u32
+pub fn number(a: Result<usize, Refusal>, answer: &mut [u8]) -> u32
     ensures { Replied (told a) answer.old answer.new result }
 {
     match a {
-        Answer::Value(v) => {
+        Ok(v) => {
             let all = [v];
             values(&all, answer)
         }
-        Answer::Refused(r) => r.number(),
+        Err(r) => r.number(),
     }
 }
 
 // A place, none, or a refusal.
-pub fn found(a: Found, answer: &mut [u8]) -> u32
+pub fn found(a: Result<Option<usize>, Refusal>, answer: &mut [u8]) -> u32
     ensures { Replied (told_found a) answer.old answer.new result }
 {
     match a {
-        Found::At(v) => {
+        Ok(Some(v)) => {
             let all = [v];
             values(&all, answer)
         }
-        Found::Nothing => {
+        Ok(None) => {
             let none = [0usize; 0];
             values(&none, answer)
         }
-        Found::Refused(r) => r.number(),
+        Err(r) => r.number(),
     }
 }

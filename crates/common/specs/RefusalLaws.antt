@@ -1,16 +1,11 @@
 -- Laws of refusals: the ways through an entry's tests, and that equal outcomes are equal answers. Assumes nothing.
-use Rattle.std.specs.Prelude.{◌≡◌, refl, Bool, true, false, not, List, [], ◌∷◌, ℕ, eqb, get_or}
+use Rattle.std.specs.Prelude.{◌≡◌, refl, Bool, true, false, not, List, [], ◌∷◌, ℕ, eqb, get_or, Err, None, Ok, Option, Result, Some}
 use Rattle.std.proofs.Common.{sym, ap, ◌∙◌, lt-ltb, le-ltb, eq-eqb, ne_eqb}
 use Rattle.search.specs.Promise.{Gives, gives_unique}
 use Rattle.common.specs.Refusals.{Outcome, given, refused, refuse, number_of, refusal_of, read, unless_none, told, told_found, span_back, told_span}
 use Rattle.common.specs.declared.refusal.Refusal.{Refusal}
 use Rattle.common.specs.declared.refusal.Refusal.TheVariants.{TextTooLong, PlaceOutside, NoRoom, CutsOutOfOrder, ListMisshapen, ColumnsDiffer, NotAtJoint, ReplacementOpen, LineEndMark, NotRecords}
-use Rattle.common.specs.declared.refusal.Answer.{Answer}
-use Rattle.common.specs.declared.refusal.Answer.TheVariants as answer
-use Rattle.common.specs.declared.refusal.Found.{Found}
-use Rattle.common.specs.declared.refusal.Found.TheVariants as found
-use Rattle.common.specs.declared.span.SpanFound.{SpanFound}
-use Rattle.common.specs.declared.span.SpanFound.TheVariants as spanned
+use Rattle.common.specs.declared.span.Span.{Span}
 
 -- a test that holds refuses, one that fails is passed
 pub refuse_now : (n : ℕ) (b : Bool) (o : Outcome) → b ≡ true → refused n ≡ refuse n b o
@@ -56,34 +51,34 @@ read-refused f g r = rw (number_some r, read) (ap g (number_is r).0)
 pub told_unique : {A : Type 0} (told : A → Outcome) (back : Outcome → A) → ((r : A) → back (told r) ≡ r) → {o : Outcome} {r r' : A} → Gives o (told r) → Gives o (told r') → r ≡ r'
 told_unique told back same {o} {r} {r'} g g' = sym (same r) ∙ ap back (gives_unique g g') ∙ same r'
 
-answer_back : (r : Answer) → read (λ l. answer.Value (get_or l 0 0)) answer.Refused (told r) ≡ r
+answer_back : (r : Result ℕ Refusal) → read (λ l. Ok (get_or l 0 0)) Err (told r) ≡ r
 unfolding read
-answer_back (answer.Value v) = refl
-answer_back (answer.Refused r) = read-refused (λ l. answer.Value (get_or l 0 0)) answer.Refused r
+answer_back (Ok v) = refl
+answer_back (Err r) = read-refused (λ l. Ok (get_or l 0 0)) Err r
 
-found_at : List ℕ → Found
-found_at = unless_none found.Nothing (λ l. found.At (get_or l 0 0))
+found_at : List ℕ → Result (Option ℕ) Refusal
+found_at = unless_none (Ok None) (λ l. Ok (Some (get_or l 0 0)))
 
-found_back : (r : Found) → read found_at found.Refused (told_found r) ≡ r
+found_back : (r : Result (Option ℕ) Refusal) → read found_at Err (told_found r) ≡ r
 unfolding read found_at
-found_back (found.At q) = refl
-found_back found.Nothing = refl
-found_back (found.Refused r) = read-refused found_at found.Refused r
+found_back (Ok (Some q)) = refl
+found_back (Ok None) = refl
+found_back (Err r) = read-refused found_at Err r
 
-span_at : List ℕ → SpanFound
-span_at = unless_none spanned.Nothing (λ l. spanned.At (span_back l))
+span_at : List ℕ → Result (Option Span) Refusal
+span_at = unless_none (Ok None) (λ l. Ok (Some (span_back l)))
 
-span-back : (r : SpanFound) → read span_at spanned.Refused (told_span r) ≡ r
+span-back : (r : Result (Option Span) Refusal) → read span_at Err (told_span r) ≡ r
 unfolding read span_at
-span-back (spanned.At s) = refl
-span-back spanned.Nothing = refl
-span-back (spanned.Refused r) = read-refused span_at spanned.Refused r
+span-back (Ok (Some s)) = refl
+span-back (Ok None) = refl
+span-back (Err r) = read-refused span_at Err r
 
-pub answer_unique : {o : Outcome} {r r' : Answer} → Gives o (told r) → Gives o (told r') → r ≡ r'
-answer_unique = told_unique told (read (λ l. answer.Value (get_or l 0 0)) answer.Refused) answer_back
+pub answer_unique : {o : Outcome} {r r' : Result ℕ Refusal} → Gives o (told r) → Gives o (told r') → r ≡ r'
+answer_unique = told_unique told (read (λ l. Ok (get_or l 0 0)) Err) answer_back
 
-pub found_unique : {o : Outcome} {r r' : Found} → Gives o (told_found r) → Gives o (told_found r') → r ≡ r'
-found_unique = told_unique told_found (read found_at found.Refused) found_back
+pub found_unique : {o : Outcome} {r r' : Result (Option ℕ) Refusal} → Gives o (told_found r) → Gives o (told_found r') → r ≡ r'
+found_unique = told_unique told_found (read found_at Err) found_back
 
-pub span_unique : {o : Outcome} {r r' : SpanFound} → Gives o (told_span r) → Gives o (told_span r') → r ≡ r'
-span_unique = told_unique told_span (read span_at spanned.Refused) span-back
+pub span_unique : {o : Outcome} {r r' : Result (Option Span) Refusal} → Gives o (told_span r) → Gives o (told_span r') → r ≡ r'
+span_unique = told_unique told_span (read span_at Err) span-back

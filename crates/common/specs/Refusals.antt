@@ -1,15 +1,9 @@
 -- The numbers of refusals, and what an answer says: its number, 0 where the input is served, and its values. Assumes nothing.
 -- The page: the table of refusals, and "A refusal returns its number alone".
-use Rattle.std.specs.Prelude.{Bool, true, false, not, cond, List, [], ◌∷◌, ℕ, eqb, ltb, length, get_or}
+use Rattle.std.specs.Prelude.{Bool, true, false, not, cond, List, [], ◌∷◌, ℕ, eqb, ltb, length, get_or, Err, None, Ok, Option, Result, Some}
 use Rattle.common.specs.declared.refusal.Refusal.{Refusal}
 use Rattle.common.specs.declared.refusal.Refusal.TheVariants.{TextTooLong, PlaceOutside, NoRoom, CutsOutOfOrder, ListMisshapen, ColumnsDiffer, NotAtJoint, ReplacementOpen, LineEndMark, NotRecords}
-use Rattle.common.specs.declared.refusal.Answer.{Answer}
-use Rattle.common.specs.declared.refusal.Answer.TheVariants as answer
-use Rattle.common.specs.declared.refusal.Found.{Found}
-use Rattle.common.specs.declared.refusal.Found.TheVariants as found
 use Rattle.common.specs.declared.span.Span.{Span}
-use Rattle.common.specs.declared.span.SpanFound.{SpanFound}
-use Rattle.common.specs.declared.span.SpanFound.TheVariants as spanned
 
 -- the page's number
 abbrev pub number_of : Refusal → ℕ
@@ -49,14 +43,14 @@ served o = eqb o.number 0
 abbrev pub leaves : {A : Type 0} → Outcome → A → A → A
 leaves o old new = cond (served o) new old
 
-abbrev pub told : Answer → Outcome
-told (answer.Value v) = given (v ∷ [])
-told (answer.Refused r) = refused (number_of r)
+abbrev pub told : Result ℕ Refusal → Outcome
+told (Ok v) = given (v ∷ [])
+told (Err r) = refused (number_of r)
 
-abbrev pub told_found : Found → Outcome
-told_found (found.At q) = given (q ∷ [])
-told_found found.Nothing = given []
-told_found (found.Refused r) = refused (number_of r)
+abbrev pub told_found : Result (Option ℕ) Refusal → Outcome
+told_found (Ok (Some q)) = given (q ∷ [])
+told_found (Ok None) = given []
+told_found (Err r) = refused (number_of r)
 
 -- a span's values, and the span of such values
 abbrev pub span_values : Span → List ℕ
@@ -65,10 +59,10 @@ span_values s = s.start ∷ s.end ∷ []
 abbrev pub span_back : List ℕ → Span
 span_back l = record { start = get_or l 0 0; end = get_or l 1 0 }
 
-abbrev pub told_span : SpanFound → Outcome
-told_span (spanned.At s) = given (span_values s)
-told_span spanned.Nothing = given []
-told_span (spanned.Refused r) = refused (number_of r)
+abbrev pub told_span : Result (Option Span) Refusal → Outcome
+told_span (Ok (Some s)) = given (span_values s)
+told_span (Ok None) = given []
+told_span (Err r) = refused (number_of r)
 
 -- ---- what says an outcome, read back from it
 -- the refusal of a number

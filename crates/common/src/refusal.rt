@@ -17,21 +17,6 @@ pub enum Refusal {
     NotRecords,
 }
 
-// A number, or a refusal.
-#[derive(Clone, Copy)]
-pub enum Answer {
-    Value(usize),
-    Refused(Refusal),
-}
-
-// A place, none, or a refusal.
-#[derive(Clone, Copy)]
-pub enum Found {
-    At(usize),
-    Nothing,
-    Refused(Refusal),
-}
-
 impl Refusal {
     // The page's number.
     pub fn number(self) -> u32

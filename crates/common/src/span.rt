@@ -14,14 +14,6 @@ pub struct Span {
     pub end: u32,
 }
 
-// A span, none, or a refusal: what a scanner of spans answers.
-#[derive(Clone, Copy)]
-pub enum SpanFound {
-    At(Span),
-    Nothing,
-    Refused(Refusal),
-}
-
 // A stretch of a text: from `start` up to, not including, `end`.
 #[derive(Clone, Copy)]
 pub struct Bounds {

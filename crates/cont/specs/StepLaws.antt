@@ -1,5 +1,5 @@
 -- Laws of the step, the rules of the functions that make it, and that its promise leaves one result. Assumes nothing.
-use Rattle.std.specs.Prelude.{◌≡◌, List, Bool, true, false, ℕ, ◌-◌, ◌≤◌, ◌<◌, min, ltb, length, replicate}
+use Rattle.std.specs.Prelude.{◌≡◌, List, Bool, true, false, ℕ, ◌-◌, ◌≤◌, ◌<◌, min, ltb, length, replicate, Err, None, Ok}
 use Rattle.std.proofs.Common.{sym, ap, ◌∙◌}
 use borrow.Author.Tests.{lt-ltb, le-ltb, ltb-false}
 use Rattle.search.specs.Promise.{Gives, Steps, steps_unique}
@@ -9,7 +9,6 @@ use Rattle.common.specs.RefusalLaws.{span_unique}
 use Rattle.search.specs.SearchLaws.{neither}
 use Rattle.common.specs.Turn.{Step, yields, ends}
 use Rattle.common.specs.declared.span.Span.{Span}
-use Rattle.common.specs.declared.span.SpanFound.TheVariants as spanned
 use Rattle.common.specs.declared.refusal.Refusal.TheVariants.{TextTooLong, PlaceOutside}
 use Rattle.cont.specs.declared.Closed.{Closed}
 use Rattle.cont.specs.declared.ContIter.{ContIter}
@@ -89,18 +88,18 @@ module _ (g : ContIter) (s : List ℕ) where
         let e : stepped g s ≡ drained (filled g r o p) = rw (refills, lt-ltb 0 (r.held - r.from) i) in
         record { answer = rw e v.answer; next = rw e v.next }
 
-    pub step_ends : r.held - r.from ≤ 0 → Steps (span_of (stepped g s)) (state_of (stepped g s)) (told_span spanned.Nothing) (filled g r o p)
+    pub step_ends : r.held - r.from ≤ 0 → Steps (span_of (stepped g s)) (state_of (stepped g s)) (told_span (Ok None)) (filled g r o p)
     step_ends i =
         let e : stepped g s ≡ ends (filled g r o p) = rw (refills, le-ltb 0 (r.held - r.from) i) in
         record { answer = rw e; next = rw e }
 
   -- ---- the entry
-  pub next_long : 4294967295 < length s → Steps (answer g s) (state g s) (told_span (spanned.Refused TextTooLong)) g
+  pub next_long : 4294967295 < length s → Steps (answer g s) (state g s) (told_span (Err TextTooLong)) g
   unfolding answer state
   next_long h = record { answer = rw (lt-ltb 4294967295 (length s) h); next = rw (lt-ltb 4294967295 (length s) h) }
 
   module _ (h : length s ≤ 4294967295) {y : Bool} where
-    pub next-misplaced : y ≡ true → Gives (misplaced g s) y → Steps (answer g s) (state g s) (told_span (spanned.Refused PlaceOutside)) g
+    pub next-misplaced : y ≡ true → Gives (misplaced g s) y → Steps (answer g s) (state g s) (told_span (Err PlaceOutside)) g
     unfolding answer state
     next-misplaced t a =
         record { answer = rw (le-ltb 4294967295 (length s) h, ← a.answer, t); next = rw (le-ltb 4294967295 (length s) h, ← a.answer, t) }

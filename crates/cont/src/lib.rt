@@ -18,7 +18,7 @@ ghost use Rattle.cont.specs.Cont.{fresh, stand, closed_frames, turn_on_line, nex
 ghost use Rattle.cont.specs.Steps.{Peels, Opens, FrameTurned, Scanned, Served};
 
 use common::refusal::Refusal;
-use common::span::{MAX_INPUT_LEN, Span, SpanFound};
+use common::span::{MAX_INPUT_LEN, Span};
 use find::find_byte;
 use search::{is_at, is_blank, lesser, line_start, next_line};
 
@@ -52,7 +52,7 @@ pub struct ContIter {
 // What a step answers, and the state after it.
 #[derive(Clone, Copy)]
 pub struct ContStep {
-    pub found: SpanFound,
+    pub found: Result<Option<Span>, Refusal>,
     pub next: ContIter,
 }
 
@@ -353,7 +353,7 @@ impl ContIter {
         let mut next = self;
         next.pending_idx = idx + 1;
         ContStep {
-            found: SpanFound::At(span),
+            found: Ok(Some(span)),
             next,
         }
     }
@@ -390,7 +390,7 @@ impl ContIter {
             return next.drain();
         }
         ContStep {
-            found: SpanFound::Nothing,
+            found: Ok(None),
             next,
         }
     }
@@ -400,7 +400,7 @@ impl ContIter {
     {
         if src.len() > MAX_INPUT_LEN {
             return ContStep {
-                found: SpanFound::Refused(Refusal::TextTooLong),
+                found: Err(Refusal::TextTooLong),
                 next: self,
             };
         }
@@ -413,7 +413,7 @@ impl ContIter {
             self.pending_idx,
         ) {
             return ContStep {
-                found: SpanFound::Refused(Refusal::PlaceOutside),
+                found: Err(Refusal::PlaceOutside),
                 next: self,
             };
         }

@@ -1,5 +1,5 @@
 -- Laws of building: what the loops need, and the ways out of the entry. Assumes nothing.
-use Rattle.std.specs.Prelude.{◌≡◌, Bool, List, [], ◌∷◌, ℕ, ◌/◌, ◌≤◌, ◌<◌, length}
+use Rattle.std.specs.Prelude.{◌≡◌, Bool, List, [], ◌∷◌, ℕ, ◌/◌, ◌≤◌, ◌<◌, length, Option, Result, Some}
 use Rattle.std.proofs.Math.Path.{sym}
 use Rattle.std.proofs.Common.{subst, ◌∙◌, lt-ltb, le-ltb, arith}
 use Rattle.std.proofs.Math.Bool.{true, false}
@@ -7,7 +7,6 @@ use Rattle.search.specs.Promise.{Gives}
 use Rattle.lines.specs.Fences.{fence_table}
 use Rattle.common.specs.Refusals.{Outcome, given, refused, told}
 use Rattle.common.specs.RefusalLaws.{answer_unique}
-use Rattle.common.specs.declared.refusal.Answer.{Answer}
 use Rattle.common.specs.declared.grammar.Grammar.{Grammar}
 use Rattle.common.specs.Entry.{room, wide}
 use Rattle.rules.specs.Grammar.{Gram}
@@ -25,12 +24,12 @@ use Rattle.region.specs.NextLaws.{next-ahead}
 use Rattle.region.specs.Memory.{KeptNext}
 use Rattle.region.specs.LoopLaws.{Pouring, counting-told, pouring_room}
 use Rattle.region.specs.declared.Region.{Region as Told}
-use Rattle.region.specs.declared.Next.{Next}
-use Rattle.region.specs.declared.Next.TheVariants as next
 use Rattle.context.specs.Build.{built_answer, built_list, Built}
+use Rattle.common.specs.declared.refusal.Refusal.{Refusal}
+use Rattle.region.specs.declared.Region.{Region}
 
 -- ---- the loop that writes: a region has room and fits
-pub region_fits : (g : Gram) (s m out₀ out : List ℕ) (n q : ℕ) (d : Next) (m' : List ℕ) → Pouring row_of wide g s m out₀ out n q → KeptNext g s m q d m' → (r : Told) (k : ℕ) → d ≡ next.Region r k → length s ≤ 4294967295
+pub region_fits : (g : Gram) (s m out₀ out : List ℕ) (n q : ℕ) (d : Option (Region × ℕ)) (m' : List ℕ) → Pouring row_of wide g s m out₀ out n q → KeptNext g s m q d m' → (r : Told) (k : ℕ) → d ≡ Some (r, k) → length s ≤ 4294967295
     → RowFits n r.start r.end out
 region_fits g s m out₀ out n q d m' i kept r k e h =
     let w = next-ahead g s q i.counting.here d (counting-told g s m n q d m' i.counting kept) r k e in
@@ -73,6 +72,6 @@ built_folded g c s out out' b w fences rows a short e d hw hf hr v =
     built_all g c s out b short out' a e d (subst (λ (x : Gram). Filled row_of wide (regions x s) out out' a) z v)
 
 -- two results of building for the same arguments are one: the answer, and the list that is left
-pub built_unique : {g : Grammar} {c : Columns} {s out out' out'' : List ℕ} {r r' : Answer} → Built g c s out out' (told r) → Built g c s out out'' (told r') → (r ≡ r') × (out' ≡ out'')
+pub built_unique : {g : Grammar} {c : Columns} {s out out' out'' : List ℕ} {r r' : Result ℕ Refusal} → Built g c s out out' (told r) → Built g c s out out'' (told r') → (r ≡ r') × (out' ≡ out'')
 built_unique {g = g} {c = c} {s = s} {out = out} a b =
     (answer_unique {o = built_answer g c s out} (record { answer = a.answer }) (record { answer = b.answer }), a.list ∙ sym b.list)

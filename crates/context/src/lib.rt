@@ -15,10 +15,10 @@ ghost use Rattle.context.specs.Build.{Built};
 
 use common::grammar::Grammar;
 use common::list::{END, WIDE};
-use common::refusal::{Answer, Refusal};
+use common::refusal::Refusal;
 use common::span::MAX_INPUT_LEN;
 use lines::fence_tests::fence_table;
-use region::{Next, count_regions, next_region};
+use region::{count_regions, next_region};
 use rules::columns::columns_differ;
 use rules::rows::{Rows, rule_rows};
 use rules::search_bytes::Alphabet;
@@ -52,11 +52,11 @@ fn write_regions(
     let mut q: usize = 0;
     loop {
         match next_region(src, q, alphabet, fences, rows, &mut dead) {
-            Next::Region(r, next) => {
+            Some((r, next)) => {
                 found = put_region(out, found, r.start, r.end);
                 q = next;
             }
-            Next::Nothing => {
+            None => {
                 return found;
             }
         }
@@ -65,20 +65,26 @@ fn write_regions(
 
 // Writes the regions of a text within the limit, or refuses where there is too little room. Where the room is surely enough, since
 // there are at most half as many regions as bytes and one more, no counting pass runs.
-fn fill(src: &[u8], alphabet: Alphabet, fences: &[u16; 256], rows: &Rows, out: &mut [u32]) -> Answer
+fn fill(
+    src: &[u8],
+    alphabet: Alphabet,
+    fences: &[u16; 256],
+    rows: &Rows,
+    out: &mut [u32],
+) -> Result<usize, Refusal>
     requires { length src.now ≤ 4294967295 }
     ensures { Filled row_of wide (regions (gram_by alphabet fences.now rows.now) src.now) out.old
         out.new (told result) }
 {
     let most = out.len() / WIDE;
     if src.len() / 2 < most {
-        return Answer::Value(write_regions(src, alphabet, fences, rows, out));
+        return Ok(write_regions(src, alphabet, fences, rows, out));
     }
     let found = count_regions(src, alphabet, fences, rows);
     if most < found {
-        return Answer::Refused(Refusal::NoRoom);
+        return Err(Refusal::NoRoom);
     }
-    Answer::Value(write_regions(src, alphabet, fences, rows, out))
+    Ok(write_regions(src, alphabet, fences, rows, out))
 }
 
 // Builds the list of the opaque regions of a text by rules given as columns: fence bytes and minimums; symmetric bytes and counts;
@@ -95,7 +101,7 @@ pub fn build(
     closers: &[u8],
     counts: &[u32],
     out: &mut [u32],
-) -> Answer
+) -> Result<usize, Refusal>
     ensures { Built g (record {
       fence_bytes = fences.now;
       fence_mins = mins.now;
@@ -109,10 +115,10 @@ pub fn build(
     }) src.now out.old out.new (told result) }
 {
     if src.len() > MAX_INPUT_LEN {
-        return Answer::Refused(Refusal::TextTooLong);
+        return Err(Refusal::TextTooLong);
     }
     if columns_differ(fences, mins, symmetric, times, openers, closers, counts) {
-        return Answer::Refused(Refusal::ColumnsDiffer);
+        return Err(Refusal::ColumnsDiffer);
     }
     let alphabet = Alphabet::of(g, fences, symmetric, openers);
     let table = fence_table(fences, mins);

@@ -6,7 +6,7 @@ ghost use Rattle.context.specs.Build.{Built};
 
 use crate::build;
 use common::grammar::Grammar;
-use common::refusal::Answer;
+use common::refusal::Refusal;
 use rules::records::{FenceRule, Gathered, gather};
 use search::lesser;
 
@@ -23,7 +23,7 @@ fn build_front(
     closers: &[u8],
     counts: &[u32],
     out: &mut [u32],
-) -> Answer
+) -> Result<usize, Refusal>
     ensures { Built g (record {
       fence_bytes = take used fences.now;
       fence_mins = take used mins.now;
@@ -63,7 +63,7 @@ fn build_gathered(
     closers: &[u8],
     counts: &[u32],
     out: &mut [u32],
-) -> Answer
+) -> Result<usize, Refusal>
     ensures { Built g (record {
       fence_bytes = kept_bytes fences;
       fence_mins = kept_mins fences;
@@ -104,7 +104,7 @@ pub fn build_records(
     closers: &[u8],
     counts: &[u32],
     out: &mut [u32],
-) -> Answer
+) -> Result<usize, Refusal>
     ensures { Built g (record {
       fence_bytes = rule_bytes rules.now;
       fence_mins = rule_mins rules.now;
@@ -142,7 +142,7 @@ pub fn build_few(
     closers: &[u8],
     counts: &[u32],
     out: &mut [u32],
-) -> Answer
+) -> Result<usize, Refusal>
     ensures { Built g (record {
       fence_bytes = rule_bytes (take used rules);
       fence_mins = rule_mins (take used rules);

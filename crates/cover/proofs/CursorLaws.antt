@@ -1,5 +1,5 @@
 -- Laws of the cursor: its loop, the ways out of a query, and that on a list in order it is plain coverage. Assumes nothing.
-use Rattle.std.specs.Prelude.{◌≡◌, true, false, cond, ◌&&◌, ◌⊎◌, ltb, leb, length, get_or, drop}
+use Rattle.std.specs.Prelude.{◌≡◌, true, false, cond, ◌&&◌, ◌⊎◌, ltb, leb, length, get_or, drop, Option, Result}
 use Rattle.std.proofs.Math.Path.{refl, sym, ap}
 use Rattle.std.proofs.Common.{◌∙◌, inl, inr, arith, drop_of_length-le, drop-cons}
 use Rattle.std.proofs.Math.Bool.{and-false}
@@ -12,10 +12,10 @@ use Rattle.common.specs.Refusals.{Outcome, given, refused, told_found}
 use Rattle.common.specs.RefusalLaws.{found_unique}
 use Rattle.common.specs.Entry.{rows, room, wide, start_of, stop_of, Shaped}
 use Rattle.common.specs.EntryLaws.{rows_at, length-rows}
-use Rattle.common.specs.declared.refusal.Found.{Found}
 use Rattle.cover.specs.Cursor.{start_at, stop_at, ends_after, passed, end_at, cover_answer, cover_next, covers, coverage, cover_run, CoveredBoth, Rising, Ended}
 use Rattle.cover.specs.declared.cursor.Cover.{Cover}
 use Rattle.cover.specs.declared.cursor.CoverPair.{CoverPair}
+use Rattle.common.specs.declared.refusal.Refusal.{Refusal}
 
 -- ---- the loop that skips regions, at index i
 pub record Passes (w : ℕ) (l : List ℕ) (count index place i : ℕ) : Type 0 where
@@ -64,7 +64,7 @@ module _ (w : ℕ) (l : List ℕ) (count index place : ℕ) where
     cover_found start stop m s e h = answered (stop ∷ []) (rw (lt-ltb i count h, le-leb (start_at w l i) place (omega (arith, s.answer)), e.answer))
 
 -- ---- two results of a query of the same arguments are one: the answer and the next index
-pub query_unique : (w : ℕ) (l : List ℕ) (count index place : ℕ) {r r' : Found} {i i' : ℕ} → Steps (cover_answer w l count index place) (cover_next w l count index place) (told_found r) i
+pub query_unique : (w : ℕ) (l : List ℕ) (count index place : ℕ) {r r' : Result (Option ℕ) Refusal} {i i' : ℕ} → Steps (cover_answer w l count index place) (cover_next w l count index place) (told_found r) i
     → Steps (cover_answer w l count index place) (cover_next w l count index place) (told_found r') i' → (r ≡ r') × (i ≡ i')
 query_unique w l count index place a b = (found_unique {o = cover_answer w l count index place} (record { answer = a.answer }) (record { answer = b.answer }), a.next ∙ sym b.next)
 
@@ -72,11 +72,11 @@ pub cover_unique : (w : ℕ) (l : List ℕ) (count index place : ℕ) {r r' : Co
     → Steps (cover_answer w l count index place) (cover_next w l count index place) (told_found r'.found) r'.index → r ≡ r'
 cover_unique w l count index place {r} {r'} a b =
     let e = query_unique w l count index place a b in
-    ap (λ (f : Found). record { found = f; index = r.index }) e.0 ∙ ap (λ (i : ℕ). record { found = r'.found; index = i }) e.1
+    ap (λ (f : Result (Option ℕ) Refusal). record { found = f; index = r.index }) e.0 ∙ ap (λ (i : ℕ). record { found = r'.found; index = i }) e.1
 
 -- ---- two queries, of which the second goes on from the index that the first left
 module _ (l : List ℕ) (count index first second : ℕ) where
-  pub cover_twice : (t u : Found) (m k : ℕ) → Steps (cover_answer wide l count index first) (cover_next wide l count index first) (told_found t) m
+  pub cover_twice : (t u : Result (Option ℕ) Refusal) (m k : ℕ) → Steps (cover_answer wide l count index first) (cover_next wide l count index first) (told_found t) m
       → Steps (cover_answer wide l count m second) (cover_next wide l count m second) (told_found u) k → CoveredBoth l count index first second (record { first = t; second = u; index = k })
   unfolding cover_run
   cover_twice t u m k a b =
@@ -92,7 +92,7 @@ module _ (l : List ℕ) (count index first second : ℕ) where
       alike x y z
     where
       alike : r.first ≡ r'.first → r.second ≡ r'.second → r.index ≡ r'.index → r ≡ r'
-      alike x y z = ap (λ (f : Found). record { first = f; second = r.second; index = r.index }) x ∙ ap (λ (f : Found). record { first = r'.first; second = f; index = r.index }) y ∙ ap (λ (i : ℕ). record { first = r'.first; second = r'.second; index = i }) z
+      alike x y z = ap (λ (f : Result (Option ℕ) Refusal). record { first = f; second = r.second; index = r.index }) x ∙ ap (λ (f : Result (Option ℕ) Refusal). record { first = r'.first; second = f; index = r.index }) y ∙ ap (λ (i : ℕ). record { first = r'.first; second = r'.second; index = i }) z
 
 -- ---- plain coverage of a list in order
 module _ (place : ℕ) where

@@ -7,12 +7,12 @@ ghost use Rattle.common.specs.Entry.{room, wide};
 ghost use Rattle.cover.specs.Cursor.{passed, cover_answer, cover_next, CoveredBoth};
 
 use common::list::{END, WIDE};
-use common::refusal::{Found, Refusal};
+use common::refusal::Refusal;
 
 // What a query answers, and the index that the next one goes on from.
 #[derive(Clone, Copy)]
 pub struct Cover {
-    pub found: Found,
+    pub found: Result<Option<usize>, Refusal>,
     pub index: usize,
 }
 
@@ -47,25 +47,25 @@ pub fn covering_end(list: &[u32], count: usize, index: usize, place: usize) -> C
 {
     if list.len() / WIDE < count {
         return Cover {
-            found: Found::Refused(Refusal::ListMisshapen),
+            found: Err(Refusal::ListMisshapen),
             index,
         };
     }
     let i = pass(list, count, index, place);
     if count <= i {
         return Cover {
-            found: Found::Nothing,
+            found: Ok(None),
             index: i,
         };
     }
     if place < place_of(list[i * WIDE]) {
         return Cover {
-            found: Found::Nothing,
+            found: Ok(None),
             index: i,
         };
     }
     Cover {
-        found: Found::At(place_of(list[i * WIDE + END])),
+        found: Ok(Some(place_of(list[i * WIDE + END]))),
         index: i,
     }
 }
@@ -79,7 +79,12 @@ pub struct Cursor {
 }
 
 // The number form, at the cursor's index, which moves on to the next.
-pub fn covering(cursor: &mut Cursor, list: &[u32], count: usize, place: usize) -> Found
+pub fn covering(
+    cursor: &mut Cursor,
+    list: &[u32],
+    count: usize,
+    place: usize,
+) -> Result<Option<usize>, Refusal>
     ensures { Steps (cover_answer wide list.now count cursor.old.index place) (cover_next wide list.now
         count cursor.old.index place) (told_found result) cursor.new.index }
 {
@@ -91,8 +96,8 @@ pub fn covering(cursor: &mut Cursor, list: &[u32], count: usize, place: usize) -
 // What two queries answer, and the index that the next one goes on from.
 #[derive(Clone, Copy)]
 pub struct CoverPair {
-    pub first: Found,
-    pub second: Found,
+    pub first: Result<Option<usize>, Refusal>,
+    pub second: Result<Option<usize>, Refusal>,
     pub index: usize,
 }
 

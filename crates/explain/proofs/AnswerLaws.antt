@@ -1,7 +1,7 @@
 -- The ways out of an explanation, and that its promise leaves one answer. Assumes nothing.
 use Rattle.std.proofs.Math.Path.{◌≡◌, refl, sym, ap}
 use Rattle.std.proofs.Common.{subst, ◌∙◌, arith}
-use Rattle.std.specs.Prelude.{Bool, ◌&&◌, ℕ, zero, suc, ◌+◌, ◌*◌, ◌≤◌, ◌<◌, ltb, get_or}
+use Rattle.std.specs.Prelude.{Bool, ◌&&◌, ℕ, zero, suc, ◌+◌, ◌*◌, ◌≤◌, ◌<◌, ltb, get_or, Err, None, Ok, Option, Result, Some}
 use Rattle.std.proofs.Math.Bool.{true, false, cond}
 use mathlib.Core.List.{List, [], ◌∷◌}
 use Rattle.std.proofs.Math.Dec.{leb}
@@ -13,8 +13,6 @@ use Rattle.common.specs.Entry.{rows, room, wide}
 use Rattle.common.specs.EntryLaws.{length-rows, room_fits}
 use Rattle.common.specs.Refusals.{Outcome, given, refused, refuse, number_of, too_long, told_found, read}
 use Rattle.common.specs.RefusalLaws.{read-refused, told_unique}
-use Rattle.common.specs.declared.refusal.Found.{Found}
-use Rattle.common.specs.declared.refusal.Found.TheVariants as found
 use Rattle.common.specs.ItemLaws.{both}
 use Rattle.common.specs.declared.refusal.Refusal.{Refusal}
 use Rattle.common.specs.declared.refusal.Refusal.TheVariants.{TextTooLong}
@@ -63,7 +61,7 @@ module _ (l : List ℕ) (n place : ℕ) (o : SortedRows l n) (c : Cover) (q : St
   unfolding cover_answer
   told_is = q.answer ∙ simp (le-ltb (room wide l) n o.fits) (rw index_is)
 
-  module _ (e : ℕ) (f : c.found ≡ found.At e) where
+  module _ (e : ℕ) (f : c.found ≡ Ok (Some e)) where
     tests : (ltb c.index n && leb (start_at wide l c.index) place) ≡ true
     unfolding end_at
     tests = by (ltb c.index n && leb (start_at wide l c.index) place) (ap (λ (o : Outcome). o.values) (sym (ap told_found f) ∙ told_is))
@@ -100,20 +98,20 @@ module _ (l : List ℕ) (n place : ℕ) (o : SortedRows l n) (c : Cover) (q : St
       let w = hid l n 0 place place c (is_at c.found) o begin_ended (record { answer = refl }) q (record { answer = refl }) in
       record { answer = sym (ap hidden_by (hiders_none place 0 (rows wide n l) (sym w.hidden ∙ e))) }
 
-  hidden_none : c.found ≡ found.Nothing → Gives (hidden_by (hiders 0 place (rows wide n l))) (reason_values reason.OnSheet)
+  hidden_none : c.found ≡ (Ok None) → Gives (hidden_by (hiders 0 place (rows wide n l))) (reason_values reason.OnSheet)
   hidden_none f = hidden_not (ap is_at f)
 
-  hidden_refused : (r : Refusal) → c.found ≡ found.Refused r → Gives (hidden_by (hiders 0 place (rows wide n l))) (reason_values reason.OnSheet)
+  hidden_refused : (r : Refusal) → c.found ≡ Err r → Gives (hidden_by (hiders 0 place (rows wide n l))) (reason_values reason.OnSheet)
   hidden_refused r f = hidden_not (ap is_at f)
 
   hidden_told : (i : SheetItem) → tested_place i ≡ place → (r : Span) → Gives (region_at l c.index) r → why (rows wide n l) (led.Item i) ≡ reason_values (reason_by c.index r c.found)
   unfolding why
   hidden_told i e r g = ap (λ (p : ℕ). hidden_by (hiders 0 p (rows wide n l))) e ∙ by c.found refl
     where
-      by : (f : Found) → c.found ≡ f → hidden_by (hiders 0 place (rows wide n l)) ≡ reason_values (reason_by c.index r f)
-      by (found.At q) f = sym (hidden_at q f r g).answer
-      by found.Nothing f = sym (hidden_none f).answer
-      by (found.Refused m) f = sym (hidden_refused m f).answer
+      by : (f : Result (Option ℕ) Refusal) → c.found ≡ f → hidden_by (hiders 0 place (rows wide n l)) ≡ reason_values (reason_by c.index r f)
+      by (Ok (Some q)) f = sym (hidden_at q f r g).answer
+      by (Ok None) f = sym (hidden_none f).answer
+      by (Err m) f = sym (hidden_refused m f).answer
 
 -- the reason of a line by what leads it, a query of its item's place, and the region at the query's index
 why-told : (l : List ℕ) (n : ℕ) → SortedRows l n → (d : Lead) (c : Cover) → Steps (cover_answer wide l n 0 (led_place d)) (cover_next wide l n 0 (led_place d)) (told_found c.found) c.index → (r : Span) → Gives (region_at l c.index) r
@@ -127,7 +125,7 @@ why-told l n o led.NoBlank c q r g = refl
 why-told l n o (led.Item i) c q r g = hidden_told l n (tested_place i) o c q i refl r g
 
 -- the way out where a query found a region
-pub reason_hidden : (d : Lead) (c : Cover) (r : Span) (i : SheetItem) (q : ℕ) → d ≡ led.Item i → c.found ≡ found.At q → Gives (reason_of d c r) (reason.Hidden c.index r)
+pub reason_hidden : (d : Lead) (c : Cover) (r : Span) (i : SheetItem) (q : ℕ) → d ≡ led.Item i → c.found ≡ Ok (Some q) → Gives (reason_of d c r) (reason.Hidden c.index r)
 reason_hidden d c r i q e f = record { answer = sym (rw (e, f)) }
 
 -- ---- the ways out of the entries

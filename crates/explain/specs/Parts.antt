@@ -1,10 +1,8 @@
 -- What the parts of an explanation answer. Assumes nothing.
-use Rattle.std.specs.Prelude.{cond, List, [], ◌∷◌, ℕ, ◌+◌, length, get_or}
+use Rattle.std.specs.Prelude.{cond, List, [], ◌∷◌, ℕ, ◌+◌, length, get_or, Err, None, Ok, Option, Result, Some}
 use Rattle.search.specs.Search.{holds}
 use Rattle.common.specs.Items.{blank}
 use Rattle.common.specs.declared.span.Span.{Span}
-use Rattle.common.specs.declared.refusal.Found.{Found}
-use Rattle.common.specs.declared.refusal.Found.TheVariants as found
 use Rattle.cover.specs.declared.cursor.Cover.{Cover}
 use Rattle.feed.specs.Items.{tested_place}
 use Rattle.common.specs.Refusals.{too_long}
@@ -19,6 +17,7 @@ use Rattle.explain.specs.declared.Reason.{Reason}
 use Rattle.explain.specs.declared.Reason.TheVariants as reason
 use Rattle.explain.specs.declared.leads.Begin.{Begin}
 use Rattle.explain.specs.declared.leads.Begin.TheVariants as begin
+use Rattle.common.specs.declared.refusal.Refusal.{Refusal}
 
 -- where a line begins, if it exists
 abbrev pub begins_at : Begin → List ℕ
@@ -40,10 +39,10 @@ led_place led.NoBlank = 0
 led_place (led.Item i) = tested_place i
 
 -- by which region a place is hidden, by what a query of it found
-abbrev pub reason_by : ℕ → Span → Found → Reason
-reason_by k r (found.At e) = reason.Hidden k r
-reason_by k r found.Nothing = reason.OnSheet
-reason_by k r (found.Refused n) = reason.OnSheet
+abbrev pub reason_by : ℕ → Span → Result (Option ℕ) Refusal → Reason
+reason_by k r (Ok (Some e)) = reason.Hidden k r
+reason_by k r (Ok None) = reason.OnSheet
+reason_by k r (Err n) = reason.OnSheet
 
 -- the reason of a line by what leads it, a query of its item's place, and the region at the query's index
 abbrev pub reason_of : Lead → Cover → Span → Reason

@@ -10,7 +10,7 @@ ghost use Rattle.cells.specs.Bytes.{cells};
 ghost use Rattle.explain.specs.Reasons.{explain_answer, told_explained};
 ghost use Rattle.explain.specs.Parts.{led_place, reason_of};
 
-use common::refusal::{Found, Refusal};
+use common::refusal::Refusal;
 use common::span::Span;
 use cover::cursor::{Cover, covering_end};
 use cover::shape::{is_misshapen, region_at};
@@ -63,9 +63,9 @@ fn reason_of(led: Lead, cover: Cover, region: Span) -> Reason
         Lead::NoDelimiter => Reason::NoDelimiter,
         Lead::NoBlank => Reason::NoBlank,
         Lead::Item(_) => match found {
-            Found::At(_) => Reason::Hidden(k, region),
-            Found::Nothing => Reason::OnSheet,
-            Found::Refused(_) => Reason::OnSheet,
+            Ok(Some(_)) => Reason::Hidden(k, region),
+            Ok(None) => Reason::OnSheet,
+            Err(_) => Reason::OnSheet,
         },
     }
 }

@@ -1,17 +1,15 @@
 -- The items that both scanners have before them. Assumes nothing.
 -- The page's sentences stand in Items.antt; here are its parts.
-use Rattle.std.specs.Prelude.{Bool, List, [], ◌∷◌, ℕ, ◌≤◌}
+use Rattle.std.specs.Prelude.{Bool, List, [], ◌∷◌, ℕ, ◌≤◌, None, Option, Some}
 use Rattle.feed.specs.Items.{mark_items_from, numbered_items_from, merge}
 use Rattle.feed.specs.declared.item.SheetItem.{SheetItem}
-use Rattle.feed.specs.declared.Head.{Head}
-use Rattle.feed.specs.declared.Head.TheVariants as head
 use Rattle.feed.specs.declared.Feed.{Feed}
 
 -- ---- one scanner, one item ahead
 -- a head, and the items behind it; nothing is behind the end
-abbrev pub headed : Head → List SheetItem → List SheetItem
-headed (head.Item i) l = i ∷ l
-headed head.End l = []
+abbrev pub headed : Option SheetItem → List SheetItem → List SheetItem
+headed (Some i) l = i ∷ l
+headed None l = []
 
 -- ---- both
 -- scanners that stand within a text that is not too long

@@ -1,7 +1,8 @@
 -- Laws of both scanners as one run of items: the ways out of the functions that move them on. Assumes nothing.
-use Rattle.std.specs.Prelude.{◌≡◌, Bool, true, false, cond, ◌⊎◌, ℕ, ◌≤◌, ◌<◌, ltb, length}
+use Rattle.std.specs.Prelude.{◌≡◌, Bool, true, false, cond, ◌⊎◌, ℕ, ◌≤◌, ◌<◌, ltb, length, Option, Some, None, option_map, Result, Ok, Err}
 use Rattle.std.proofs.Math.Path.{refl, sym, ap, subst}
 use Rattle.std.proofs.Common.{◌∙◌, inl, inr, arith, lt-ltb, le-ltb}
+use Rattle.std.specs.Result.{result_unwrap_or}
 use mathlib.Core.List.{List, [], ◌∷◌, map}
 use Rattle.search.specs.Promise.{Gives, Steps}
 use Rattle.search.specs.SearchLaws.{decide}
@@ -15,36 +16,35 @@ use Rattle.common.specs.declared.grammar.Grammar.{Grammar}
 use Rattle.block_marker.specs.Marker as marker
 use Rattle.block_marker.specs.MarkerRun as marker_run
 use Rattle.block_marker.specs.declared.BlockMarkerIter.{BlockMarkerIter}
-use Rattle.block_marker.specs.declared.MarkerFound.{MarkerFound}
 use Rattle.block_marker.specs.declared.MarkerStep.{MarkerStep}
 use Rattle.block_numbered.specs.Numbered as numbered
 use Rattle.block_numbered.specs.NumberedRun as numbered_run
 use Rattle.block_numbered.specs.declared.BlockNumberedIter.{BlockNumberedIter}
-use Rattle.block_numbered.specs.declared.NumberedFound.{NumberedFound}
 use Rattle.block_numbered.specs.declared.NumberedStep.{NumberedStep}
 use Rattle.feed.specs.Items.{marked, counted, mark_items_from, numbered_items_from, mark_items, numbered_items, merge}
 use Rattle.feed.specs.Feeds.{head_by, mark_head, number_head, marks_after, numbers_after, fresh_feed, picked, taken_by, taken}
 use Rattle.feed.specs.Ahead.{headed, Within, ahead}
 use Rattle.feed.specs.declared.item.SheetItem.{SheetItem}
-use Rattle.feed.specs.declared.Head.{Head}
-use Rattle.feed.specs.declared.Head.TheVariants as head
 use Rattle.feed.specs.declared.Pick.{Pick}
 use Rattle.feed.specs.declared.Pick.TheVariants as pick
 use Rattle.feed.specs.declared.MarksAhead.{MarksAhead}
 use Rattle.feed.specs.declared.NumbersAhead.{NumbersAhead}
 use Rattle.feed.specs.declared.Feed.{Feed}
 use Rattle.feed.specs.declared.Taken.{Taken}
+use Rattle.block_marker.specs.declared.MarkerItem.{MarkerItem}
+use Rattle.block_numbered.specs.declared.NumberedItem.{NumberedItem}
+use Rattle.common.specs.declared.refusal.Refusal.{Refusal}
 
 -- ---- one scanner's next item
 -- the ways out of the functions that move one scanner on: f is the step's answer, e what a `match` told that it is
-scanner-moved : {F S R : Type 0} (told : F → Outcome) (head : List ℕ → Head) (make : Head → S → R) {o : Outcome} {g : S} (f e : F) (h : Head) (n : S) → f ≡ e → Steps o g (told f) n → h ≡ head (told e).values
+scanner-moved : {F S R : Type 0} (told : F → Outcome) (head : List ℕ → Option SheetItem) (make : Option SheetItem → S → R) {o : Outcome} {g : S} (f e : F) (h : Option SheetItem) (n : S) → f ≡ e → Steps o g (told f) n → h ≡ head (told e).values
     → Gives (make (head o.values) g) (make h n)
 scanner-moved {F} told head make {o} f e h n m kept x =
     let y : h ≡ head o.values = x ∙ ap (λ (f : F). head (told f).values) (sym m) ∙ ap (λ (o : Outcome). head o.values) kept.answer in
-    record { answer = ap (λ (k : Head). make k n) y ∙ ap (make (head o.values)) kept.next }
+    record { answer = ap (λ (k : Option SheetItem). make k n) y ∙ ap (make (head o.values)) kept.next }
 
 -- of all items the first, and the rest of them from a place of the text on
-pub record HeadFirst (all : List SheetItem) (len : ℕ) (h : Head) (rest : List SheetItem) (pos : ℕ) : Type 0 where
+pub record HeadFirst (all : List SheetItem) (len : ℕ) (h : Option SheetItem) (rest : List SheetItem) (pos : ℕ) : Type 0 where
   pub same : all ≡ headed h rest
   pub inside : pos ≤ len
 
@@ -62,12 +62,23 @@ module _ {S A : Type 0} {c : Scanner S A} {Lies : ℕ → ℕ → A → Type 0} 
       let kept : Keeps c g set s o n = record { answer = refl; next = refl } in
       record { same = ap (map shown) (step_items w set s short g o n l kept) ∙ yields_head o.values n; inside = step_inside w set s short g o n l kept }
 
+-- what a step found, a refusal counted as nothing, makes the head that its values make
+pub mark_shown : (e : Result (Option MarkerItem) Refusal) (o : Option MarkerItem) → o ≡ result_unwrap_or e None → option_map marked o ≡ mark_head (marker.told e).values
+mark_shown (Ok (Some i)) o q = rw q
+mark_shown (Ok None) o q = rw q
+mark_shown (Err r) o q = rw q
+
+pub number_shown : (e : Result (Option NumberedItem) Refusal) (o : Option NumberedItem) → o ≡ result_unwrap_or e None → option_map counted o ≡ number_head (numbered.told e).values
+number_shown (Ok (Some i)) o q = rw q
+number_shown (Ok None) o q = rw q
+number_shown (Err r) o q = rw q
+
 module _ (set : List Bool) (s : List ℕ) where
-  pub mark-moved : (g : BlockMarkerIter) (r : MarkerStep) (e : MarkerFound) (h : Head) → r.found ≡ e → marker.Kept g set s r → h ≡ mark_head (marker.told e).values → Gives (marks_after set s g) (record { head = h; rest = r.next })
+  pub mark-moved : (g : BlockMarkerIter) (r : MarkerStep) (e : Result (Option MarkerItem) Refusal) (h : Option SheetItem) → r.found ≡ e → marker.Kept g set s r → h ≡ mark_head (marker.told e).values → Gives (marks_after set s g) (record { head = h; rest = r.next })
   unfolding marks_after
   mark-moved g r e h = scanner-moved marker.told mark_head (λ h n. record { head = h; rest = n }) r.found e h r.next
 
-  pub number_moved : (g : BlockNumberedIter) (r : NumberedStep) (e : NumberedFound) (h : Head) → r.found ≡ e → numbered.Kept g set s r → h ≡ number_head (numbered.told e).values
+  pub number_moved : (g : BlockNumberedIter) (r : NumberedStep) (e : Result (Option NumberedItem) Refusal) (h : Option SheetItem) → r.found ≡ e → numbered.Kept g set s r → h ≡ number_head (numbered.told e).values
       → Gives (numbers_after set s g) (record { head = h; rest = r.next })
   unfolding numbers_after
   number_moved g r e h = scanner-moved numbered.told number_head (λ h n. record { head = h; rest = n }) r.found e h r.next
@@ -82,21 +93,21 @@ module _ (set : List Bool) (s : List ℕ) where
   number_first = scanner-first numbered_run.lawful counted set s
 
 -- ---- which is next
-module _ (a b : Head) (x y : SheetItem) where
-  pub pick_number : a ≡ head.Item x → b ≡ head.Item y → y.start < x.start → pick.Number y ≡ picked a b
+module _ (a b : Option SheetItem) (x y : SheetItem) where
+  pub pick_number : a ≡ Some x → b ≡ Some y → y.start < x.start → pick.Number y ≡ picked a b
   pick_number e f h = rw (e, f, lt-ltb y.start x.start h)
 
-  pub pick-mark : a ≡ head.Item x → b ≡ head.Item y → x.start ≤ y.start → pick.Mark x ≡ picked a b
+  pub pick-mark : a ≡ Some x → b ≡ Some y → x.start ≤ y.start → pick.Mark x ≡ picked a b
   pick-mark e f h = rw (e, f, le-ltb y.start x.start h)
 
-module _ (a b : Head) (x : SheetItem) where
-  pub pick_only_mark : a ≡ head.Item x → b ≡ head.End → pick.Mark x ≡ picked a b
+module _ (a b : Option SheetItem) (x : SheetItem) where
+  pub pick_only_mark : a ≡ Some x → b ≡ None → pick.Mark x ≡ picked a b
   pick_only_mark e f = rw (e, f)
 
-  pub pick_only_number : a ≡ head.End → b ≡ head.Item x → pick.Number x ≡ picked a b
+  pub pick_only_number : a ≡ None → b ≡ Some x → pick.Number x ≡ picked a b
   pick_only_number e f = rw (e, f)
 
-pub pick_neither : (a b : Head) → a ≡ head.End → b ≡ head.End → pick.Neither ≡ picked a b
+pub pick_neither : (a b : Option SheetItem) → a ≡ None → b ≡ None → pick.Neither ≡ picked a b
 pick_neither a b e f = rw (e, f)
 
 pub ruleset pick_rules = (pick_number, pick-mark, pick_only_mark, pick_only_number, pick_neither)
@@ -133,16 +144,16 @@ picks (pick.Mark x) xs xxs ys yys = x ∷ merge xs yys
 picks (pick.Number y) xs xxs ys yys = y ∷ merge xxs ys
 picks pick.Neither xs xxs ys yys = []
 
-merge_picks : (a b : Head) (xs ys : List SheetItem) → merge (headed a xs) (headed b ys) ≡ picks (picked a b) xs (headed a xs) ys (headed b ys)
+merge_picks : (a b : Option SheetItem) (xs ys : List SheetItem) → merge (headed a xs) (headed b ys) ≡ picks (picked a b) xs (headed a xs) ys (headed b ys)
 unfolding picks merge
-merge_picks (head.Item x) (head.Item y) xs ys = by (decide (ltb y.start x.start))
+merge_picks (Some x) (Some y) xs ys = by (decide (ltb y.start x.start))
   where
     by : (ltb y.start x.start ≡ true) ⊎ (ltb y.start x.start ≡ false) → merge (x ∷ xs) (y ∷ ys) ≡ picks (cond (ltb y.start x.start) (pick.Number y) (pick.Mark x)) xs (x ∷ xs) ys (y ∷ ys)
     by (inl u) = merge_number x y xs ys u ∙ sym (rw u)
     by (inr u) = merge-mark x y xs ys u ∙ sym (rw u)
-merge_picks (head.Item x) head.End xs ys = ap (λ (k : List SheetItem). x ∷ k) (sym (merge_none xs))
-merge_picks head.End (head.Item y) xs ys = refl
-merge_picks head.End head.End xs ys = refl
+merge_picks (Some x) None xs ys = ap (λ (k : List SheetItem). x ∷ k) (sym (merge_none xs))
+merge_picks None (Some y) xs ys = refl
+merge_picks None None xs ys = refl
 
 -- what is taken: the next of the items ahead, and the others
 pub record Took (markers delims : List Bool) (s : List ℕ) (f : Feed) (t : Taken) : Type 0 where
@@ -152,20 +163,20 @@ pub record Took (markers delims : List Bool) (s : List ℕ) (f : Feed) (t : Take
 module _ (markers delims : List Bool) (s : List ℕ) (f : Feed) where
   -- the ways out of the function that takes it
   pub take-mark : (p : Pick) (x : SheetItem) (m : MarksAhead) → p ≡ pick.Mark x → Gives (picked f.marks.head f.numbers.head) p → Gives (marks_after markers s f.marks.rest) m
-      → Gives (taken markers delims s f) (record { head = head.Item x; rest = record { marks = m; numbers = f.numbers } })
+      → Gives (taken markers delims s f) (record { head = Some x; rest = record { marks = m; numbers = f.numbers } })
   unfolding taken
   take-mark p x m e g w =
       let u : picked f.marks.head f.numbers.head ≡ pick.Mark x = sym g.answer ∙ e in
       record { answer = rw (u, w.answer) }
 
   pub take_number : (p : Pick) (y : SheetItem) (m : NumbersAhead) → p ≡ pick.Number y → Gives (picked f.marks.head f.numbers.head) p → Gives (numbers_after delims s f.numbers.rest) m
-      → Gives (taken markers delims s f) (record { head = head.Item y; rest = record { marks = f.marks; numbers = m } })
+      → Gives (taken markers delims s f) (record { head = Some y; rest = record { marks = f.marks; numbers = m } })
   unfolding taken
   take_number p y m e g w =
       let u : picked f.marks.head f.numbers.head ≡ pick.Number y = sym g.answer ∙ e in
       record { answer = rw (u, w.answer) }
 
-  pub take_none : (p : Pick) → p ≡ pick.Neither → Gives (picked f.marks.head f.numbers.head) p → Gives (taken markers delims s f) (record { head = head.End; rest = f })
+  pub take_none : (p : Pick) → p ≡ pick.Neither → Gives (picked f.marks.head f.numbers.head) p → Gives (taken markers delims s f) (record { head = None; rest = f })
   unfolding taken
   take_none p e g =
       let u : picked f.marks.head f.numbers.head ≡ pick.Neither = sym g.answer ∙ e in

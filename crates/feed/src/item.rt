@@ -1,6 +1,10 @@
 // The items of a work sheet, from both scanners.
+ghost use Rattle.std.specs.Prelude.{◌≡◌};
 ghost use Rattle.search.specs.Promise.{Gives};
-ghost use Rattle.feed.specs.Items.{tested_place};
+ghost use Rattle.feed.specs.Items.{marked, counted, tested_place};
+
+use block_marker::MarkerItem;
+use block_numbered::NumberedItem;
 
 // Where the content starts and ends, the kind (0 marker, 1 numbered), the accepted byte, and the number (0 for a marker).
 #[derive(Clone, Copy)]
@@ -10,6 +14,34 @@ pub struct SheetItem {
     pub kind: u32,
     pub byte: u8,
     pub number: u32,
+}
+
+impl From<MarkerItem> for SheetItem {
+    ghost from_gives = { λ i r. r ≡ marked i };
+
+    fn from(i: MarkerItem) -> SheetItem {
+        SheetItem {
+            start: i.span.start,
+            end: i.span.end,
+            kind: 0,
+            byte: i.marker,
+            number: 0,
+        }
+    }
+}
+
+impl From<NumberedItem> for SheetItem {
+    ghost from_gives = { λ i r. r ≡ counted i };
+
+    fn from(i: NumberedItem) -> SheetItem {
+        SheetItem {
+            start: i.span.start,
+            end: i.span.end,
+            kind: 1,
+            byte: i.delimiter,
+            number: i.number,
+        }
+    }
 }
 
 // Where a region hides the item, whatever else of the item it holds: its marker or delimiter, which one blank parts from the content. The

@@ -7,29 +7,22 @@ pub mod item; // the items
 ghost use Rattle.search.specs.Promise.{Gives};
 ghost use Rattle.feed.specs.Feeds.{marks_after, numbers_after, fresh_feed, picked, taken};
 
-use block_marker::{BlockMarkerIter, MarkerFound};
-use block_numbered::{BlockNumberedIter, NumberedFound};
+use block_marker::BlockMarkerIter;
+use block_numbered::BlockNumberedIter;
 use common::grammar::Grammar;
 use item::SheetItem;
-
-// The next item, or the end of the run.
-#[derive(Clone, Copy)]
-pub enum Head {
-    Item(SheetItem),
-    End,
-}
 
 // The marker scanner, one item ahead.
 #[derive(Clone, Copy)]
 pub struct MarksAhead {
-    pub head: Head,
+    pub head: Option<SheetItem>,
     pub rest: BlockMarkerIter,
 }
 
 // The numbered scanner, one item ahead.
 #[derive(Clone, Copy)]
 pub struct NumbersAhead {
-    pub head: Head,
+    pub head: Option<SheetItem>,
     pub rest: BlockNumberedIter,
 }
 
@@ -43,7 +36,7 @@ pub struct Feed {
 // The next item of both, and what comes after it.
 #[derive(Clone, Copy)]
 pub struct Taken {
-    pub head: Head,
+    pub head: Option<SheetItem>,
     pub rest: Feed,
 }
 
@@ -55,61 +48,33 @@ enum Pick {
     Neither,
 }
 
-// The marker scanner's next item.
+// The marker scanner's next item; its refusal counts as its end.
 fn next_mark(g: BlockMarkerIter, src: &[u8], set: &[bool; 256]) -> MarksAhead
     ensures { Gives (marks_after set.now src.now g) result }
 {
     let step = g.next(src, set);
     let rest = step.next;
-    let found = step.found;
-    match found {
-        MarkerFound::Item(i) => MarksAhead {
-            head: Head::Item(SheetItem {
-                start: i.span.start,
-                end: i.span.end,
-                kind: 0,
-                byte: i.marker,
-                number: 0,
-            }),
+    match step.found.unwrap_or(None) {
+        Some(i) => MarksAhead {
+            head: Some(SheetItem::from(i)),
             rest,
         },
-        MarkerFound::Nothing => MarksAhead {
-            head: Head::End,
-            rest,
-        },
-        MarkerFound::Refused(_) => MarksAhead {
-            head: Head::End,
-            rest,
-        },
+        None => MarksAhead { head: None, rest },
     }
 }
 
-// The numbered scanner's next item.
+// The numbered scanner's next item, likewise.
 fn next_number(g: BlockNumberedIter, src: &[u8], set: &[bool; 256]) -> NumbersAhead
     ensures { Gives (numbers_after set.now src.now g) result }
 {
     let step = g.next(src, set);
     let rest = step.next;
-    let found = step.found;
-    match found {
-        NumberedFound::Item(i) => NumbersAhead {
-            head: Head::Item(SheetItem {
-                start: i.span.start,
-                end: i.span.end,
-                kind: 1,
-                byte: i.delimiter,
-                number: i.number,
-            }),
+    match step.found.unwrap_or(None) {
+        Some(i) => NumbersAhead {
+            head: Some(SheetItem::from(i)),
             rest,
         },
-        NumberedFound::Nothing => NumbersAhead {
-            head: Head::End,
-            rest,
-        },
-        NumberedFound::Refused(_) => NumbersAhead {
-            head: Head::End,
-            rest,
-        },
+        None => NumbersAhead { head: None, rest },
     }
 }
 
@@ -131,22 +96,22 @@ pub fn start(g: Grammar, src: &[u8], markers: &[bool; 256], delims: &[bool; 256]
 }
 
 // The item that starts first, the marker where both start at one place.
-fn first_of(mark: Head, number: Head) -> Pick
+fn first_of(mark: Option<SheetItem>, number: Option<SheetItem>) -> Pick
     ensures { Gives (picked mark number) result }
 {
     match mark {
-        Head::Item(x) => match number {
-            Head::Item(y) => {
+        Some(x) => match number {
+            Some(y) => {
                 if y.start < x.start {
                     return Pick::Number(y);
                 }
                 Pick::Mark(x)
             }
-            Head::End => Pick::Mark(x),
+            None => Pick::Mark(x),
         },
-        Head::End => match number {
-            Head::Item(y) => Pick::Number(y),
-            Head::End => Pick::Neither,
+        None => match number {
+            Some(y) => Pick::Number(y),
+            None => Pick::Neither,
         },
     }
 }
@@ -163,7 +128,7 @@ pub fn take(f: Feed, src: &[u8], markers: &[bool; 256], delims: &[bool; 256]) ->
         Pick::Mark(x) => {
             let more = next_mark(marks.rest, src, markers);
             Taken {
-                head: Head::Item(x),
+                head: Some(x),
                 rest: Feed {
                     marks: more,
                     numbers,
@@ -173,7 +138,7 @@ pub fn take(f: Feed, src: &[u8], markers: &[bool; 256], delims: &[bool; 256]) ->
         Pick::Number(y) => {
             let more = next_number(numbers.rest, src, delims);
             Taken {
-                head: Head::Item(y),
+                head: Some(y),
                 rest: Feed {
                     marks,
                     numbers: more,
@@ -181,7 +146,7 @@ pub fn take(f: Feed, src: &[u8], markers: &[bool; 256], delims: &[bool; 256]) ->
             }
         }
         Pick::Neither => Taken {
-            head: Head::End,
+            head: None,
             rest: f,
         },
     }

@@ -17,7 +17,7 @@ ghost use Rattle.fence.specs.Fence.{fresh, at, close_end, open_line, open_turn, 
 ghost use Rattle.fence.specs.Steps.{EndTurned};
 
 use common::refusal::Refusal;
-use common::span::{MAX_INPUT_LEN, Span, SpanFound};
+use common::span::{MAX_INPUT_LEN, Span};
 use find::{find_byte, find_either};
 use lines::fence_tests::run_count;
 use search::{blank_within, line_start, next_line, run_end};
@@ -36,7 +36,7 @@ pub struct FenceIter {
 // What a step answers, and the state after it.
 #[derive(Clone, Copy)]
 pub struct FenceStep {
-    pub found: SpanFound,
+    pub found: Result<Option<Span>, Refusal>,
     pub next: FenceIter,
 }
 
@@ -188,26 +188,26 @@ impl FenceIter {
         let pos = self.pos;
         if src.len() > MAX_INPUT_LEN {
             return FenceStep {
-                found: SpanFound::Refused(Refusal::TextTooLong),
+                found: Err(Refusal::TextTooLong),
                 next: self,
             };
         }
         if pos > src.len() {
             return FenceStep {
-                found: SpanFound::Refused(Refusal::PlaceOutside),
+                found: Err(Refusal::PlaceOutside),
                 next: self,
             };
         }
         match self.first_open(src, pos) {
             Opened::Found(a, b) => FenceStep {
-                found: SpanFound::At(Span {
+                found: Ok(Some(Span {
                     start: a as u32,
                     end: b as u32,
-                }),
+                })),
                 next: self.at(b),
             },
             Opened::Stopped(v) => FenceStep {
-                found: SpanFound::Nothing,
+                found: Ok(None),
                 next: self.at(v),
             },
         }

@@ -1,6 +1,6 @@
 -- "Reading what we wrote gives the list again, and writing what was read gives our one layout": of the promises, which determine every answer and run.
 -- Assumes nothing.
-use Rattle.std.specs.Prelude.{◌≡◌, refl, Bool, cond, not, List, [], ◌∷◌, map, ℕ, zero, suc, ◌*◌, ◌<◌, ◌≤◌, ltb, get_or, take, drop}
+use Rattle.std.specs.Prelude.{◌≡◌, refl, Bool, cond, not, List, [], ◌∷◌, map, ℕ, zero, suc, ◌*◌, ◌<◌, ◌≤◌, ltb, get_or, take, drop, Result}
 use Rattle.std.proofs.Common.{sym, ap, ◌∙◌, arith}
 use Rattle.std.proofs.Math.Bool.{true, false}
 use Rattle.std.proofs.Math.ListN.{length, length-append}
@@ -12,7 +12,6 @@ use Rattle.common.specs.EntryLaws.{length-flatten, rows-flatten, length-rows, ro
 use Rattle.common.specs.Lists.{text_answer, filled_answer, filled_by, crowded}
 use Rattle.common.specs.Refusals.{Outcome, given, refuse, served, read, unless_none, told, span_values, span_back}
 use Rattle.common.specs.RefusalLaws.{read-refused, told_unique, answer_unique}
-use Rattle.common.specs.declared.refusal.Answer.{Answer}
 use Rattle.common.specs.declared.span.Span.{Span}
 use Rattle.cover.specs.Shape.{misshapen}
 use Rattle.cover.specs.ShapeLaws.{shape_fits, shape_order}
@@ -23,6 +22,7 @@ use Rattle.json_file.specs.declared.FileRead.{FileRead}
 use Rattle.json_file.specs.declared.FileRead.TheVariants as file_read
 use Rattle.json_file.specs.LayoutLaws.{SpansFit, layout_file}
 use Rattle.json_file.specs.AnswerLaws.{file_records, read_file}
+use Rattle.common.specs.declared.refusal.Refusal.{Refusal}
 
 -- ---- an answer that was served passed every test
 passed : (n : ℕ) → 0 < n → (b : Bool) (o : Outcome) (v : List ℕ) → given v ≡ refuse n b o → (b ≡ false) × (given v ≡ o)
@@ -127,7 +127,7 @@ read_write {l} {s} {dst} {dst'} {n} {out} {out'} {o} f r w =
     (w.answer ∙ answered, w.list ∙ rw (answered, spans))
 
 -- ---- the promises determine every answer, refused ones too, and the run that is left
-pub writing_unique : {l : List ℕ} {n : ℕ} {out out' out'' : List ℕ} {r r' : Answer}
+pub writing_unique : {l : List ℕ} {n : ℕ} {out out' out'' : List ℕ} {r r' : Result ℕ Refusal}
     → WroteRecords l n out out' (told r) → WroteRecords l n out out'' (told r') → (r ≡ r') × (out' ≡ out'')
 writing_unique {l} {n} {out} a b = (answer_unique {o = write_answer l n out} (record { answer = a.answer }) (record { answer = b.answer }), a.list ∙ sym b.list)
 

@@ -14,7 +14,7 @@ ghost use Rattle.json_file.specs.Records.{WroteRecords, ReadRecords, told_read};
 
 use check::{Checked, check};
 use common::list::WIDE;
-use common::refusal::{Answer, Refusal};
+use common::refusal::Refusal;
 use common::span::MAX_INPUT_LEN;
 use cover::shape::is_misshapen;
 use layout::{layout_fits, put_list};
@@ -31,16 +31,16 @@ pub enum FileRead {
 
 // Writes the first `count` regions of a list in our one layout, and answers how many bytes it has. A refusal (5 the list is misshapen, 3 too
 // little room) changes nothing.
-pub fn write(list: &[u32], count: usize, out: &mut [u8]) -> Answer
+pub fn write(list: &[u32], count: usize, out: &mut [u8]) -> Result<usize, Refusal>
     ensures { WroteRecords list.now count out.old out.new (told result) }
 {
     if is_misshapen(list, count, MAX_INPUT_LEN) {
-        return Answer::Refused(Refusal::ListMisshapen);
+        return Err(Refusal::ListMisshapen);
     }
     if layout_fits(list, count, out.len()) {
-        return Answer::Value(put_list(list, count, out));
+        return Ok(put_list(list, count, out));
     }
-    Answer::Refused(Refusal::NoRoom)
+    Err(Refusal::NoRoom)
 }
 
 // Reads a file's regions into a list, and answers how many there are. A refusal (10 the file is not of this form, 5 its regions are no list, 3

@@ -1,5 +1,5 @@
 -- Laws of what lines say of fences: the ways out of the functions that ask. Assumes nothing.
-use Rattle.std.specs.Prelude.{◌≡◌, refl, Bool, true, cond, ◌&&◌, List, ◌⊎◌, leb}
+use Rattle.std.specs.Prelude.{◌≡◌, refl, Bool, true, cond, ◌&&◌, List, ◌⊎◌, leb, None, Option, Some}
 use Rattle.std.proofs.Common.{sym, ◌∙◌, inl, inr}
 use Rattle.std.proofs.Math.Path.{subst}
 use Rattle.std.proofs.Math.Bool.{false, and-false}
@@ -17,9 +17,6 @@ use Rattle.lines.specs.Fences.{has_in, least_in, run_count, opens_to, opening_of
 use Rattle.lines.specs.Reader.{reader, shuts, reader_in, opening_at, close_scan}
 use Rattle.lines.specs.Steps.{CloseTurned}
 use Rattle.common.specs.declared.grammar.Grammar.{Grammar}
-use Rattle.lines.specs.declared.fence_tests.Opening.{Opening}
-use Rattle.lines.specs.declared.fence_tests.Opening.TheVariants.{Opens, Not}
-use Rattle.lines.specs.declared.fence_tests.Close.TheVariants as close
 use Rattle.lines.specs.declared.fence_tests.CloseTurn.{CloseTurn}
 use Rattle.lines.specs.declared.fence_tests.CloseTurn.TheVariants.{Go, Closed, Unclosed}
 
@@ -35,11 +32,11 @@ module _ (g : Grammar) (b count : ℕ) (s : List ℕ) (q e j c : ℕ) (hj : Give
 
 -- ---- a line that opens: at p begins a run of b that ends at i and is c long
 module _ (eol b least : ℕ) (s : List ℕ) (p : ℕ) where
-  no_run : min (find (other (is b)) s p) (line_end eol s p) ≤ p → Not ≡ opening_of eol b least s p
+  no_run : min (find (other (is b)) s p) (line_end eol s p) ≤ p → None ≡ opening_of eol b least s p
   unfolding opening_of
   no_run h = rw (le-ltb p (min (find (other (is b)) s p) (line_end eol s p)) h)
 
-  pub opens_eol : b ≡ eol → Not ≡ opening_of eol b least s p
+  pub opens_eol : b ≡ eol → None ≡ opening_of eol b least s p
   opens_eol e = no_run (by (decide (ltb p (length s))) (decide (is b (get_or s p 0))))
     where
       by : (ltb p (length s) ≡ true) ⊎ (ltb p (length s) ≡ false) → (is b (get_or s p 0) ≡ true) ⊎ (is b (get_or s p 0) ≡ false) → min (find (other (is b)) s p) (line_end eol s p) ≤ p
@@ -48,7 +45,7 @@ module _ (eol b least : ℕ) (s : List ℕ) (p : ℕ) where
       by (inr u) v = omega (arith, find_end (is eol) s p (ltb-false p (length s) u))
 
   module _ (apart : b ≡ eol → ⊥) (i : ℕ) (hi : Sought (other (is b)) s p i) where
-    pub opens_none : i ≤ p → Not ≡ opening_of eol b least s p
+    pub opens_none : i ≤ p → None ≡ opening_of eol b least s p
     opens_none l = no_run (omega (arith, hi.here))
 
     module _ (some : p < i) (c : ℕ) (hc : Gives (run_count p i) c) where
@@ -67,7 +64,7 @@ module _ (eol b least : ℕ) (s : List ℕ) (p : ℕ) where
       ends : min i (line_end eol s i) ≡ i
       ends = omega (arith, find_ge (is eol) s i)
 
-      pub opens-short : c < least → Not ≡ opening_of eol b least s p
+      pub opens-short : c < least → None ≡ opening_of eol b least s p
       unfolding opening_of
       opens-short l = simp (← hi.here, line_same, ends, ← hc.answer, lt-leb least c l, and-false)
 
@@ -77,7 +74,7 @@ module _ (eol b least : ℕ) (s : List ℕ) (p : ℕ) where
         passed j h l = either_false b eol (get_or s j 0) (find_before (either b eol) s i j h (omega (arith, he.here)))
 
         -- another fence byte comes before the line's end
-        pub opens-more : y ≡ true → Not ≡ opening_of eol b least s p
+        pub opens-more : y ≡ true → None ≡ opening_of eol b least s p
         unfolding opening_of
         opens-more u =
             let w = holds_true (is b) s e (sym hy.answer ∙ u) in
@@ -105,7 +102,7 @@ module _ (eol b least : ℕ) (s : List ℕ) (p : ℕ) where
                 let z : e ≡ length s = omega (arith, he.high, run_in) in
                 find-over (is eol) s i e he.low (omega arith) (λ j h m. (passed j h m).1) ∙ find_end (is eol) s e l
 
-        pub opens_yes : y ≡ false → Opens c e ≡ opening_of eol b least s p
+        pub opens_yes : y ≡ false → Some (c, e) ≡ opening_of eol b least s p
         unfolding opening_of
         opens_yes u =
             let a : e ≤ find (is b) s i = omega (arith, find-over (is b) s i e he.low (omega (arith, he.high, run_in)) (λ j h l. (passed j h l).0), find_ge (is b) s e) in
@@ -116,58 +113,61 @@ pub ruleset open_rules = (opens_eol, opens_none, opens-short, opens-more, opens_
 
 -- by the table: f is what it says of the byte b at p
 module _ (eol : ℕ) (fences s : List ℕ) (p b f : ℕ) (hb : Gives (get_or s p 0) b) (hf : Gives (entry 0 fences b) f) where
-  pub opens_rule : (d : Opening) → (f ≡ 0 → ⊥) → Gives (opening_of eol b (f - 1) s p) d → d ≡ opening eol (has_in fences) (least_in fences) s p
+  pub opens_rule : (d : Option (ℕ × ℕ)) → (f ≡ 0 → ⊥) → Gives (opening_of eol b (f - 1) s p) d → d ≡ opening eol (has_in fences) (least_in fences) s p
   unfolding opening has_in least_in
   opens_rule d some hd = hd.answer ∙ simp (← hb.answer, ← hf.answer, lt-ltb 0 f (omega (arith, some)))
 
-  pub opens_unruled : f ≡ 0 → Not ≡ opening eol (has_in fences) (least_in fences) s p
+  pub opens_unruled : f ≡ 0 → None ≡ opening eol (has_in fences) (least_in fences) s p
   unfolding opening has_in
   opens_unruled e = simp (← hb.answer, ← hf.answer, e)
 
 -- a line opens with its whole run, up to its line's end
+abbrev pub whole_run : (eol : ℕ) (s : List ℕ) (p : ℕ) → Option (ℕ × ℕ)
+whole_run eol s p = Some (run_count p (min (find (other (is (get_or s p 0))) s p) (line_end eol s p)), line_end eol s p)
+
 pub opening-is : (eol : ℕ) (has : ℕ → Bool) (least : ℕ → ℕ) (s : List ℕ) (p : ℕ)
-    → opening eol has least s p ≡ cond (opens_line eol has least s p) (Opens (run_count p (min (find (other (is (get_or s p 0))) s p) (line_end eol s p))) (line_end eol s p)) Not
+    → opening eol has least s p ≡ cond (opens_line eol has least s p) (whole_run eol s p) None
 unfolding opening opening_of opens_line
 opening-is eol has least s p = by (has (get_or s p 0))
   where
-    by : (y : Bool) → cond y (cond (opens_to (get_or s p 0) (least (get_or s p 0)) s p (line_end eol s p)) (Opens (run_count p (min (find (other (is (get_or s p 0))) s p) (line_end eol s p))) (line_end eol s p)) Not) Not
-        ≡ cond (y && opens_to (get_or s p 0) (least (get_or s p 0)) s p (line_end eol s p)) (Opens (run_count p (min (find (other (is (get_or s p 0))) s p) (line_end eol s p))) (line_end eol s p)) Not
+    by : (y : Bool) → cond y (cond (opens_to (get_or s p 0) (least (get_or s p 0)) s p (line_end eol s p)) (whole_run eol s p) None) None
+        ≡ cond (y && opens_to (get_or s p 0) (least (get_or s p 0)) s p (line_end eol s p)) (whole_run eol s p) None
     by true = refl
     by false = refl
 
 -- what an answer says of the line
-module _ (eol : ℕ) (has : ℕ → Bool) (least : ℕ → ℕ) (s : List ℕ) (p : ℕ) (d : Opening) (says : Gives (opening eol has least s p) d) where
-  told-opens : (r e : ℕ) → d ≡ Opens r e → true ≡ opens_line eol has least s p
+module _ (eol : ℕ) (has : ℕ → Bool) (least : ℕ → ℕ) (s : List ℕ) (p : ℕ) (d : Option (ℕ × ℕ)) (says : Gives (opening eol has least s p) d) where
+  told-opens : (r e : ℕ) → d ≡ Some (r, e) → true ≡ opens_line eol has least s p
   told-opens r e h = by (decide (opens_line eol has least s p))
     where
       by : (opens_line eol has least s p ≡ true) ⊎ (opens_line eol has least s p ≡ false) → true ≡ opens_line eol has least s p
       by (inl u) = sym u
-      by (inr u) = absurd (let w : Not ≡ Opens r e = sym (opening-is eol has least s p ∙ rw u) ∙ (sym says.answer ∙ h) in let z : ◌≡◌ {A = ℕ} 0 1 = cc in omega arith)
+      by (inr u) = absurd (let w : None ≡ Some (r, e) = sym (opening-is eol has least s p ∙ rw u) ∙ (sym says.answer ∙ h) in let z : ◌≡◌ {A = ℕ} 0 1 = cc in omega arith)
 
-  told_not : d ≡ Not → false ≡ opens_line eol has least s p
+  told_not : d ≡ None → false ≡ opens_line eol has least s p
   told_not h = by (decide (opens_line eol has least s p))
     where
       by : (opens_line eol has least s p ≡ true) ⊎ (opens_line eol has least s p ≡ false) → false ≡ opens_line eol has least s p
       by (inl u) =
-          absurd (let w : Opens (run_count p (min (find (other (is (get_or s p 0))) s p) (line_end eol s p))) (line_end eol s p) ≡ Not = sym (opening-is eol has least s p ∙ rw u) ∙ (sym says.answer ∙ h) in let z : ◌≡◌ {A = ℕ} 0 1 = cc in omega arith)
+          absurd (let w : whole_run eol s p ≡ None = sym (opening-is eol has least s p ∙ rw u) ∙ (sym says.answer ∙ h) in let z : ◌≡◌ {A = ℕ} 0 1 = cc in omega arith)
       by (inr u) = sym u
 
 -- ---- the same, asked of the reader
-module _ (g : Grammar) (fences s : List ℕ) (p : ℕ) (d : Opening) (says : Gives (opening g.eol (has_in fences) (least_in fences) s p) d) where
-  pub enters_yes : (r e : ℕ) → d ≡ Opens r e → true ≡ (reader_in g fences).enters s p
+module _ (g : Grammar) (fences s : List ℕ) (p : ℕ) (d : Option (ℕ × ℕ)) (says : Gives (opening g.eol (has_in fences) (least_in fences) s p) d) where
+  pub enters_yes : (r e : ℕ) → d ≡ Some (r, e) → true ≡ (reader_in g fences).enters s p
   unfolding reader
   enters_yes r e h = told-opens g.eol (has_in fences) (least_in fences) s p d says r e h
 
-  pub enters_no : d ≡ Not → false ≡ (reader_in g fences).enters s p
+  pub enters_no : d ≡ None → false ≡ (reader_in g fences).enters s p
   unfolding reader
   enters_no h = told_not g.eol (has_in fences) (least_in fences) s p d says h
 
 module _ (g : Grammar) (fences s : List ℕ) (p : ℕ) (y : Bool) where
-  pub at_start : (d : Opening) → y ≡ true → Gives (line_start g.eol s p) y → Gives (opening g.eol (has_in fences) (least_in fences) s p) d → d ≡ opening_at (reader_in g fences) g.eol s p
+  pub at_start : (d : Option (ℕ × ℕ)) → y ≡ true → Gives (line_start g.eol s p) y → Gives (opening g.eol (has_in fences) (least_in fences) s p) d → d ≡ opening_at (reader_in g fences) g.eol s p
   unfolding opening_at reader
   at_start d u h w = w.answer ∙ opening-is g.eol (has_in fences) (least_in fences) s p ∙ simp (← h.answer, u)
 
-  pub at_none : y ≡ false → Gives (line_start g.eol s p) y → Not ≡ opening_at (reader_in g fences) g.eol s p
+  pub at_none : y ≡ false → Gives (line_start g.eol s p) y → None ≡ opening_at (reader_in g fences) g.eol s p
   unfolding opening_at reader
   at_none u h = simp (← h.answer, u)
 
@@ -274,13 +274,13 @@ module _ (g : Grammar) (b count : ℕ) (s : List ℕ) (from q : ℕ) (d : CloseT
   unfolding CloseTurned
   closes_again n e w = record { same = w.same ∙ (subst (CloseTurned (shuts g b count s) g.eol s q) e turned).2 }
 
-  pub closes_found : (p e : ℕ) → d ≡ Closed p e → Closes (shuts g b count s) (length s) from q → close.Closed p e ≡ close_scan g b count s from
+  pub closes_found : (p e : ℕ) → d ≡ Closed p e → Closes (shuts g b count s) (length s) from q → Some (p, e) ≡ close_scan g b count s from
   unfolding close_scan CloseTurned
   closes_found p e h w =
       let v = subst (CloseTurned (shuts g b count s) g.eol s q) h turned in
       simp (w.same, v.0, lt-ltb p (length s) v.1, v.2)
 
-  pub closes_not : d ≡ Unclosed → Closes (shuts g b count s) (length s) from q → close.Unclosed ≡ close_scan g b count s from
+  pub closes_not : d ≡ Unclosed → Closes (shuts g b count s) (length s) from q → None ≡ close_scan g b count s from
   unfolding close_scan CloseTurned
   closes_not h w =
       let v = subst (CloseTurned (shuts g b count s) g.eol s q) h turned in

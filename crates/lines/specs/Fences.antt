@@ -2,12 +2,10 @@
 -- The page: "A fence begins its line, has a run of at least min and at least 1, and no further fence byte on that line. It is closed by
 -- the first later line whose run is as long or longer and whose rest is separators or tabs." and "Run counts stop at 255."
 
-use Rattle.std.specs.Prelude.{Bool, cond, ◌&&◌, List, ℕ, ◌+◌, ◌-◌, min, ltb, leb, length, get_or}
+use Rattle.std.specs.Prelude.{Bool, cond, ◌&&◌, List, ℕ, ◌+◌, ◌-◌, min, ltb, leb, length, get_or, None, Option, Some}
 use Rattle.search.specs.Search.{find, after_run, is, either, other, holds, line_start, line_end}
 use Rattle.common.specs.declared.grammar.Grammar.{Grammar}
 use Rattle.common.specs.Rules.{tabulate, entry, rule_index}
-use Rattle.lines.specs.declared.fence_tests.Opening.{Opening}
-use Rattle.lines.specs.declared.fence_tests.Opening.TheVariants.{Opens, Not}
 
 -- the end of the run of b that begins at p, within a line that ends at e
 abbrev pub run_end : ℕ → List ℕ → ℕ → ℕ → ℕ
@@ -27,8 +25,8 @@ abbrev pub opens_to : ℕ → ℕ → List ℕ → ℕ → ℕ → Bool
 opens_to b least s p e = opens_run b least s p (run_end b s p e) e
 
 -- its run, counted, and the line's end
-unfoldable pub opening_of : ℕ → ℕ → ℕ → List ℕ → ℕ → Opening
-opening_of eol b least s p = cond (opens_to b least s p (line_end eol s p)) (Opens (run_count p (run_end b s p (line_end eol s p))) (line_end eol s p)) Not
+unfoldable pub opening_of : ℕ → ℕ → ℕ → List ℕ → ℕ → Option (ℕ × ℕ)
+opening_of eol b least s p = cond (opens_to b least s p (line_end eol s p)) (Some (run_count p (run_end b s p (line_end eol s p)), line_end eol s p)) None
 
 -- whether the line that begins at p opens a fence, by the rule of the byte that stands there: `has` says whether there is one, `least`
 -- its minimum
@@ -36,8 +34,8 @@ unfoldable pub opens_line : ℕ → (ℕ → Bool) → (ℕ → ℕ) → List �
 opens_line eol has least s p = has (get_or s p 0) && opens_to (get_or s p 0) (least (get_or s p 0)) s p (line_end eol s p)
 
 -- and how
-unfoldable pub opening : ℕ → (ℕ → Bool) → (ℕ → ℕ) → List ℕ → ℕ → Opening
-opening eol has least s p = cond (has (get_or s p 0)) (opening_of eol (get_or s p 0) (least (get_or s p 0)) s p) Not
+unfoldable pub opening : ℕ → (ℕ → Bool) → (ℕ → ℕ) → List ℕ → ℕ → Option (ℕ × ℕ)
+opening eol has least s p = cond (has (get_or s p 0)) (opening_of eol (get_or s p 0) (least (get_or s p 0)) s p) None
 
 -- whether a run from q up to j, in a line that ends at e, closes a fence: it is "as long or longer", and the "rest is separators or
 -- tabs", which `blank` tells

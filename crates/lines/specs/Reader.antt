@@ -1,13 +1,9 @@
 -- Fence readers: what an edition says of fences, asked of a place in a text. Assumes nothing.
 -- The page, module 6: "A fence at a line start goes first, by the first rule with that byte"; the regions and their paragraphs ask a reader.
-use Rattle.std.specs.Prelude.{Bool, true, false, cond, ◌&&◌, List, ℕ, ltb, length, get_or}
+use Rattle.std.specs.Prelude.{Bool, true, false, cond, ◌&&◌, List, ℕ, ltb, length, get_or, None, Option, Some}
 use Rattle.search.specs.Search.{first_place, line_start, line_end}
 use Rattle.common.specs.declared.grammar.Grammar.{Grammar}
 use Rattle.lines.specs.Fences.{run_count, run_end, opens_line, closing, has_in, least_in}
-use Rattle.lines.specs.declared.fence_tests.Opening.{Opening}
-use Rattle.lines.specs.declared.fence_tests.Opening.TheVariants.{Opens, Not}
-use Rattle.lines.specs.declared.fence_tests.Close.{Close}
-use Rattle.lines.specs.declared.fence_tests.Close.TheVariants.{Closed, Unclosed}
 
 -- a fence reader
 pub record Fences : Type 0 where
@@ -42,15 +38,15 @@ abbrev pub reader_in : Grammar → List ℕ → Fences
 reader_in g fences = reader g (has_in fences) (least_in fences)
 
 -- whether a fence's run begins at p, and then how long it is, counted, and where its line ends
-unfoldable pub opening_at : Fences → ℕ → List ℕ → ℕ → Opening
-opening_at f eol s p = cond (f.opens s p) (Opens (f.size s p) (line_end eol s p)) Not
+unfoldable pub opening_at : Fences → ℕ → List ℕ → ℕ → Option (ℕ × ℕ)
+opening_at f eol s p = cond (f.opens s p) (Some (f.size s p, line_end eol s p)) None
 
 -- "It is closed by the first later line whose run is as long or longer and whose rest is separators or tabs": where that line begins,
 -- and where it ends
-abbrev pub close_at : Grammar → List ℕ → Bool → ℕ → Close
-close_at g s true q = Closed q (line_end g.eol s q)
-close_at g s false q = Unclosed
+abbrev pub close_at : Grammar → List ℕ → Bool → ℕ → Option (ℕ × ℕ)
+close_at g s true q = Some (q, line_end g.eol s q)
+close_at g s false q = None
 
-unfoldable pub close_scan : Grammar → ℕ → ℕ → List ℕ → ℕ → Close
+unfoldable pub close_scan : Grammar → ℕ → ℕ → List ℕ → ℕ → Option (ℕ × ℕ)
 close_scan g b count s from =
     close_at g s (ltb (first_place (shuts g b count s) from (length s)) (length s)) (first_place (shuts g b count s) from (length s))

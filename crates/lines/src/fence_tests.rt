@@ -13,20 +13,6 @@ use common::sets::index;
 use find::{find_byte, find_either};
 use search::{blank_within, byte_at, is_at, lesser, line_start, next_line, run_end, run_within};
 
-// Whether a line opens a fence: then with which run, counted to 255, and where the line ends.
-#[derive(Clone, Copy)]
-pub enum Opening {
-    Opens(usize, usize),
-    Not,
-}
-
-// Where the line stands that closes a fence, and where it ends; or that none does.
-#[derive(Clone, Copy)]
-pub enum Close {
-    Closed(usize, usize),
-    Unclosed,
-}
-
 // A byte sought in a paragraph, or where the paragraph ends.
 #[derive(Clone, Copy)]
 pub enum Hit {
@@ -80,49 +66,49 @@ pub fn run_count(p: usize, j: usize) -> usize
 
 // Does the line that begins at `pos` open a fence of `byte`? It has a run of at least `least` and at least 1, and no further
 // fence byte.
-fn opens_with(src: &[u8], pos: usize, eol: u8, byte: u8, least: usize) -> Opening
+fn opens_with(src: &[u8], pos: usize, eol: u8, byte: u8, least: usize) -> Option<(usize, usize)>
     ensures { Gives (opening_of eol byte least src.now pos) result }
 {
     // A line end begins no run: its line ends before it.
     if byte == eol {
-        return Opening::Not;
+        return None;
     }
     let i = run_end(src, pos, byte);
     if i <= pos {
-        return Opening::Not;
+        return None;
     }
     let c = run_count(pos, i);
     if c < least {
-        return Opening::Not;
+        return None;
     }
     // One search tells both where the line ends and whether another fence byte comes first.
     let e = find_either(src, i, byte, eol);
     if is_at(src, e, byte) {
-        return Opening::Not;
+        return None;
     }
-    Opening::Opens(c, e)
+    Some((c, e))
 }
 
 // Does the line that begins at `pos` open a fence, by the first rule with the byte that stands there?
-pub fn fence_opens(src: &[u8], pos: usize, eol: u8, fences: &[u16; 256]) -> Opening
+pub fn fence_opens(src: &[u8], pos: usize, eol: u8, fences: &[u16; 256]) -> Option<(usize, usize)>
     ensures { Gives (opening eol (has_in fences.now) (least_in fences.now) src.now pos) result }
 {
     let b = byte_at(src, pos);
     let f = fence_of(fences, b);
     if f == 0 {
-        return Opening::Not;
+        return None;
     }
     opens_with(src, pos, eol, b, f - 1)
 }
 
 // Does a fence's run begin at `p`? It begins its line, and the line opens a fence.
-pub fn opens_at(src: &[u8], p: usize, g: Grammar, fences: &[u16; 256]) -> Opening
+pub fn opens_at(src: &[u8], p: usize, g: Grammar, fences: &[u16; 256]) -> Option<(usize, usize)>
     ensures { Gives (opening_at (reader_in g fences.now) g.eol src.now p) result }
 {
     if line_start(src, p, g.eol) {
         return fence_opens(src, p, g.eol, fences);
     }
-    Opening::Not
+    None
 }
 
 // Would the line that begins at `ls` end a paragraph by opening a fence?
@@ -130,8 +116,8 @@ pub fn fence_opens_line(src: &[u8], ls: usize, g: Grammar, fences: &[u16; 256]) 
     ensures { Gives ((reader_in g fences.now).enters src.now ls) result }
 {
     match fence_opens(src, ls, g.eol, fences) {
-        Opening::Opens(_, _) => true,
-        Opening::Not => false,
+        Some((_, _)) => true,
+        None => false,
     }
 }
 
@@ -175,7 +161,13 @@ fn close_turn(src: &[u8], search: usize, byte: u8, count: usize, g: Grammar) -> 
 }
 
 // The first line at or after `from` that closes a fence of `byte` and `count`.
-pub fn fence_close_scan(src: &[u8], from: usize, byte: u8, count: usize, g: Grammar) -> Close
+pub fn fence_close_scan(
+    src: &[u8],
+    from: usize,
+    byte: u8,
+    count: usize,
+    g: Grammar,
+) -> Option<(usize, usize)>
     ensures { Gives (close_scan g byte count src.now from) result }
 {
     let mut search = from;
@@ -185,10 +177,10 @@ pub fn fence_close_scan(src: &[u8], from: usize, byte: u8, count: usize, g: Gram
                 search = n;
             }
             CloseTurn::Closed(q, e) => {
-                return Close::Closed(q, e);
+                return Some((q, e));
             }
             CloseTurn::Unclosed => {
-                return Close::Unclosed;
+                return None;
             }
         }
     }

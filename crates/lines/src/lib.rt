@@ -10,33 +10,33 @@ ghost use Rattle.common.specs.Refusals.{told, told_found};
 ghost use Rattle.lines.specs.Leaf.{find_line_end, count_escape, next_in_paragraph};
 
 use common::grammar::Grammar;
-use common::refusal::{Answer, Found, Refusal};
+use common::refusal::Refusal;
 use common::span::MAX_INPUT_LEN;
 
 // The first line end at or after `from`, else the text's length.
-pub fn find_line_end(src: &[u8], from: usize, eol: u8) -> Answer
+pub fn find_line_end(src: &[u8], from: usize, eol: u8) -> Result<usize, Refusal>
     ensures { Gives (find_line_end src.now from eol) (told result) }
 {
     if src.len() > MAX_INPUT_LEN {
-        return Answer::Refused(Refusal::TextTooLong);
+        return Err(Refusal::TextTooLong);
     }
     if from > src.len() {
-        return Answer::Refused(Refusal::PlaceOutside);
+        return Err(Refusal::PlaceOutside);
     }
-    Answer::Value(find::find_byte(src, from, eol))
+    Ok(find::find_byte(src, from, eol))
 }
 
 // How many escape bytes stand just before `pos`. Where the count is odd, the byte at `pos` is an escaped one.
-pub fn count_escape(src: &[u8], pos: usize, escape: u8) -> Answer
+pub fn count_escape(src: &[u8], pos: usize, escape: u8) -> Result<usize, Refusal>
     ensures { Gives (count_escape src.now pos escape) (told result) }
 {
     if src.len() > MAX_INPUT_LEN {
-        return Answer::Refused(Refusal::TextTooLong);
+        return Err(Refusal::TextTooLong);
     }
     if pos > src.len() {
-        return Answer::Refused(Refusal::PlaceOutside);
+        return Err(Refusal::PlaceOutside);
     }
-    Answer::Value(search::run_before(src, pos, escape))
+    Ok(search::run_before(src, pos, escape))
 }
 
 // The next `needle` at or after `from` within the paragraph. It crosses a single line end, and stops at the end of input, at an
@@ -48,17 +48,17 @@ pub fn next_in_paragraph(
     eol: u8,
     bytes: &[u8],
     mins: &[u8],
-) -> Found
+) -> Result<Option<usize>, Refusal>
     ensures { Gives (next_in_paragraph src.now from needle eol bytes.now mins.now) (told_found result) }
 {
     if src.len() > MAX_INPUT_LEN {
-        return Found::Refused(Refusal::TextTooLong);
+        return Err(Refusal::TextTooLong);
     }
     if bytes.len() != mins.len() {
-        return Found::Refused(Refusal::ColumnsDiffer);
+        return Err(Refusal::ColumnsDiffer);
     }
     if from > src.len() {
-        return Found::Refused(Refusal::PlaceOutside);
+        return Err(Refusal::PlaceOutside);
     }
     let fences = fence_tests::fence_table(bytes, mins);
     let g = Grammar {
@@ -68,7 +68,7 @@ pub fn next_in_paragraph(
         tab: 0,
     };
     match fence_tests::next_in(src, from, needle, g, &fences) {
-        fence_tests::Hit::At(q) => Found::At(q),
-        fence_tests::Hit::End(_) => Found::Nothing,
+        fence_tests::Hit::At(q) => Ok(Some(q)),
+        fence_tests::Hit::End(_) => Ok(None),
     }
 }

@@ -23,7 +23,7 @@ use common::grammar::Grammar;
 use common::sets::byte_set;
 use common::span::MAX_INPUT_LEN;
 use feed::item::{SheetItem, tested_place};
-use feed::{Head, start, take};
+use feed::{start, take};
 use sheet::item::Seen;
 use sheet::{Query, SheetStep, Walk, is_at};
 use sheeting::{item_room, put_item};
@@ -58,14 +58,14 @@ fn turn(
     let head = taken.head;
     let feed = taken.rest;
     match head {
-        Head::End => SheetStep {
+        None => SheetStep {
             seen: Seen::End,
             rest: Walk {
                 feed,
                 index: w.index,
             },
         },
-        Head::Item(i) => {
+        Some(i) => {
             let h = hides(list, count, w.index, i);
             let rest = Walk {
                 feed,

@@ -1,5 +1,5 @@
 -- What building the region list and making the work sheet leave, by the house grammar: they refuse nothing, since there is room. Assumes nothing.
-use Rattle.std.specs.Prelude.{◌≡◌, refl, Bool, false, ℕ, ◌/◌, ◌≤◌, ◌*◌, length, get_or, drop}
+use Rattle.std.specs.Prelude.{◌≡◌, refl, Bool, false, ℕ, ◌/◌, ◌≤◌, ◌*◌, length, get_or, drop, Err, Ok, Result}
 use Rattle.std.proofs.Common.{sym, ◌∙◌, arith, length-append, length-drop}
 use Rattle.std.proofs.Math.Path.{ap}
 use mathlib.Core.List.{List, [], ◌∷◌, map, append-nil}
@@ -13,8 +13,6 @@ use Rattle.common.specs.EntryLaws.{length-flatten, rows-flatten, holds-shaped}
 use Rattle.common.specs.Refusals.{Outcome, given, refused, number_of, told}
 use Rattle.common.specs.RefusalLaws.{number_some}
 use Rattle.common.specs.declared.grammar.Grammar.{Grammar}
-use Rattle.common.specs.declared.refusal.Answer.{Answer}
-use Rattle.common.specs.declared.refusal.Answer.TheVariants.{Value, Refused}
 use Rattle.common.specs.declared.refusal.Refusal.{Refusal}
 use Rattle.region.specs.Region.{row_of}
 use Rattle.region.specs.Regions as region
@@ -45,7 +43,7 @@ pub few-regions : (s : List ℕ) → length s ≤ 8192 → length (house_regions
 unfolding house_regions
 few-regions s h = omega (arith, regions-few (house_gram) s)
 
-module _ (s list list' : List ℕ) (g : Grammar) (a : Answer) (e : Gives house g) (h : length s ≤ 8192) (size : length list ≡ wide * 4097) (w : Built g house_rules s list list' (told a)) where
+module _ (s list list' : List ℕ) (g : Grammar) (a : Result ℕ Refusal) (e : Gives house g) (h : length s ≤ 8192) (size : length list ≡ wide * 4097) (w : Built g house_rules s list list' (told a)) where
   built_is : (told a ≡ given (length (house_regions s) ∷ [])) × (list' ≡ over (flatten row_of (house_regions s)) list)
   unfolding built_answer build_answer built_list house_regions
   built_is =
@@ -53,7 +51,7 @@ module _ (s list list' : List ℕ) (g : Grammar) (a : Answer) (e : Gives house g
       let roomy = le-ltb (length list / wide) (length (region.regions (house_gram) s)) (omega (arith, few-regions s h)) in
       (w.answer ∙ rw (e.answer, short, roomy), w.list ∙ rw (e.answer, short, roomy))
 
-  pub regions_found : (n : ℕ) → a ≡ Value n → RegionsIn s list' n
+  pub regions_found : (n : ℕ) → a ≡ Ok n → RegionsIn s list' n
   regions_found n v =
       let b = built_is in
       let z : length (house_regions s) ≡ n = value_is n (length (house_regions s) ∷ []) (ap told (sym v) ∙ b.0) in
@@ -63,7 +61,7 @@ module _ (s list list' : List ℕ) (g : Grammar) (a : Answer) (e : Gives house g
         long = ap length b.1 ∙ over-length (flatten row_of (house_regions s)) list (omega (arith, few-regions s h, length-flatten row_of wide (λ r. refl) (house_regions s))) ∙ size;
       }
 
-  pub regions-refused : (x : Refusal) (n : ℕ) → a ≡ Refused x → RegionsIn s list' n
+  pub regions-refused : (x : Refusal) (n : ℕ) → a ≡ Err x → RegionsIn s list' n
   regions-refused x n v = never x (length (house_regions s) ∷ []) (ap told (sym v) ∙ built_is.0)
 
 -- ---- the list of a text's regions is in order
@@ -86,7 +84,7 @@ unfolding house_sheet sheet_of
 few-shown s =
     omega (arith, outside-few (rows wide (length (house_regions s)) (flatten row_of (house_regions s))) (merge (mark_items house house_markers s) (numbered_items house house_delims s)), items-few house house_markers house_delims s)
 
-module _ (s list items items' : List ℕ) (markers delims : List Bool) (count : ℕ) (g : Grammar) (a : Answer) (e : Gives house g) (em : markers ≡ house_markers) (ed : delims ≡ house_delims) (h : length s ≤ 8192)
+module _ (s list items items' : List ℕ) (markers delims : List Bool) (count : ℕ) (g : Grammar) (a : Result ℕ Refusal) (e : Gives house g) (em : markers ≡ house_markers) (ed : delims ≡ house_delims) (h : length s ≤ 8192)
     (held : RegionsIn s list count) (space : length items ≡ 40965) (w : Sheeted g markers delims list count s items items' (told a)) where
   sheeted_is : (told a ≡ given (length (house_sheet s) ∷ [])) × (items' ≡ over (flatten five (house_sheet s)) items)
   unfolding sheet_judged sheet_answer sheet_list
@@ -95,7 +93,7 @@ module _ (s list items items' : List ℕ) (markers delims : List Bool) (count : 
       let roomy = le-ltb (length items / 5) (length (house_sheet s)) (omega (arith, few-shown s)) in
       (w.answer ∙ rw (e.answer, em, ed, short, held_shape held, held_sheet held, roomy), w.list ∙ rw (e.answer, em, ed, short, held_shape held, held_sheet held, roomy))
 
-  pub items_found : (n : ℕ) → a ≡ Value n → ItemsIn s items' n
+  pub items_found : (n : ℕ) → a ≡ Ok n → ItemsIn s items' n
   items_found n v =
       let b = sheeted_is in
       let z : length (house_sheet s) ≡ n = value_is n (length (house_sheet s) ∷ []) (ap told (sym v) ∙ b.0) in
@@ -105,5 +103,5 @@ module _ (s list items items' : List ℕ) (markers delims : List Bool) (count : 
         long = ap length b.1 ∙ over-length (flatten five (house_sheet s)) items (omega (arith, few-shown s, length-flatten five 5 five-numbers (house_sheet s))) ∙ space;
       }
 
-  pub items_refused : (x : Refusal) (n : ℕ) → a ≡ Refused x → ItemsIn s items' n
+  pub items_refused : (x : Refusal) (n : ℕ) → a ≡ Err x → ItemsIn s items' n
   items_refused x n v = never x (length (house_sheet s) ∷ []) (ap told (sym v) ∙ sheeted_is.0)

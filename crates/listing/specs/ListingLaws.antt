@@ -1,5 +1,5 @@
 -- The ways out of a listing, and that its promise leaves one answer and one run. Assumes nothing.
-use Rattle.std.specs.Prelude.{◌≡◌, true, false, List, [], ◌∷◌, ◌⊎◌, ltb, get_or, take, drop}
+use Rattle.std.specs.Prelude.{◌≡◌, true, false, List, [], ◌∷◌, ◌⊎◌, ltb, get_or, take, drop, Ok, Result}
 use Rattle.std.proofs.Common.{sym, ap, ◌∙◌, inl, inr, length-append, length-take-le}
 use Prim.Native.Nat.{ℕ, ◌≤◌, ◌<◌}
 use native.Mathlib.Omega.{arith}
@@ -11,8 +11,6 @@ use Rattle.common.specs.EntryLaws.{put_over}
 use Rattle.search.specs.SearchLaws.{decide}
 use Rattle.common.specs.Refusals.{Outcome, given, refused, told}
 use Rattle.common.specs.RefusalLaws.{answer_unique}
-use Rattle.common.specs.declared.refusal.Answer.{Answer}
-use Rattle.common.specs.declared.refusal.Answer.TheVariants.{Value}
 use Rattle.listing.specs.Lines.{line}
 use Rattle.put.specs.Put.{Laid, LaidWithin}
 use Rattle.listing.specs.Room.{Room}
@@ -22,6 +20,7 @@ use Rattle.listing.specs.Parts.{later_lines}
 use Rattle.listing.specs.Held.{RegionsIn, held_lines}
 use Rattle.listing.specs.HeldLaws.{held_room, held_laid}
 use Rattle.listing.specs.SizeLaws.{entries-room, printed_most}
+use Rattle.common.specs.declared.refusal.Refusal.{Refusal}
 
 -- ---- the entries: regions first
 module _ {s list : List ℕ} {count : ℕ} (w : RegionsIn s list count) where
@@ -67,18 +66,18 @@ module _ (s : List ℕ) {out : List ℕ} where
   listing_large h p = served (omega (arith, printed_most s)) p
 
 -- two results of a listing for the same arguments are one: the answer, and the run that is left
-pub printed_unique : {s out out' out'' : List ℕ} {a a' : Answer} → Printed s out out' (told a) → Printed s out out'' (told a') → (a ≡ a') × (out' ≡ out'')
+pub printed_unique : {s out out' out'' : List ℕ} {a a' : Result ℕ Refusal} → Printed s out out' (told a) → Printed s out out'' (told a') → (a ≡ a') × (out' ≡ out'')
 printed_unique {s} {out} v w = (answer_unique {o = listing_answer s out} (record { answer = v.answer }) (record { answer = w.answer }), v.run ∙ sym w.run)
 
 -- in a run of 1,000,000 bytes it is never refused
-pub listing_served : (s out out' : List ℕ) (a : Answer) → 1000000 ≤ length out → Printed s out out' (told a) → (told a ≡ given (length (printed s) ∷ [])) × (out' ≡ over (printed s) out)
+pub listing_served : (s out out' : List ℕ) (a : Result ℕ Refusal) → 1000000 ≤ length out → Printed s out out' (told a) → (told a ≡ given (length (printed s) ∷ [])) × (out' ≡ over (printed s) out)
 unfolding listing_answer listing_run
 listing_served s out out' a h w =
     let l = le-ltb (length out) (length (printed s)) (omega (arith, printed_most s)) in
     (w.answer ∙ rw l, w.run ∙ rw l)
 
 -- what is written lies within the run
-module _ (s : List ℕ) {out out' : List ℕ} {a : Answer} {k : ℕ} (e : a ≡ Value k) (w : Printed s out out' (told a)) where
+module _ (s : List ℕ) {out out' : List ℕ} {a : Result ℕ Refusal} {k : ℕ} (e : a ≡ Ok k) (w : Printed s out out' (told a)) where
   said : given (k ∷ []) ≡ listing_answer s out
   said = ap told (sym e) ∙ w.answer
 

@@ -19,7 +19,7 @@ ghost use Rattle.listing.specs.Listing.{entries, printed, Printed};
 ghost use Rattle.listing.specs.Parts.{later_lines};
 
 use common::grammar::Grammar;
-use common::refusal::{Answer, Refusal};
+use common::refusal::Refusal;
 use common::sets::class_set;
 use put_line::put_one;
 use scans::put_scans;
@@ -85,14 +85,14 @@ fn size(text: &[u8]) -> usize
 
 // Writes the listing of a text over the front of `out`, answers how many bytes it has, and changes nothing beyond them. Where `out` is too
 // small it refuses, and changes nothing. A run of 1,000,000 bytes is never too small, and its listing is made in one pass.
-pub fn listing(text: &[u8], out: &mut [u8]) -> Answer
+pub fn listing(text: &[u8], out: &mut [u8]) -> Result<usize, Refusal>
     ensures { Printed text.now out.old out.new (told result) }
 {
     if out.len() < MOST_LISTED {
         if out.len() < size(text) {
-            return Answer::Refused(Refusal::NoRoom);
+            return Err(Refusal::NoRoom);
         }
-        return Answer::Value(put_listing(text, out));
+        return Ok(put_listing(text, out));
     }
-    Answer::Value(put_listing(text, out))
+    Ok(put_listing(text, out))
 }

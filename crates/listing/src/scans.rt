@@ -7,10 +7,10 @@ ghost use Rattle.listing.specs.Listing.{fence_lines_of, frame_lines, marker_line
 ghost use Rattle.listing.specs.Parts.{fence_lines, span_lines, item_lines, scan_lines};
 
 use crate::put_line::{put_four, put_three, put_two};
-use block_marker::{BlockMarkerIter, MarkerFound};
-use block_numbered::{BlockNumberedIter, NumberedFound};
+use block_marker::BlockMarkerIter;
+use block_numbered::BlockNumberedIter;
 use common::grammar::Grammar;
-use common::span::SpanFound;
+use common::span::Span;
 use cont::ContIter;
 use fence::FenceIter;
 
@@ -33,14 +33,14 @@ fn put_fences_of(text: &[u8], byte: u8, out: &mut [u8], n: usize) -> usize
         let found = step.found;
         let next = step.next;
         match found {
-            SpanFound::At(s) => {
+            Ok(Some(s)) => {
                 k = put_three(out, k, b'F', s.start, s.end, byte as u32);
                 state = next;
             }
-            SpanFound::Nothing => {
+            Ok(None) => {
                 return k;
             }
-            SpanFound::Refused(_) => {
+            Err(_) => {
                 return k;
             }
         }
@@ -76,14 +76,14 @@ fn put_frames(text: &[u8], out: &mut [u8], n: usize) -> usize
         let found = step.found;
         let next = step.next;
         match found {
-            SpanFound::At(s) => {
+            Ok(Some(s)) => {
                 k = put_two(out, k, b'C', s.start, s.end);
                 state = next;
             }
-            SpanFound::Nothing => {
+            Ok(None) => {
                 return k;
             }
-            SpanFound::Refused(_) => {
+            Err(_) => {
                 return k;
             }
         }
@@ -104,15 +104,15 @@ fn put_markers(text: &[u8], set: &[bool; 256], out: &mut [u8], n: usize) -> usiz
         let found = step.found;
         let next = step.next;
         match found {
-            MarkerFound::Item(i) => {
+            Ok(Some(i)) => {
                 let s = i.span;
                 k = put_three(out, k, b'M', s.start, s.end, i.marker as u32);
                 state = next;
             }
-            MarkerFound::Nothing => {
+            Ok(None) => {
                 return k;
             }
-            MarkerFound::Refused(_) => {
+            Err(_) => {
                 return k;
             }
         }
@@ -133,15 +133,15 @@ fn put_numbered(text: &[u8], set: &[bool; 256], out: &mut [u8], n: usize) -> usi
         let found = step.found;
         let next = step.next;
         match found {
-            NumberedFound::Item(i) => {
+            Ok(Some(i)) => {
                 let s = i.span;
                 k = put_four(out, k, b'N', s.start, s.end, i.delimiter as u32, i.number);
                 state = next;
             }
-            NumberedFound::Nothing => {
+            Ok(None) => {
                 return k;
             }
-            NumberedFound::Refused(_) => {
+            Err(_) => {
                 return k;
             }
         }

@@ -11,7 +11,7 @@ ghost use Rattle.common.specs.Entry.{wide};
 use crate::put_line::{put_four, put_three, put_two};
 use common::grammar::Grammar;
 use common::list::{END, WIDE};
-use common::refusal::Answer;
+use common::refusal::Refusal;
 use context::build;
 use sheet::sheet;
 
@@ -44,8 +44,8 @@ pub(crate) fn find_regions(text: &[u8], list: &mut [u32; REGION_ROOM]) -> usize
         &once,
         list,
     ) {
-        Answer::Value(n) => n,
-        Answer::Refused(_) => 0, // never: there is room, and no column is longer than its others
+        Ok(n) => n,
+        Err(_) => 0, // never: there is room, and no column is longer than its others
     }
 }
 
@@ -87,8 +87,8 @@ fn find_items(
     ensures { ItemsIn text.now items.new result }
 {
     match sheet(text, Grammar::house(), markers, delims, list, count, items) {
-        Answer::Value(n) => n,
-        Answer::Refused(_) => 0, // never: the list is in order, and there is room
+        Ok(n) => n,
+        Err(_) => 0, // never: the list is in order, and there is room
     }
 }
 

@@ -3,7 +3,7 @@
 #![tactic(auto)]
 
 use common::grammar::Grammar;
-use common::refusal::Answer;
+use common::refusal::Refusal;
 
 // The descriptor that the program reads.
 const STDIN: i32 = 0;
@@ -108,10 +108,10 @@ fn put(note: &mut [u8], i: usize, byte: u8) {
     }
 }
 
-fn value(a: Answer) -> usize {
+fn value(a: Result<usize, Refusal>) -> usize {
     match a {
-        Answer::Value(n) => n,
-        Answer::Refused(_) => 0,
+        Ok(n) => n,
+        Err(_) => 0,
     }
 }
 

@@ -4,7 +4,7 @@ ghost use Rattle.panel.specs.Covered.{covered};
 
 use byte_list::covering_end;
 use cells::reply;
-use common::refusal::Found;
+use common::refusal::Refusal;
 
 // If a place is inside a region, that region's end, behind the index to go on from; the index alone where it is not.
 #[unsafe(no_mangle)]
@@ -20,14 +20,14 @@ pub extern "C" fn rack_covering_end(
     let cover = covering_end(list, count as usize, index as usize, place);
     let found = cover.found;
     match found {
-        Found::At(end) => {
+        Ok(Some(end)) => {
             let all = [cover.index, end];
             reply::values(&all, answer)
         }
-        Found::Nothing => {
+        Ok(None) => {
             let all = [cover.index];
             reply::values(&all, answer)
         }
-        Found::Refused(r) => r.number(),
+        Err(r) => r.number(),
     }
 }

@@ -7,12 +7,13 @@ ghost use Rattle.block_numbered.specs.Numbered.{told as told_numbered};
 ghost use Rattle.cells.specs.Bytes.{cells, readable};
 ghost use Rattle.panel.specs.State.{Made, Moved, fence_limits, fence_cells, fence_from, item_limits, marker_cells, marker_from, numbered_cells, numbered_from};
 
-use block_marker::{BlockMarkerIter, MarkerFound};
-use block_numbered::{BlockNumberedIter, NumberedFound};
+use block_marker::{BlockMarkerIter, MarkerItem};
+use block_numbered::{BlockNumberedIter, NumberedItem};
 use cells::cell;
 use cells::reply::{flag, put_numbers, room_of, values};
+use common::refusal::Refusal;
 use common::sets::index;
-use common::span::SpanFound;
+use common::span::Span;
 use fence::FenceIter;
 use search::byte_at;
 
@@ -43,7 +44,7 @@ fn moved(all: &[usize], next: &[usize], state: &mut [u8], answer: &mut [u8]) -> 
 
 // The same of a span, none, or a refusal, which leaves both runs as they are.
 pub(crate) fn moved_span(
-    found: SpanFound,
+    found: Result<Option<Span>, Refusal>,
     next: &[usize],
     state: &mut [u8],
     answer: &mut [u8],
@@ -54,20 +55,20 @@ pub(crate) fn moved_span(
         (record { state = state.new; answer = answer.new }) result }
 {
     match found {
-        SpanFound::At(span) => {
+        Ok(Some(span)) => {
             let all = [span.start as usize, span.end as usize];
             moved(&all, next, state, answer)
         }
-        SpanFound::Nothing => {
+        Ok(None) => {
             let none = [0usize; 0];
             moved(&none, next, state, answer)
         }
-        SpanFound::Refused(r) => r.number(),
+        Err(r) => r.number(),
     }
 }
 
 pub(crate) fn moved_marker(
-    found: MarkerFound,
+    found: Result<Option<MarkerItem>, Refusal>,
     next: &[usize],
     state: &mut [u8],
     answer: &mut [u8],
@@ -78,7 +79,7 @@ pub(crate) fn moved_marker(
         (record { state = state.new; answer = answer.new }) result }
 {
     match found {
-        MarkerFound::Item(item) => {
+        Ok(Some(item)) => {
             let all = [
                 item.span.start as usize,
                 item.span.end as usize,
@@ -86,16 +87,16 @@ pub(crate) fn moved_marker(
             ];
             moved(&all, next, state, answer)
         }
-        MarkerFound::Nothing => {
+        Ok(None) => {
             let none = [0usize; 0];
             moved(&none, next, state, answer)
         }
-        MarkerFound::Refused(r) => r.number(),
+        Err(r) => r.number(),
     }
 }
 
 pub(crate) fn moved_numbered(
-    found: NumberedFound,
+    found: Result<Option<NumberedItem>, Refusal>,
     next: &[usize],
     state: &mut [u8],
     answer: &mut [u8],
@@ -106,7 +107,7 @@ pub(crate) fn moved_numbered(
         (record { state = state.new; answer = answer.new }) result }
 {
     match found {
-        NumberedFound::Item(item) => {
+        Ok(Some(item)) => {
             let all = [
                 item.span.start as usize,
                 item.span.end as usize,
@@ -115,11 +116,11 @@ pub(crate) fn moved_numbered(
             ];
             moved(&all, next, state, answer)
         }
-        NumberedFound::Nothing => {
+        Ok(None) => {
             let none = [0usize; 0];
             moved(&none, next, state, answer)
         }
-        NumberedFound::Refused(r) => r.number(),
+        Err(r) => r.number(),
     }
 }
 

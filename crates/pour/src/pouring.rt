@@ -12,7 +12,7 @@ ghost use Rattle.pour.specs.Building.{region_bytes};
 
 use cells::reply::put_numbers;
 use cells::{ROW, reply};
-use region::{Next, count_regions, next_region};
+use region::{count_regions, next_region};
 use rules::rows::Rows;
 use rules::search_bytes::Alphabet;
 
@@ -50,11 +50,11 @@ fn write_regions(
     let mut q: usize = 0;
     loop {
         match next_region(text, q, alphabet, fences, rows, &mut dead) {
-            Next::Region(r, next) => {
+            Some((r, next)) => {
                 found = put_region(out, found, r.start, r.end);
                 q = next;
             }
-            Next::Nothing => {
+            None => {
                 return found;
             }
         }

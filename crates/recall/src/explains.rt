@@ -1,7 +1,7 @@
 // Section 10: why a line is not on the work sheet.
 use crate::lists;
 use common::grammar::Grammar;
-use common::refusal::Answer;
+use common::refusal::Refusal;
 use explain::{Explained, Reason, explain};
 use stored::form::Question;
 use stored::numbers::Numbers;
@@ -53,8 +53,8 @@ fn by_house(text: &[u8], line: usize, reply: Numbers) -> Numbers {
         list,
     );
     match built {
-        Answer::Value(count) => told(explain(text, &list[..], count, line), reply),
-        Answer::Refused(r) => reply.and(0).and(r.number()),
+        Ok(count) => told(explain(text, &list[..], count, line), reply),
+        Err(r) => reply.and(0).and(r.number()),
     }
 }
 

@@ -1,6 +1,6 @@
 // Section 11: records for other tools, read and written.
 use crate::lists;
-use common::refusal::{Answer, Refusal};
+use common::refusal::Refusal;
 use json_file::FileRead;
 use put::put_bytes;
 use stored::form::Question;
@@ -193,11 +193,11 @@ fn written(size: usize, count: usize, list: &[u32], reply: Numbers) -> Numbers {
     told_bytes(answer, bytes_part(&out[..], 0, size), reply)
 }
 
-fn write_first(size: usize, count: usize, list: &[u32], out: &mut [u8]) -> Answer {
+fn write_first(size: usize, count: usize, list: &[u32], out: &mut [u8]) -> Result<usize, Refusal> {
     if size <= out.len() {
         return json_file::write(list, count, &mut out[0..size]);
     }
-    Answer::Value(0)
+    Ok(0)
 }
 
 // So many bytes, and further ones behind them, each with a number of its own that no layout has.
@@ -222,9 +222,9 @@ fn mark(size: usize, i: usize) -> u8 {
 }
 
 // 1, the size or 0, the refusal or 0, and all bytes.
-fn told_bytes(answer: Answer, bytes: &[u8], reply: Numbers) -> Numbers {
+fn told_bytes(answer: Result<usize, Refusal>, bytes: &[u8], reply: Numbers) -> Numbers {
     match answer {
-        Answer::Value(size) => reply.value(size).and(0).bytes(bytes),
-        Answer::Refused(r) => reply.and(1).and(0).and(r.number()).bytes(bytes),
+        Ok(size) => reply.value(size).and(0).bytes(bytes),
+        Err(r) => reply.and(1).and(0).and(r.number()).bytes(bytes),
     }
 }

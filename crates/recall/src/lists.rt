@@ -1,5 +1,5 @@
 // Lists that something is written into, and what they hold then.
-use common::refusal::Answer;
+use common::refusal::Refusal;
 use stored::numbers::Numbers;
 use stored::parts::part;
 
@@ -31,18 +31,23 @@ fn mark(size: usize, i: usize) -> u32 {
 }
 
 // What writing into cells answered: 1, the count or 0, the refusal's number or 0, how many cells there are, and these.
-pub(crate) fn told(answer: Answer, cells: &[u32], reply: Numbers) -> Numbers {
+pub(crate) fn told(answer: Result<usize, Refusal>, cells: &[u32], reply: Numbers) -> Numbers {
     match answer {
-        Answer::Value(count) => reply.value(count).and(0).list(cells),
-        Answer::Refused(r) => reply.and(1).and(0).and(r.number()).list(cells),
+        Ok(count) => reply.value(count).and(0).list(cells),
+        Err(r) => reply.and(1).and(0).and(r.number()).list(cells),
     }
 }
 
 // What writing entries of `width` numbers answered: 1, their count, and these.
-pub(crate) fn entries(answer: Answer, cells: &[u32], width: usize, reply: Numbers) -> Numbers {
+pub(crate) fn entries(
+    answer: Result<usize, Refusal>,
+    cells: &[u32],
+    width: usize,
+    reply: Numbers,
+) -> Numbers {
     match answer {
-        Answer::Value(count) => reply.value(count).all(part(cells, 0, end_of(count, width))),
-        Answer::Refused(r) => reply.refused(r),
+        Ok(count) => reply.value(count).all(part(cells, 0, end_of(count, width))),
+        Err(r) => reply.refused(r),
     }
 }
 

@@ -1,9 +1,9 @@
 // Section 6: regions, and the bytes that are searched for.
 use crate::lists;
 use common::grammar::Grammar;
-use common::refusal::Answer;
+use common::refusal::Refusal;
 use lines::fence_tests::fence_table;
-use region::{Cause, Next, Region, next_region};
+use region::{Cause, Region, next_region};
 use rules::records::FenceRule;
 use rules::rows::{Rows, rule_rows};
 use rules::search_bytes::{Alphabet, search_bytes};
@@ -80,12 +80,12 @@ fn build_first(
     bytes: &[u8],
     text: &[u8],
     list: &mut [u32],
-) -> Answer {
+) -> Result<usize, Refusal> {
     let g = grammar_of(bytes, 1);
     if size <= list.len() {
         return build(question, asked, bytes, g, text, &mut list[0..size]);
     }
-    Answer::Value(0)
+    Ok(0)
 }
 
 fn build(
@@ -95,7 +95,7 @@ fn build(
     g: Grammar,
     text: &[u8],
     list: &mut [u32],
-) -> Answer {
+) -> Result<usize, Refusal> {
     if question.letter == b'd' {
         return build_recorded(question, asked, bytes, g, text, list);
     }
@@ -120,7 +120,7 @@ fn build_recorded(
     g: Grammar,
     text: &[u8],
     list: &mut [u32],
-) -> Answer {
+) -> Result<usize, Refusal> {
     let fences = question.bytes(bytes, 0);
     context::records::build_few(
         text,
@@ -198,7 +198,7 @@ fn run(
     let mut steps = 0;
     while steps < STEPS {
         let next = next_region(text, from, alphabet, fences, rows, &mut dead);
-        let Next::Region(r, after) = next else {
+        let Some((r, after)) = next else {
             return reply.counted(steps);
         };
         reply = region(r, reply);

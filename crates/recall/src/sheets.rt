@@ -1,7 +1,7 @@
 // Section 8: the work sheet.
 use crate::lists;
 use common::grammar::Grammar;
-use common::refusal::Answer;
+use common::refusal::Refusal;
 use common::sets;
 use search::byte_at;
 use stored::form::Question;
@@ -73,12 +73,12 @@ fn sheet_first(
     count: usize,
     text: &[u8],
     list: &mut [u32],
-) -> Answer {
+) -> Result<usize, Refusal> {
     let g = grammar_of(bytes, 2);
     if size <= list.len() {
         return sheet(question, bytes, g, regions, count, text, &mut list[0..size]);
     }
-    Answer::Value(0)
+    Ok(0)
 }
 
 // The grammar whose bytes begin at place `i`. The escape plays no part.
@@ -102,7 +102,7 @@ fn sheet(
     count: usize,
     text: &[u8],
     list: &mut [u32],
-) -> Answer {
+) -> Result<usize, Refusal> {
     let markers = sets::byte_set(question.bytes(bytes, 0));
     let delims = sets::byte_set(question.bytes(bytes, 1));
     sheet::sheet(text, g, &markers, &delims, regions, count, list)

@@ -1,5 +1,5 @@
 -- Laws of loops over the regions of a text, by steps of `next_region`: one that counts them, and one that writes each as so many numbers. Assumes nothing.
-use Rattle.std.specs.Prelude.{◌≡◌, refl, List, ◌++◌, ℕ, ◌+◌, ◌-◌, ◌*◌, ◌/◌, ◌≤◌, ◌<◌, length, replicate}
+use Rattle.std.specs.Prelude.{◌≡◌, refl, List, ◌++◌, ℕ, ◌+◌, ◌-◌, ◌*◌, ◌/◌, ◌≤◌, ◌<◌, length, replicate, None, Option, Some}
 use Rattle.std.proofs.Common.{ap, ◌∙◌, arith, length-append}
 use Rattle.search.specs.Promise.{Gives}
 use Rattle.common.specs.Entry.{flatten, room, put_at, wide}
@@ -14,8 +14,7 @@ use Rattle.region.specs.Memory.{KeptNext}
 use Rattle.region.specs.MemoryLaws.{Sound, sound_zeros, keeps_told, keeps_sound}
 use Rattle.region.specs.NextLaws.{from_start, next_none, next_some, next-ahead}
 use Rattle.region.specs.declared.Region.{Region as Told}
-use Rattle.region.specs.declared.Next.{Next}
-use Rattle.region.specs.declared.Next.TheVariants as next
+use Rattle.region.specs.declared.Region.{Region}
 
 -- a region is two numbers of a list
 pub row-wide : (r : Caused) → length (row_of r) ≡ wide
@@ -37,15 +36,15 @@ pub record Pouring (flat : Caused → List ℕ) (w : ℕ) (g : Gram) (s m out₀
 pub counting-first : (g : Gram) (s : List ℕ) → Counting g s (replicate 256 0) 0 0
 counting-first g s = record { sound = sound_zeros g s 0; here = omega arith; few = omega arith; sum = omega (arith, ap length (from_start g s)) }
 
-module _ (g : Gram) (s m : List ℕ) (n q : ℕ) (d : Next) (m' : List ℕ) (i : Counting g s m n q) (kept : KeptNext g s m q d m') where
+module _ (g : Gram) (s m : List ℕ) (n q : ℕ) (d : Option (Region × ℕ)) (m' : List ℕ) (i : Counting g s m n q) (kept : KeptNext g s m q d m') where
   -- what the step says of the text
   pub counting-told : Gives (found_region (next_region g s q)) (view_next d)
   counting-told = keeps_told g s m q i.here i.sound d m' kept
 
-  pub counting_end : d ≡ next.Nothing → n ≡ length (regions g s)
+  pub counting_end : d ≡ None → n ≡ length (regions g s)
   counting_end e = omega (arith, i.sum, ap length (next_none g s q i.here d counting-told e))
 
-  module _ (r : Told) (k : ℕ) (e : d ≡ next.Region r k) where
+  module _ (r : Told) (k : ℕ) (e : d ≡ Some (r, k)) where
     pub counting-next : Counting g s m' (n + 1) k
     counting-next =
         let a = next-ahead g s q i.here d counting-told r k e in
@@ -64,14 +63,14 @@ pouring_first flat w g s out size h =
       wrote = rw (← (from_start g s), k) (written_none (omega (arith, room_fits w (length (regions g s)) out h, length-flatten flat w size (regions g s))));
     }
 
-module _ (flat : Caused → List ℕ) (w : ℕ) (g : Gram) (s m out₀ out : List ℕ) (n q : ℕ) (d : Next) (m' : List ℕ) (i : Pouring flat w g s m out₀ out n q) (kept : KeptNext g s m q d m') where
+module _ (flat : Caused → List ℕ) (w : ℕ) (g : Gram) (s m out₀ out : List ℕ) (n q : ℕ) (d : Option (Region × ℕ)) (m' : List ℕ) (i : Pouring flat w g s m out₀ out n q) (kept : KeptNext g s m q d m') where
   told : Gives (found_region (next_region g s q)) (view_next d)
   told = counting-told g s m n q d m' i.counting kept
 
-  pub pouring_end : d ≡ next.Nothing → Wrote flat (regions g s) out₀ out n
+  pub pouring_end : d ≡ None → Wrote flat (regions g s) out₀ out n
   pouring_end e = record { count = counting_end g s m n q d m' i.counting kept e; list = written_all (rw (next_none g s q i.counting.here d told e) at i.wrote) }
 
-  module _ (r : Told) (k : ℕ) (e : d ≡ next.Region r k) where
+  module _ (r : Told) (k : ℕ) (e : d ≡ Some (r, k)) where
     ahead : Written (flatten flat (regions g s)) (flat (region_of r) ++ flatten flat (regions_from g s k)) out₀ out (n * w)
     ahead = rw (next_some g s q i.counting.here d told r k e) at i.wrote
 

@@ -1,6 +1,6 @@
 -- A scan that remembers for each byte up to which place the close of its rule was sought in vain. Assumes nothing.
 -- What a step answers, and what it remembers, is said here for every memory, also one made by hand; MemoryLaws.antt says of which memories the answers are the regions of the text.
-use Rattle.std.specs.Prelude.{◌≡◌, true, cond, List, ℕ, zero, suc, ◌+◌, ◌-◌, eqb, ltb, leb, length, get_or, set}
+use Rattle.std.specs.Prelude.{◌≡◌, true, cond, List, ℕ, zero, suc, ◌+◌, ◌-◌, eqb, ltb, leb, length, get_or, set, Option}
 use Rattle.search.specs.Search.{find, after_run}
 use Rattle.common.specs.Rules.{entry}
 use Rattle.common.specs.Turn.{Turn, go, stop, found, first_turn}
@@ -10,8 +10,8 @@ use Rattle.region.specs.Regions.{escaped, sym_turn, asym_turn, fenced}
 use Rattle.region.specs.Views.{view_next, found_region}
 use Rattle.region.specs.declared.Cause.{Cause}
 use Rattle.region.specs.declared.Cause.TheVariants.{Symmetric, Asymmetric}
-use Rattle.region.specs.declared.Next.{Next}
 use Rattle.region.specs.Sight.{Sight, turned, lost}
+use Rattle.region.specs.declared.Region.{Region}
 
 -- a pair that opens at p with a run of b up to r, by what the search for its close said
 abbrev pub kept_pair : Cause → ℕ → ℕ → ℕ → ℕ → Turn ℕ → Sight
@@ -68,6 +68,6 @@ abbrev pub kept_next : Gram → List ℕ → List ℕ → ℕ → Remembered
 kept_next g s m q = kept_scan g s (suc (length s)) m q
 
 -- what a step promises: the answer, and the memory after it
-pub record KeptNext (g : Gram) (s m : List ℕ) (q : ℕ) (r : Next) (m' : List ℕ) : Type 0 where
+pub record KeptNext (g : Gram) (s m : List ℕ) (q : ℕ) (r : Option (Region × ℕ)) (m' : List ℕ) : Type 0 where
   pub answer : view_next r ≡ found_region (kept_next g s m q).turn
   pub memory : m' ≡ (kept_next g s m q).memory

@@ -1,7 +1,7 @@
 -- Laws of a scan that remembers: that it moves on, its loop, and that by a memory which tells the truth it finds the regions of the text. Assumes nothing.
 use Rattle.std.proofs.Math.Path.{◌≡◌, refl, subst}
 use Rattle.std.proofs.Common.{sym as inv, ap, ◌∙◌, inl, inr, not-suc-le-zero, arith, length-set, get_or-set_same, get_or-set_other, ltb-true, ltb-false, le-ltb, leb-true, eqb-true}
-use Rattle.std.specs.Prelude.{Bool, true, false, cond, ◌⊎◌, eqb, ltb, leb, get_or, set, replicate}
+use Rattle.std.specs.Prelude.{Bool, true, false, cond, ◌⊎◌, eqb, ltb, leb, get_or, set, replicate, None, Option, Some}
 use mathlib.Core.List.{List, [], ◌∷◌}
 use Prim.Native.Nat.{ℕ, zero, suc, ◌+◌, ◌-◌, ◌≤◌, ◌<◌}
 use Rattle.std.proofs.Math.ListN.{length}
@@ -27,9 +27,8 @@ use Rattle.region.specs.declared.Cause.{Cause}
 use Rattle.region.specs.declared.Cause.TheVariants.{Symmetric, Asymmetric}
 use Rattle.region.specs.declared.Turn.{Turn as Step}
 use Rattle.region.specs.declared.Turn.TheVariants as step
-use Rattle.region.specs.declared.Next.{Next}
-use Rattle.region.specs.declared.Next.TheVariants as next
 use Rattle.region.specs.declared.Region.{Region as Told}
+use Rattle.region.specs.declared.Region.{Region}
 
 -- what a turn is to a scan that doesn't remember
 abbrev bare : Sight → Turn Caused
@@ -230,11 +229,11 @@ module _ (g : Gram) (s : List ℕ) where
       by ih (turned (found r n)) a l = record { same = refl; on = λ r' n' e. let z : n ≡ n' = cc in subst (Sound g s m) z (sound_later m q n (omega arith) w); off = λ v e. absurd (let z : ◌≡◌ {A = ℕ} 0 1 = cc in omega arith) }
       by ih (lost b n u) a l = let i = ih (set m b u) n a.1 (sound_lost m q b n u (omega arith) a.1 l w) in record { same = i.same; on = i.on; off = i.off }
 
-  module _ (m : List ℕ) (q : ℕ) (h : q ≤ length s) (w : Sound g s m q) (d : Next) (m' : List ℕ) (k : KeptNext g s m q d m') where
+  module _ (m : List ℕ) (q : ℕ) (h : q ≤ length s) (w : Sound g s m q) (d : Option (Region × ℕ)) (m' : List ℕ) (k : KeptNext g s m q d m') where
     pub keeps_told : Gives (found_region (next_region g s q)) (view_next d)
     keeps_told = record { answer = k.answer ∙ ap found_region (kept_true (suc (length s)) m q h w).same }
 
-    pub keeps_ended : d ≡ next.Nothing → Sound g s m' (length s)
+    pub keeps_ended : d ≡ None → Sound g s m' (length s)
     keeps_ended e = subst (λ (x : List ℕ). Sound g s x (length s)) (inv k.memory) (none (kept_next g s m q).turn refl (subst (Last Lies q (length s)) (inv (kept_true (suc (length s)) m q h w).same) (scan_last (region_turn-ahead g s) (λ q n m r i x. (omega arith, x.1, x.2)) (suc (length s)) q h)) (inv (ap view_next e) ∙ k.answer))
       where
         none : (t : Turn Caused) → (kept_next g s m q).turn ≡ t → Last Lies q (length s) t → [] ≡ found_region t → Sound g s (kept_next g s m q).memory (length s)
@@ -242,7 +241,7 @@ module _ (g : Gram) (s : List ℕ) where
         none (stop v) x l z = (kept_true (suc (length s)) m q h w).off v x
         none (found a n) x l z = let y : ◌≡◌ {A = ℕ} 0 1 = cc in absurd (omega arith)
 
-    pub keeps_sound : (r : Told) (n : ℕ) → d ≡ next.Region r n → Sound g s m' n
+    pub keeps_sound : (r : Told) (n : ℕ) → d ≡ Some (r, n) → Sound g s m' n
     keeps_sound r n e =
         subst (λ (x : List ℕ). Sound g s x n) (inv k.memory) ((kept_true (suc (length s)) m q h w).on (region_of r) n (turn_found (region_of r) n (kept_next g s m q).turn (inv (ap view_next e) ∙ k.answer)))
 
@@ -250,21 +249,21 @@ module _ (g : Gram) (s : List ℕ) where
 told_of : Caused → Told
 told_of r = record { start = r.start; end = r.stop; cause = r.tag.cause; index = r.tag.index; closed = r.tag.closed }
 
-answer_of : List FoundRegion → Next
-answer_of [] = next.Nothing
-answer_of (p ∷ l) = next.Region (told_of p.region) p.next
+answer_of : List FoundRegion → Option (Region × ℕ)
+answer_of [] = None
+answer_of (p ∷ l) = Some (told_of p.region, p.next)
 
-next-back : (d : Next) → answer_of (view_next d) ≡ d
+next-back : (d : Option (Region × ℕ)) → answer_of (view_next d) ≡ d
 unfolding answer_of told_of
-next-back (next.Region r n) = refl
-next-back next.Nothing = refl
+next-back (Some (r, n)) = refl
+next-back None = refl
 
 -- two answers with one view are one
-pub view_unique : (d d' : Next) → view_next d ≡ view_next d' → d ≡ d'
+pub view_unique : (d d' : Option (Region × ℕ)) → view_next d ≡ view_next d' → d ≡ d'
 view_unique d d' e = inv (next-back d) ∙ ap answer_of e ∙ next-back d'
 
 -- two answers to the same step are one, and so are the memories after it
-pub keeps_unique : {g : Gram} {s m : List ℕ} {q : ℕ} {d d' : Next} {m' m'' : List ℕ} → KeptNext g s m q d m' → KeptNext g s m q d' m'' → (d ≡ d') × (m' ≡ m'')
+pub keeps_unique : {g : Gram} {s m : List ℕ} {q : ℕ} {d d' : Option (Region × ℕ)} {m' m'' : List ℕ} → KeptNext g s m q d m' → KeptNext g s m q d' m'' → (d ≡ d') × (m' ≡ m'')
 keeps_unique {d = d} {d' = d'} h k = (view_unique d d' (h.answer ∙ inv k.answer), h.memory ∙ inv k.memory)
 
 -- ---- the code's loop: it began at `from` with a memory m₀, and stands at q with m
@@ -276,7 +275,7 @@ pub recalls_first : (g : Gram) (s m : List ℕ) (q : ℕ) → q ≤ length s →
 recalls_first g s m q h = record { inside = h; same = refl }
 
 -- from a place past the text there is no region, and nothing is learnt
-pub recalls_past : (g : Gram) (s m : List ℕ) (from : ℕ) → length s < from → KeptNext g s m from next.Nothing m
+pub recalls_past : (g : Gram) (s m : List ℕ) (from : ℕ) → length s < from → KeptNext g s m from None m
 unfolding kept_scan kept_turn
 recalls_past g s m from h =
     let e : find g.trigger s from ≡ from = find_end g.trigger s from (omega arith) in
@@ -304,8 +303,8 @@ module _ (g : Gram) (s m₀ : List ℕ) (from : ℕ) (m : List ℕ) (q : ℕ) (d
     pub recalls_lost : Recalls g s m₀ from (set m b u) n
     recalls_lost = record { inside = (on (lost b n u) (ap view_turn e) i t).1; same = at_turn (lost b n u) (ap view_turn e) i t }
 
-  pub recalls_stop : (v : ℕ) → d ≡ step.Stop v → Recalls g s m₀ from m q → Gives (kept_turn g s m q) (view_turn d) → KeptNext g s m₀ from next.Nothing m
+  pub recalls_stop : (v : ℕ) → d ≡ step.Stop v → Recalls g s m₀ from m q → Gives (kept_turn g s m q) (view_turn d) → KeptNext g s m₀ from None m
   recalls_stop v e i t = let w = at_turn (turned (stop v)) (ap view_turn e) i t in record { answer = rw w; memory = rw w }
 
-  pub recalls_found : (r : Told) (n : ℕ) → d ≡ step.Made r n → Recalls g s m₀ from m q → Gives (kept_turn g s m q) (view_turn d) → KeptNext g s m₀ from (next.Region r n) m
+  pub recalls_found : (r : Told) (n : ℕ) → d ≡ step.Made r n → Recalls g s m₀ from m q → Gives (kept_turn g s m q) (view_turn d) → KeptNext g s m₀ from (Some (r, n)) m
   recalls_found r n e i t = let w = at_turn (turned (found (region_of r) n)) (ap view_turn e) i t in record { answer = rw w; memory = rw w }

@@ -1,5 +1,5 @@
 -- Stepping: the next region from a place on is the first of the regions from there on, and the others lie from where it says. Assumes nothing.
-use Rattle.std.specs.Prelude.{◌≡◌, refl, List, [], ◌∷◌, ℕ, suc, ◌≤◌, ◌<◌, length}
+use Rattle.std.specs.Prelude.{◌≡◌, refl, List, [], ◌∷◌, ℕ, suc, ◌≤◌, ◌<◌, length, None, Option, Some}
 use Rattle.std.proofs.Common.{sym, ap, subst, ◌∙◌, arith}
 use Rattle.search.specs.Promise.{Gives}
 use Rattle.common.specs.Turn.{Turn, go, stop, found, then_collect}
@@ -11,8 +11,7 @@ use Rattle.region.specs.Regions.{next_region, regions_from, regions}
 use Rattle.region.specs.Ahead.{Lies, region_turn-ahead}
 use Rattle.region.specs.Views.{FoundRegion, view_next, found_region}
 use Rattle.region.specs.declared.Region.{Region as Told}
-use Rattle.region.specs.declared.Next.{Next}
-use Rattle.region.specs.declared.Next.TheVariants as next
+use Rattle.region.specs.declared.Region.{Region}
 
 -- the turn that an answer of one region tells
 turn_of : List FoundRegion → Turn Caused
@@ -46,11 +45,11 @@ module _ (g : Gram) (s : List ℕ) (q : ℕ) (h : q ≤ length s) where
       by (stop v) l e = refl
       by (found a m) l e = let z : ◌≡◌ {A = ℕ} 0 1 = cc in absurd (omega arith)
 
-  module _ (d : Next) (told : Gives (found_region (next_region g s q)) (view_next d)) where
-    pub next_none : d ≡ next.Nothing → regions_from g s q ≡ []
+  module _ (d : Option (Region × ℕ)) (told : Gives (found_region (next_region g s q)) (view_next d)) where
+    pub next_none : d ≡ None → regions_from g s q ≡ []
     next_none e = by_first ∙ none (sym (ap view_next e) ∙ told.answer)
 
-    module _ (r : Told) (n : ℕ) (e : d ≡ next.Region r n) where
+    module _ (r : Told) (n : ℕ) (e : d ≡ Some (r, n)) where
       here : next_region g s q ≡ found (region_of r) n
       here = turn_found (region_of r) n (next_region g s q) (sym (ap view_next e) ∙ told.answer)
 

@@ -1,12 +1,10 @@
 -- The regions of a text, over an abstract grammar. Assumes nothing.
 -- The page, module 6: "A fence at a line start goes first, by the first rule with that byte; … A failed fence falls to the inline rule,
 -- symmetric before asymmetric, first match." and so on, a sentence to a definition.
-use Rattle.std.specs.Prelude.{Bool, true, false, cond, List, map, ℕ, ◌+◌, ◌-◌, ◌%◌, eqb, ltb, length, get_or}
+use Rattle.std.specs.Prelude.{Bool, true, false, cond, List, map, ℕ, ◌+◌, ◌-◌, ◌%◌, eqb, ltb, length, get_or, None, Option, Some}
 use Rattle.search.specs.Search.{find, after_run, is, back, first_place, line_end, next_line, after_line}
 use Rattle.lines.specs.Paragraph.{next_in}
 use Rattle.common.specs.Turn.{Turn, go, stop, found, first_turn, all_found}
-use Rattle.lines.specs.declared.fence_tests.Close.{Close}
-use Rattle.lines.specs.declared.fence_tests.Close.TheVariants.{Closed, Unclosed}
 use Rattle.lines.specs.declared.fence_tests.Hit.{Hit}
 use Rattle.lines.specs.declared.fence_tests.Hit.TheVariants.{At, End}
 use Rattle.region.specs.Region.{Caused, caused, Region, Origin, retag}
@@ -24,14 +22,14 @@ shut_place g s p = first_place (g.fences.shuts (get_or s p 0) (g.fences.size s p
 -- a fence of rule i that opened at p, by what the search for its close said: "its region ends before the closing line's line end"; where no
 -- line closes it, at the text's end
 -- (the scan goes on behind that line end: `~\n~\n>` with minimum 1 and an opener that is the line end is 0-3 alone)
-abbrev pub closed_by : List ℕ → ℕ → ℕ → Close → Turn Caused
-closed_by s p i (Closed q e) = found (caused Fence i true p e) (next_line (length s) e)
-closed_by s p i Unclosed = found (caused Fence i false p (length s)) (length s)
+abbrev pub closed_by : List ℕ → ℕ → ℕ → Option (ℕ × ℕ) → Turn Caused
+closed_by s p i (Some (q, e)) = found (caused Fence i true p e) (next_line (length s) e)
+closed_by s p i None = found (caused Fence i false p (length s)) (length s)
 
 -- the fence that opens at p, by whether a line closes it, which begins at q
 abbrev pub fenced_to : Gram → List ℕ → ℕ → Bool → ℕ → Turn Caused
-fenced_to g s p true q = closed_by s p (g.fence_index (get_or s p 0)) (Closed q (line_end g.eol s q))
-fenced_to g s p false q = closed_by s p (g.fence_index (get_or s p 0)) Unclosed
+fenced_to g s p true q = closed_by s p (g.fence_index (get_or s p 0)) (Some (q, line_end g.eol s q))
+fenced_to g s p false q = closed_by s p (g.fence_index (get_or s p 0)) None
 
 abbrev pub fenced : Gram → List ℕ → ℕ → Turn Caused
 fenced g s p = fenced_to g s p (ltb (shut_place g s p) (length s)) (shut_place g s p)

@@ -1,7 +1,7 @@
 -- Laws of the builder's turns: the ways out of the functions that take them. Assumes nothing.
 use Rattle.std.proofs.Math.Path.{◌≡◌, refl, sym as inv, ap, fun_ext}
 use Rattle.std.proofs.Common.{subst, ◌∙◌, inl, inr, arith, Fits}
-use Rattle.std.specs.Prelude.{Bool, List, ◌⊎◌, eqb, ltb, length, get_or, take}
+use Rattle.std.specs.Prelude.{Bool, List, ◌⊎◌, eqb, ltb, length, get_or, take, None, Option, Some}
 use Rattle.std.proofs.Math.Bool.{true, false, cond}
 use Prim.Native.Nat.{ℕ, ◌+◌, ◌-◌, ◌*◌, ◌^◌, ◌%◌, ◌≤◌, ◌<◌}
 use Rattle.std.specs.Int.{w64}
@@ -18,10 +18,6 @@ use Rattle.common.specs.Turn.{Turn, go, stop, found, first_turn}
 use Rattle.common.specs.declared.grammar.Grammar.{Grammar}
 use Rattle.lines.specs.declared.fence_tests.Hit.{Hit}
 use Rattle.lines.specs.declared.fence_tests.Hit.TheVariants as hit
-use Rattle.lines.specs.declared.fence_tests.Opening.{Opening}
-use Rattle.lines.specs.declared.fence_tests.Opening.TheVariants.{Opens, Not}
-use Rattle.lines.specs.declared.fence_tests.Close.{Close}
-use Rattle.lines.specs.declared.fence_tests.Close.TheVariants as close
 use Rattle.region.specs.Region.{caused}
 use Rattle.rules.specs.Grammar.{Rule, plain, sym, asym, Gram}
 use Rattle.region.specs.Regions.{odd_before, sym_after, sym_turn, asym_after, asym_turn, shut_place, closed_by, fenced_to, fenced}
@@ -79,18 +75,18 @@ module _ (g : Grammar) (fences s : List ℕ) (x j : ℕ) (d : Hit) where
       sym_on c = simp (← h.answer, e, ← o.answer, u, ← r.here, ne_eqb (t - q) count c)
 
 -- ---- a fence
-module _ (g : Grammar) (s : List ℕ) (p b count e i from : ℕ) (d : Close) where
+module _ (g : Grammar) (s : List ℕ) (p b count e i from : ℕ) (d : Option (ℕ × ℕ)) where
   closes : Gives (get_or s p 0) b → Gives (next_line (length s) e) from → Gives (close_scan g b count s from) d → closed_by s p i d ≡ fenced_by g s p count e i
   unfolding fenced_by
   closes hb hf hd =
       let e : d ≡ close_scan g (get_or s p 0) count s (next_line (length s) e) = hd.answer ∙ ap (λ (x : ℕ). close_scan g x count s from) hb.answer ∙ ap (close_scan g (get_or s p 0) count s) hf.answer in
       ap (closed_by s p i) e
 
-  pub fence_closed : (q end n : ℕ) → d ≡ close.Closed q end → Gives (get_or s p 0) b → Gives (next_line (length s) e) from → Gives (close_scan g b count s from) d → Gives (next_line (length s) end) n
+  pub fence_closed : (q end n : ℕ) → d ≡ Some (q, end) → Gives (get_or s p 0) b → Gives (next_line (length s) e) from → Gives (close_scan g b count s from) d → Gives (next_line (length s) end) n
       → turned (found (caused Fence i true p end) n) ≡ turned (fenced_by g s p count e i)
   fence_closed q end n c hb hf hd hn = ap turned (ap (λ (m : ℕ). found (caused Fence i true p end) m) hn.answer ∙ ap (closed_by s p i) (inv c) ∙ closes hb hf hd)
 
-  pub fence_unclosed : d ≡ close.Unclosed → Gives (get_or s p 0) b → Gives (next_line (length s) e) from → Gives (close_scan g b count s from) d
+  pub fence_unclosed : d ≡ None → Gives (get_or s p 0) b → Gives (next_line (length s) e) from → Gives (close_scan g b count s from) d
       → turned (found (caused Fence i false p (length s)) (length s)) ≡ turned (fenced_by g s p count e i)
   fence_unclosed c hb hf hd = ap turned (ap (closed_by s p i) (inv c) ∙ closes hb hf hd)
 
@@ -164,33 +160,34 @@ module _ (a : Alphabet) (fences : List ℕ) (rows : List (List ℕ)) (s m : List
   unfolding kept_turn
   turn_stop l = simp (← hp.here, le-ltb p (length s) l)
 
-  module _ (inside : p < length s) (d : Opening) (hd : Gives (opening_at (reader_in a.grammar fences) a.grammar.eol s p) d) where
+  module _ (inside : p < length s) (d : Option (ℕ × ℕ)) (hd : Gives (opening_at (reader_in a.grammar fences) a.grammar.eol s p) d) where
     -- a fence that opens, in its parts
-    opened : (run e : ℕ) → d ≡ Opens run e
+    opened : (run e : ℕ) → d ≡ Some (run, e)
         → ((reader_in a.grammar fences).opens s p ≡ true) × (run ≡ (reader_in a.grammar fences).size s p) × (e ≡ line_end a.grammar.eol s p)
     unfolding opening_at
     opened run e c = by (decide ((reader_in a.grammar fences).opens s p)) (inv hd.answer ∙ c)
       where
         by : ((reader_in a.grammar fences).opens s p ≡ true) ⊎ ((reader_in a.grammar fences).opens s p ≡ false)
-            → cond ((reader_in a.grammar fences).opens s p) (Opens ((reader_in a.grammar fences).size s p) (line_end a.grammar.eol s p)) Not ≡ Opens run e
+            → cond {A = Option (ℕ × ℕ)} ((reader_in a.grammar fences).opens s p) (Some ((reader_in a.grammar fences).size s p, line_end a.grammar.eol s p)) None ≡ Some (run, e)
             → ((reader_in a.grammar fences).opens s p ≡ true) × (run ≡ (reader_in a.grammar fences).size s p) × (e ≡ line_end a.grammar.eol s p)
         by (inl u) w =
-            let z : Opens ((reader_in a.grammar fences).size s p) (line_end a.grammar.eol s p) ≡ Opens run e = rw u at w in
-            (u, cc, cc)
-        by (inr u) w = absurd (let z : Not ≡ Opens run e = rw u at w in let y : ◌≡◌ {A = ℕ} 0 1 = cc in omega arith)
+            let z : Some ((reader_in a.grammar fences).size s p, line_end a.grammar.eol s p) ≡ Some (run, e) = rw u at w in
+            let k : ((reader_in a.grammar fences).size s p, line_end a.grammar.eol s p) ≡ (run, e) = cc in
+            (u, inv (ap (λ (x : ℕ × ℕ). x.0) k), inv (ap (λ (x : ℕ × ℕ). x.1) k))
+        by (inr u) w = absurd (let z : None ≡ Some (run, e) = rw u at w in let y : ◌≡◌ {A = ℕ} 0 1 = cc in omega arith)
 
-    shut : d ≡ Not → (reader_in a.grammar fences).opens s p ≡ false
+    shut : d ≡ None → (reader_in a.grammar fences).opens s p ≡ false
     unfolding opening_at
     shut c = by (decide ((reader_in a.grammar fences).opens s p)) (inv hd.answer ∙ c)
       where
         by : ((reader_in a.grammar fences).opens s p ≡ true) ⊎ ((reader_in a.grammar fences).opens s p ≡ false)
-            → cond ((reader_in a.grammar fences).opens s p) (Opens ((reader_in a.grammar fences).size s p) (line_end a.grammar.eol s p)) Not ≡ Not
+            → cond {A = Option (ℕ × ℕ)} ((reader_in a.grammar fences).opens s p) (Some ((reader_in a.grammar fences).size s p, line_end a.grammar.eol s p)) None ≡ None
             → (reader_in a.grammar fences).opens s p ≡ false
         by (inl u) w =
-            absurd (let z : Opens ((reader_in a.grammar fences).size s p) (line_end a.grammar.eol s p) ≡ Not = rw u at w in let y : ◌≡◌ {A = ℕ} 0 1 = cc in omega arith)
+            absurd (let z : Some ((reader_in a.grammar fences).size s p, line_end a.grammar.eol s p) ≡ None = rw u at w in let y : ◌≡◌ {A = ℕ} 0 1 = cc in omega arith)
         by (inr u) w = u
 
-    fence_same : (run e b i : ℕ) → d ≡ Opens run e → Gives (get_or s p 0) b → Gives (cell rows b 0) i
+    fence_same : (run e b i : ℕ) → d ≡ Some (run, e) → Gives (get_or s p 0) b → Gives (cell rows b 0) i
         → fenced_by a.grammar s p run e i ≡ fenced (gram_by a fences rows) s p
     unfolding fenced_by close_scan shut_place
     fence_same run e b i c hb hi =
@@ -202,7 +199,7 @@ module _ (a : Alphabet) (fences : List ℕ) (rows : List (List ℕ)) (s m : List
         by true = refl
         by false = refl
 
-    pub turn_fence : (run e b i : ℕ) (t : Sight) → d ≡ Opens run e → Gives (get_or s p 0) b → Gives (cell rows b 0) i → Gives (turned (fenced_by a.grammar s p run e i)) t
+    pub turn_fence : (run e b i : ℕ) (t : Sight) → d ≡ Some (run, e) → Gives (get_or s p 0) b → Gives (cell rows b 0) i → Gives (turned (fenced_by a.grammar s p run e i)) t
         → t ≡ kept_turn (gram_by a fences rows) s m q
     unfolding kept_turn
     turn_fence run e b i t c hb hi w =
@@ -233,7 +230,7 @@ module _ (a : Alphabet) (fences : List ℕ) (rows : List (List ℕ)) (s m : List
     inline-same (asym i c n) =
         ap (λ (f : ℕ → Turn ℕ). kept_open (fence_gram a.grammar fences) s m p (get_or s p 0) n Asymmetric i f (find (other (is (get_or s p 0))) s p)) (asym_same c)
 
-    pub turn-inline : (t : Sight) → d ≡ Not → Gives (inline_by (fence_gram a.grammar fences) rows s m p) t → t ≡ kept_turn (gram_by a fences rows) s m q
+    pub turn-inline : (t : Sight) → d ≡ None → Gives (inline_by (fence_gram a.grammar fences) rows s m p) t → t ≡ kept_turn (gram_by a fences rows) s m q
     unfolding kept_turn
     turn-inline t c w =
         w.answer ∙ inline-same (rule_in rows (get_or s p 0))

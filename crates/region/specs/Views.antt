@@ -1,6 +1,6 @@
 -- What the code's turns and answers say. Assumes nothing.
 -- The page: "For an answer that is an enum, a definition gives this paper's number and values for each of its cases".
-use Rattle.std.specs.Prelude.{List, [], ◌∷◌, ℕ}
+use Rattle.std.specs.Prelude.{List, [], ◌∷◌, ℕ, None, Option, Some}
 use Rattle.common.specs.Turn.{Turn, go, stop, found}
 use Rattle.lines.specs.declared.fence_tests.Hit.{Hit}
 use Rattle.lines.specs.declared.fence_tests.Hit.TheVariants as hit
@@ -10,8 +10,7 @@ use Rattle.region.specs.declared.pairs.PairTurn.{PairTurn}
 use Rattle.region.specs.declared.pairs.PairTurn.TheVariants as pair_turn
 use Rattle.region.specs.declared.Turn.{Turn as Told}
 use Rattle.region.specs.declared.Turn.TheVariants as told
-use Rattle.region.specs.declared.Next.{Next}
-use Rattle.region.specs.declared.Next.TheVariants as next
+use Rattle.region.specs.declared.Region.{Region}
 
 -- a turn of a close search
 abbrev pub view_pair : PairTurn → Turn ℕ
@@ -37,9 +36,9 @@ pub record FoundRegion : Type 0 where
   pub next : ℕ
 
 -- the next region, if there is one
-abbrev pub view_next : Next → List FoundRegion
-view_next (next.Region r n) = record { region = region_of r; next = n } ∷ []
-view_next next.Nothing = []
+abbrev pub view_next : Option (Region × ℕ) → List FoundRegion
+view_next (Some (r, n)) = record { region = region_of r; next = n } ∷ []
+view_next None = []
 
 abbrev pub found_region : Turn Caused → List FoundRegion
 found_region (go n) = []

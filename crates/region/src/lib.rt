@@ -17,7 +17,7 @@ ghost use Rattle.region.specs.Parts.{fence_gram, fenced_by, sym_pair, asym_pair,
 
 use common::grammar::Grammar;
 use find::find_needle;
-use lines::fence_tests::{Close, Hit, Opening, fence_close_scan, opens_at};
+use lines::fence_tests::{Hit, fence_close_scan, opens_at};
 use pairs::{asym_close, is_escaped, sym_close};
 use rules::rows::{Rows, closer_of, count_of, fence_index, index_of, kind_of};
 use rules::search_bytes::Alphabet;
@@ -42,13 +42,6 @@ pub struct Region {
     pub closed: bool,
 }
 
-// The next region and where the scan goes on from, or that there is none.
-#[derive(Clone, Copy)]
-pub enum Next {
-    Region(Region, usize),
-    Nothing,
-}
-
 // One turn of the scan: on from a later place; nothing left; a region, and where the scan goes on; or an opener whose close was sought
 // in vain: its byte, where the scan goes on, and up to where the search went.
 #[derive(Clone, Copy)]
@@ -65,7 +58,7 @@ fn fence_region(src: &[u8], p: usize, count: usize, e: usize, g: Grammar, index:
 {
     let len = src.len();
     match fence_close_scan(src, next_line(len, e), byte_at(src, p), count, g) {
-        Close::Closed(_, end) => Turn::Made(
+        Some((_, end)) => Turn::Made(
             Region {
                 start: p,
                 end, // before the line end
@@ -75,7 +68,7 @@ fn fence_region(src: &[u8], p: usize, count: usize, e: usize, g: Grammar, index:
             },
             next_line(len, end),
         ),
-        Close::Unclosed => Turn::Made(
+        None => Turn::Made(
             Region {
                 start: p,
                 end: len,
@@ -213,10 +206,8 @@ fn region_turn(
         return Turn::Stop(q);
     }
     match opens_at(src, p, g, fences) {
-        Opening::Opens(run, e) => {
-            fence_region(src, p, run, e, g, fence_index(rows, byte_at(src, p)))
-        }
-        Opening::Not => inline_at(src, p, g, fences, rows, dead),
+        Some((run, e)) => { fence_region(src, p, run, e, g, fence_index(rows, byte_at(src, p))) }
+        None => inline_at(src, p, g, fences, rows, dead),
     }
 }
 
@@ -230,13 +221,13 @@ pub fn next_region(
     fences: &[u16; 256],
     rows: &Rows,
     dead: &mut [usize; 256],
-) -> Next
+) -> Option<(Region, usize)>
     ensures { KeptNext (gram_by alphabet fences.now rows.now) src.now dead.old from result
         dead.new }
 {
     let len = src.len();
     if from > len {
-        return Next::Nothing;
+        return None;
     }
     let mut q = from;
     loop {
@@ -249,10 +240,10 @@ pub fn next_region(
                 q = next;
             }
             Turn::Stop(_) => {
-                return Next::Nothing;
+                return None;
             }
             Turn::Made(r, next) => {
-                return Next::Region(r, next);
+                return Some((r, next));
             }
         }
     }
@@ -267,11 +258,11 @@ pub fn count_regions(src: &[u8], alphabet: Alphabet, fences: &[u16; 256], rows: 
     let mut q: usize = 0;
     loop {
         match next_region(src, q, alphabet, fences, rows, &mut dead) {
-            Next::Region(_, next) => {
+            Some((_, next)) => {
                 found += 1;
                 q = next;
             }
-            Next::Nothing => {
+            None => {
                 return found;
             }
         }

@@ -1,12 +1,12 @@
 // Answers in a list's terms that the leaves and the scanners alone give.
-use common::refusal::Answer;
-use common::span::{Span, SpanFound};
+use common::refusal::Refusal;
+use common::span::Span;
 use stored::numbers::Numbers;
 
-pub(crate) fn answer(a: Answer, reply: Numbers) -> Numbers {
+pub(crate) fn answer(a: Result<usize, Refusal>, reply: Numbers) -> Numbers {
     match a {
-        Answer::Value(v) => reply.value(v),
-        Answer::Refused(r) => reply.refused(r),
+        Ok(v) => reply.value(v),
+        Err(r) => reply.refused(r),
     }
 }
 
@@ -23,10 +23,10 @@ pub(crate) fn span(s: Span, reply: Numbers) -> Numbers {
 }
 
 // What a scanner of spans found.
-pub(crate) fn span_found(f: SpanFound, reply: Numbers) -> Numbers {
+pub(crate) fn span_found(f: Result<Option<Span>, Refusal>, reply: Numbers) -> Numbers {
     match f {
-        SpanFound::At(s) => span(s, reply.and(1)),
-        SpanFound::Nothing => reply.and(2),
-        SpanFound::Refused(r) => reply.refused(r),
+        Ok(Some(s)) => span(s, reply.and(1)),
+        Ok(None) => reply.and(2),
+        Err(r) => reply.refused(r),
     }
 }

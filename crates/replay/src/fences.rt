@@ -1,6 +1,6 @@
 // Section 2: the fence scanner.
 use crate::answers;
-use common::span::SpanFound;
+use common::span::Span;
 use fence::FenceIter;
 use search::byte_at;
 use stored::answers::STEPS;
@@ -47,7 +47,7 @@ fn run(fresh: FenceIter, text: &[u8], begun: Numbers) -> Numbers {
     while count < STEPS {
         let step = state.next(text);
         let found = step.found;
-        let SpanFound::At(span) = found else {
+        let Ok(Some(span)) = found else {
             return reply.counted(count);
         };
         reply = answers::span(span, reply);

@@ -1,6 +1,6 @@
 // Section 5: continuation frames.
 use crate::answers;
-use common::span::{Span, SpanFound};
+use common::span::Span;
 use cont::ContIter;
 use search::byte_at;
 use stored::answers::STEPS;
@@ -163,7 +163,7 @@ fn run(fresh: ContIter, text: &[u8], begun: Numbers) -> Numbers {
     while count < STEPS {
         let step = state.next(text);
         let found = step.found;
-        let SpanFound::At(span) = found else {
+        let Ok(Some(span)) = found else {
             return reply.counted(count);
         };
         reply = answers::span(span, reply);

@@ -3,7 +3,6 @@ use crate::answers;
 use common::grammar::Grammar;
 use common::sets;
 use lines::fence_tests;
-use lines::fence_tests::{Close, Opening};
 use search::byte_at;
 use stored::form::Question;
 use stored::numbers::Numbers;
@@ -61,8 +60,8 @@ fn ruled(
         return reply.found(lines::next_in_paragraph(text, place, first, second, rules, mins));
     }
     match opening(text, place, first, rules, mins) {
-        Opening::Opens(count, _) => reply.and(1).size(count),
-        Opening::Not => reply.and(2),
+        Some((count, _)) => reply.and(1).size(count),
+        None => reply.and(2),
     }
 }
 
@@ -94,7 +93,13 @@ fn any_of(count: usize, bytes: &[u8], text: &[u8], place: usize, reply: Numbers)
     )
 }
 
-fn opening(text: &[u8], place: usize, eol: u8, bytes: &[u8], mins: &[u8]) -> Opening {
+fn opening(
+    text: &[u8],
+    place: usize,
+    eol: u8,
+    bytes: &[u8],
+    mins: &[u8],
+) -> Option<(usize, usize)> {
     let fences = fence_tests::fence_table(bytes, mins);
     fence_tests::fence_opens(text, place, eol, &fences)
 }
@@ -117,22 +122,22 @@ fn closes(text: &[u8], place: usize, byte: u8, count: usize, g: Grammar) -> bool
 // Where the line ends that closes a fence, else where the text does.
 fn closed_at(text: &[u8], from: usize, byte: u8, count: usize, g: Grammar) -> usize {
     match fence_tests::fence_close_scan(text, from, byte, count, g) {
-        Close::Closed(_, end) => end,
-        Close::Unclosed => text.len(),
+        Some((_, end)) => end,
+        None => text.len(),
     }
 }
 
 // Whether the first line opens a fence; then its count, and where the fence is closed.
 fn opened(text: &[u8], byte: u8, least: u8, g: Grammar, reply: Numbers) -> Numbers {
     match opening(text, 0, g.eol, &[byte], &[least]) {
-        Opening::Opens(count, end) => {
+        Some((count, end)) => {
             let from = search::next_line(text.len(), end);
             reply
                 .and(1)
                 .size(count)
                 .size(closed_at(text, from, byte, count, g))
         }
-        Opening::Not => reply.and(2),
+        None => reply.and(2),
     }
 }
 

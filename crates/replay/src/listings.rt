@@ -1,5 +1,5 @@
 // Section 9: what `spans` prints.
-use common::refusal::Answer;
+use common::refusal::Refusal;
 use stored::numbers::Numbers;
 use stored::parts::bytes_part;
 
@@ -7,7 +7,7 @@ pub(crate) fn ask(text: &[u8], reply: Numbers) -> Numbers {
     let mut room = io::large_buffer();
     let listed: &mut [u8] = &mut room;
     match listing::listing(text, listed) {
-        Answer::Value(n) => reply.and(1).bytes(bytes_part(&listed[..], 0, n)),
-        Answer::Refused(r) => reply.refused(r),
+        Ok(n) => reply.and(1).bytes(bytes_part(&listed[..], 0, n)),
+        Err(r) => reply.refused(r),
     }
 }

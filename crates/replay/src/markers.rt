@@ -1,6 +1,7 @@
 // Section 3: the marker scanner.
 use crate::{answers, items};
-use block_marker::{BlockMarkerIter, MarkerFound, MarkerItem};
+use block_marker::{BlockMarkerIter, MarkerItem};
+use common::refusal::Refusal;
 use common::sets;
 use search::byte_at;
 use stored::answers::STEPS;
@@ -66,11 +67,11 @@ fn item(item: MarkerItem, reply: Numbers) -> Numbers {
     answers::span(item.span, reply.byte(item.marker))
 }
 
-fn found(found: MarkerFound, reply: Numbers) -> Numbers {
+fn found(found: Result<Option<MarkerItem>, Refusal>, reply: Numbers) -> Numbers {
     match found {
-        MarkerFound::Item(i) => item(i, reply.and(1)),
-        MarkerFound::Nothing => reply.and(2),
-        MarkerFound::Refused(r) => reply.refused(r),
+        Ok(Some(i)) => item(i, reply.and(1)),
+        Ok(None) => reply.and(2),
+        Err(r) => reply.refused(r),
     }
 }
 
@@ -87,7 +88,7 @@ fn run(fresh: BlockMarkerIter, text: &[u8], set: &[bool; 256], begun: Numbers) -
     while count < STEPS {
         let step = state.next(text, set);
         let found = step.found;
-        let MarkerFound::Item(i) = found else {
+        let Ok(Some(i)) = found else {
             return reply.counted(count);
         };
         reply = item(i, reply);

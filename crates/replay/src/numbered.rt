@@ -1,6 +1,7 @@
 // Section 4: the scanner of numbered items.
 use crate::{answers, items};
-use block_numbered::{BlockNumberedIter, NumberedFound, NumberedItem};
+use block_numbered::{BlockNumberedIter, NumberedItem};
+use common::refusal::Refusal;
 use common::sets;
 use search::byte_at;
 use stored::answers::STEPS;
@@ -66,11 +67,11 @@ fn item(item: NumberedItem, reply: Numbers) -> Numbers {
     answers::span(item.span, reply.and(item.number).byte(item.delimiter))
 }
 
-fn found(found: NumberedFound, reply: Numbers) -> Numbers {
+fn found(found: Result<Option<NumberedItem>, Refusal>, reply: Numbers) -> Numbers {
     match found {
-        NumberedFound::Item(i) => item(i, reply.and(1)),
-        NumberedFound::Nothing => reply.and(2),
-        NumberedFound::Refused(r) => reply.refused(r),
+        Ok(Some(i)) => item(i, reply.and(1)),
+        Ok(None) => reply.and(2),
+        Err(r) => reply.refused(r),
     }
 }
 
@@ -87,7 +88,7 @@ fn run(fresh: BlockNumberedIter, text: &[u8], set: &[bool; 256], begun: Numbers)
     while count < STEPS {
         let step = state.next(text, set);
         let found = step.found;
-        let NumberedFound::Item(i) = found else {
+        let Ok(Some(i)) = found else {
             return reply.counted(count);
         };
         reply = item(i, reply);

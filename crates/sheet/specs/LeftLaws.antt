@@ -1,5 +1,5 @@
 -- Laws of the items that are left to show, whatever the regions come from: what a turn tells of them, and the loops that count and write them. Assumes nothing.
-use Rattle.std.specs.Prelude.{◌≡◌, Bool, true, false, ℕ, suc, ◌+◌, ◌*◌, ◌/◌, ◌≤◌, ◌<◌, leb, length}
+use Rattle.std.specs.Prelude.{◌≡◌, Bool, true, false, ℕ, suc, ◌+◌, ◌*◌, ◌/◌, ◌≤◌, ◌<◌, leb, length, None, Some}
 use Rattle.std.proofs.Common.{sym, subst, ◌∙◌, zero-mul, suc-mul, arith, length-append, le-leb}
 use Rattle.std.proofs.Math.Path.{ap}
 use mathlib.Core.List.{List, [], ◌∷◌, map}
@@ -14,7 +14,6 @@ use Rattle.feed.specs.Feeds.{taken}
 use Rattle.feed.specs.Ahead.{ahead}
 use Rattle.feed.specs.FeedLaws.{Took, Started, took}
 use Rattle.feed.specs.declared.item.SheetItem.{SheetItem}
-use Rattle.feed.specs.declared.Head.TheVariants as head
 use Rattle.feed.specs.declared.Feed.{Feed}
 use Rattle.feed.specs.declared.Taken.{Taken}
 use Rattle.sheet.specs.Sheet.{inside, outside}
@@ -50,13 +49,13 @@ module _ (markers delims : List Bool) (s : List ℕ) (regions : List (List ℕ))
     took_it : Took markers delims s f t
     took_it = took markers delims s f t d r.within
 
-    pub left_end : (Goes : Type 0) → t.head ≡ head.End → Turned markers delims s regions Goes f seen.End t.rest
+    pub left_end : (Goes : Type 0) → t.head ≡ None → Turned markers delims s regions Goes f seen.End t.rest
     unfolding left outside
     left_end Goes e =
         let z : ahead markers delims s f ≡ [] = took_it.same ∙ rw e in
         record { same = ap (outside regions) z; goes = tt }
 
-    module _ (i : SheetItem) (e : t.head ≡ head.Item i) where
+    module _ (i : SheetItem) (e : t.head ≡ Some i) where
       next : ahead markers delims s f ≡ i ∷ ahead markers delims s t.rest
       next = took_it.same ∙ rw e
 

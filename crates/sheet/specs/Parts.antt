@@ -1,9 +1,7 @@
 -- What the parts of a work sheet ask and promise. Assumes nothing.
 -- The page's sentences stand in Sheet.antt; here are its parts, a function each.
-use Rattle.std.specs.Prelude.{◌≡◌, Bool, true, false, List, [], ◌∷◌, map, ℕ, ◌≤◌, ◌<◌, length}
+use Rattle.std.specs.Prelude.{◌≡◌, Bool, true, false, List, [], ◌∷◌, map, ℕ, ◌≤◌, ◌<◌, length, Err, None, Ok, Option, Result, Some}
 use Rattle.common.specs.Entry.{rows, room, Shaped, wide}
-use Rattle.common.specs.declared.refusal.Found.{Found}
-use Rattle.common.specs.declared.refusal.Found.TheVariants as found
 use Rattle.cover.specs.Cursor.{Rising, Ended}
 use Rattle.feed.specs.Items.{tested_place}
 use Rattle.feed.specs.Ahead.{Within, ahead}
@@ -15,6 +13,7 @@ use Rattle.sheet.specs.declared.item.Seen.{Seen}
 use Rattle.sheet.specs.declared.item.Seen.TheVariants as seen
 use Rattle.sheet.specs.declared.Walk.{Walk}
 use Rattle.sheet.specs.declared.SheetStep.{SheetStep}
+use Rattle.common.specs.declared.refusal.Refusal.{Refusal}
 
 -- ---- the items, whatever the regions come from
 -- what a turn tells, and the items behind it
@@ -53,10 +52,10 @@ pub record SortedRows (l : List ℕ) (n : ℕ) : Type 0 where
   pub order : Shaped 0 len (rows wide n l)
 
 -- whether a query found a region
-abbrev pub is_at : Found → Bool
-is_at (found.At q) = true
-is_at found.Nothing = false
-is_at (found.Refused r) = false
+abbrev pub is_at : Result (Option ℕ) Refusal → Bool
+is_at (Ok (Some q)) = true
+is_at (Ok None) = false
+is_at (Err r) = false
 
 -- whether a place is inside a region, and an index for the places from there on
 pub record Hid (l : List ℕ) (n place : ℕ) (q : Query) : Type 0 where

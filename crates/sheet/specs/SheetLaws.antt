@@ -1,5 +1,5 @@
 -- Laws of making a work sheet: an item written, the ways out of filling and of the entry, and that its promise leaves one answer and one run. Assumes nothing.
-use Rattle.std.specs.Prelude.{◌≡◌, refl, Bool, true, false, List, [], ◌∷◌, ℕ, ◌+◌, ◌*◌, ◌/◌, ◌≤◌, ◌<◌, length, set}
+use Rattle.std.specs.Prelude.{◌≡◌, refl, Bool, true, false, List, [], ◌∷◌, ℕ, ◌+◌, ◌*◌, ◌/◌, ◌≤◌, ◌<◌, length, set, Result}
 use Rattle.std.proofs.Math.Path.{sym, ap}
 use Rattle.std.proofs.Common.{subst, ◌∙◌, add_assoc, arith, lt-ltb, le-ltb}
 use Rattle.search.specs.Promise.{Gives}
@@ -8,7 +8,6 @@ use Rattle.common.specs.RefusalLaws.{answer_unique}
 use Rattle.common.specs.Entry.{rows, room, wide}
 use Rattle.common.specs.Lists.{RowPut, Wrote, Filled}
 use Rattle.common.specs.ListLaws as list
-use Rattle.common.specs.declared.refusal.Answer.{Answer}
 use Rattle.common.specs.declared.grammar.Grammar.{Grammar}
 use Rattle.cover.specs.Shape.{misshapen}
 use Rattle.cover.specs.ShapeLaws.{shape_fits, shape_order}
@@ -19,6 +18,7 @@ use Rattle.sheet.specs.Parts.{left, Ready}
 use Rattle.sheet.specs.LeftLaws.{started_onward, left-few}
 use Rattle.feed.specs.declared.item.SheetItem.{SheetItem}
 use Rattle.feed.specs.declared.Feed.{Feed}
+use Rattle.common.specs.declared.refusal.Refusal.{Refusal}
 
 pub five-numbers : (i : SheetItem) → length (five i) ≡ 5
 five-numbers i = refl
@@ -100,7 +100,7 @@ pub shape_told : (l : List ℕ) (n len : ℕ) (y : Bool) → y ≡ false → Giv
 shape_told l n len y e m = sym m.answer ∙ e
 
 -- two results for the same arguments are one: the answer, and the run that is left
-pub sheet_unique : {g : Grammar} {markers delims : List Bool} {l : List ℕ} {n : ℕ} {s out out' out'' : List ℕ} {r r' : Answer} → Sheeted g markers delims l n s out out' (told r) → Sheeted g markers delims l n s out out'' (told r')
+pub sheet_unique : {g : Grammar} {markers delims : List Bool} {l : List ℕ} {n : ℕ} {s out out' out'' : List ℕ} {r r' : Result ℕ Refusal} → Sheeted g markers delims l n s out out' (told r) → Sheeted g markers delims l n s out out'' (told r')
     → (r ≡ r') × (out' ≡ out'')
 sheet_unique {g = g} {markers = markers} {delims = delims} {l = l} {n = n} {s = s} {out = out} a b =
     (answer_unique {o = sheet_answer 5 g markers delims l n s out} (record { answer = a.answer }) (record { answer = b.answer }), a.list ∙ sym b.list)

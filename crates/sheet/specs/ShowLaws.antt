@@ -1,12 +1,10 @@
 -- Laws of what the list hides: the ways out of a query and of a turn. Assumes nothing.
-use Rattle.std.specs.Prelude.{◌≡◌, refl, Bool, true, false, List, [], ◌∷◌, ◌⊎◌, ℕ}
+use Rattle.std.specs.Prelude.{◌≡◌, refl, Bool, true, false, List, [], ◌∷◌, ◌⊎◌, ℕ, Err, None, Ok, Option, Result, Some}
 use Rattle.std.proofs.Common.{sym, ap, subst, ◌∙◌, inl, inr, arith}
 use Rattle.search.specs.Promise.{Gives, Steps}
 use Rattle.search.specs.SearchLaws.{decide}
 use Rattle.common.specs.Refusals.{Outcome, told_found}
 use Rattle.common.specs.Entry.{rows, wide}
-use Rattle.common.specs.declared.refusal.Found.{Found}
-use Rattle.common.specs.declared.refusal.Found.TheVariants as found
 use Rattle.cover.specs.Cursor.{cover_answer, cover_next, covers, coverage, Ended}
 use Rattle.cover.proofs.CursorLaws.{query_ended}
 use Rattle.cover.specs.declared.cursor.Cover.{Cover}
@@ -16,12 +14,12 @@ use Rattle.feed.specs.Feeds.{taken}
 use Rattle.sheet.specs.Parts.{SortedRows, is_at, Hid, Ready, TurnedBy}
 use Rattle.sheet.specs.LeftLaws.{item_later, item-onward, left_end, left_hidden, left-shown}
 use Rattle.feed.specs.declared.item.SheetItem.{SheetItem}
-use Rattle.feed.specs.declared.Head.TheVariants as head
 use Rattle.feed.specs.declared.Taken.{Taken}
 use Rattle.sheet.specs.declared.Walk.{Walk}
 use Rattle.sheet.specs.declared.SheetStep.{SheetStep}
 use Rattle.sheet.specs.declared.Query.{Query}
 use Rattle.sheet.specs.declared.item.Seen.TheVariants as seen
+use Rattle.common.specs.declared.refusal.Refusal.{Refusal}
 
 -- ---- a query
 -- whether a list of ends has one
@@ -38,11 +36,11 @@ covered p (r ∷ l) = by (covered p l) (decide (covers p r))
     by ih (inl u) = rw (u, coverage)
     by ih (inr u) = rw (u, coverage) ih
 
-at_some : (f : Found) → is_at f ≡ some (told_found f).values
+at_some : (f : Result (Option ℕ) Refusal) → is_at f ≡ some (told_found f).values
 unfolding some
-at_some (found.At q) = refl
-at_some found.Nothing = refl
-at_some (found.Refused r) = refl
+at_some (Ok (Some q)) = refl
+at_some (Ok None) = refl
+at_some (Err r) = refl
 
 -- the cursor's answer is plain coverage
 pub hid : (l : List ℕ) (n index place p : ℕ) (c : Cover) (b : Bool) → SortedRows l n → Ended wide l n index place → Gives place p → Steps (cover_answer wide l n index p) (cover_next wide l n index p) (told_found c.found) c.index → Gives (is_at c.found) b
@@ -56,10 +54,10 @@ hid l n index place p c b o e gp q g =
 
 -- ---- a turn
 module _ (markers delims : List Bool) (l : List ℕ) (n : ℕ) (s : List ℕ) (f : Walk) (t : Taken) where
-  pub turned_end : (k : ℕ) → t.head ≡ head.End → Gives (taken markers delims s f.feed) t → Ready markers delims l n s f → TurnedBy markers delims l n s f (record { seen = seen.End; rest = record { feed = t.rest; index = k } })
+  pub turned_end : (k : ℕ) → t.head ≡ None → Gives (taken markers delims s f.feed) t → Ready markers delims l n s f → TurnedBy markers delims l n s f (record { seen = seen.End; rest = record { feed = t.rest; index = k } })
   turned_end k e g r = left_end markers delims s (rows wide n l) r.low f.feed r.onward t g _ e
 
-  module _ (i : SheetItem) (e : t.head ≡ head.Item i) (g : Gives (taken markers delims s f.feed) t) (r : Ready markers delims l n s f) where
+  module _ (i : SheetItem) (e : t.head ≡ Some i) (g : Gives (taken markers delims s f.feed) t) (r : Ready markers delims l n s f) where
     -- the item's place is not before the last one
     pub item_ended : Ended wide l n f.index (tested_place i)
     item_ended = record { within = r.ended.within; before = λ j h. omega (arith, r.ended.before j h, item_later markers delims s (rows wide n l) r.low f.feed r.onward t g i e) }

@@ -16,12 +16,12 @@ ghost use Rattle.sheet.specs.Sheet.{five, sheet_of, Sheeted};
 ghost use Rattle.sheet.specs.Parts.{is_at, SortedRows, Hid, left, Ready, TurnedBy};
 
 use common::grammar::Grammar;
-use common::refusal::{Answer, Found, Refusal};
+use common::refusal::Refusal;
 use common::span::MAX_INPUT_LEN;
 use cover::cursor::covering_end;
 use cover::shape::is_misshapen;
 use feed::item::{SheetItem, tested_place};
-use feed::{Feed, Head, start, take};
+use feed::{Feed, start, take};
 use item::{Seen, put_item};
 
 // Whether an item is hidden, and the cursor's next index.
@@ -46,13 +46,13 @@ pub struct SheetStep {
 }
 
 // Whether a query found a region.
-pub fn is_at(found: Found) -> bool
+pub fn is_at(found: Result<Option<usize>, Refusal>) -> bool
     ensures { Gives (is_at found) result }
 {
     match found {
-        Found::At(_) => true,
-        Found::Nothing => false,
-        Found::Refused(_) => false,
+        Ok(Some(_)) => true,
+        Ok(None) => false,
+        Err(_) => false,
     }
 }
 
@@ -86,14 +86,14 @@ fn turn(
     let head = taken.head;
     let feed = taken.rest;
     match head {
-        Head::End => SheetStep {
+        None => SheetStep {
             seen: Seen::End,
             rest: Walk {
                 feed,
                 index: w.index,
             },
         },
-        Head::Item(i) => {
+        Some(i) => {
             let h = hides(list, count, w.index, i);
             let rest = Walk {
                 feed,
@@ -194,7 +194,7 @@ fn fill(
     list: &[u32],
     count: usize,
     out: &mut [u32],
-) -> Answer
+) -> Result<usize, Refusal>
     requires src_len_bound { length src.now ≤ 4294967295 }
     requires src_value { misshapen list.now count (length src.now) ≡ false }
     ensures { Filled five 5 (sheet_of g markers.now delims.now list.now count src.now)
@@ -206,13 +206,13 @@ fn fill(
         index: 0,
     };
     if src.len() <= most {
-        return Answer::Value(write_items(walk, src, markers, delims, list, count, out));
+        return Ok(write_items(walk, src, markers, delims, list, count, out));
     }
     let n = count_items(walk, src, markers, delims, list, count);
     if most < n {
-        return Answer::Refused(Refusal::NoRoom);
+        return Err(Refusal::NoRoom);
     }
-    Answer::Value(write_items(walk, src, markers, delims, list, count, out))
+    Ok(write_items(walk, src, markers, delims, list, count, out))
 }
 
 // Writes the work sheet of a text: the marker and numbered items, by the bytes of two sets, whose marker or delimiter is in none of the
@@ -227,15 +227,15 @@ pub fn sheet(
     list: &[u32],
     count: usize,
     out: &mut [u32],
-) -> Answer
+) -> Result<usize, Refusal>
     ensures { Sheeted g markers.now delims.now list.now count src.now out.old
         out.new (told result) }
 {
     if src.len() > MAX_INPUT_LEN {
-        return Answer::Refused(Refusal::TextTooLong);
+        return Err(Refusal::TextTooLong);
     }
     if is_misshapen(list, count, src.len()) {
-        return Answer::Refused(Refusal::ListMisshapen);
+        return Err(Refusal::ListMisshapen);
     }
     fill(src, g, markers, delims, list, count, out)
 }

@@ -1,5 +1,5 @@
 -- Laws of the regions as they come: the loop that moves on to the next one, and the ways out of the test. Assumes nothing.
-use Rattle.std.specs.Prelude.{◌≡◌, refl, false, List, [], ◌∷◌, map, ℕ, suc, ◌-◌, ◌≤◌, ◌<◌, ltb, leb, length}
+use Rattle.std.specs.Prelude.{◌≡◌, refl, false, List, [], ◌∷◌, map, ℕ, suc, ◌-◌, ◌≤◌, ◌<◌, ltb, leb, length, None, Option, Some}
 use Rattle.std.proofs.Math.Path.{sym}
 use Rattle.std.proofs.Common.{ap, ◌∙◌, arith, le-ltb, le-leb}
 use Rattle.std.proofs.Math.Bool.{and-false, or-false}
@@ -13,13 +13,12 @@ use Rattle.region.specs.NextLaws.{from_start, next_none, next_some, next-ahead}
 use Rattle.cover.specs.Cursor.{covers}
 use Rattle.region.specs.Views.{view_next, found_region}
 use Rattle.region.specs.declared.Region.{Region as Told}
-use Rattle.region.specs.declared.Next.{Next}
-use Rattle.region.specs.declared.Next.TheVariants as next
 use Rattle.sheet.specs.Sheet.{inside}
 use Rattle.region.specs.Memory.{KeptNext}
 use Rattle.region.specs.MemoryLaws.{Sound, keeps_told, keeps_sound, keeps_ended}
 use Rattle.sheeting.specs.Hiding.{HidesFrom, PassedOn}
 use Rattle.sheeting.specs.declared.hiding.Hider.{Hider}
+use Rattle.region.specs.declared.Region.{Region}
 
 -- a region that ends at or before a place
 covers-past : (p a b : ℕ) → b ≤ p → covers p (a ∷ b ∷ []) ≡ false
@@ -74,11 +73,11 @@ module _ (g : Gram) (s : List ℕ) where
           let e : inside (map row_of (regions_from g s h.next)) place ≡ false = inside_before h.next (length s) place (regions_from g s h.next) (from_order h.next w.here) (omega (arith, w.apart)) in
           record { passed = record { hides = w; hidden = w.same place (omega arith) ∙ rw e (or-false (covers place (h.start ∷ h.stop ∷ []))) }; sound = v.sound }
 
-      module _ (d : Next) (m' : List ℕ) (kept : KeptNext g s m h.next d m') where
+      module _ (d : Option (Region × ℕ)) (m' : List ℕ) (kept : KeptNext g s m h.next d m') where
         told : Gives (found_region (next_region g s h.next)) (view_next d)
         told = keeps_told g s m h.next w.here v.sound d m' kept
 
-        pub pass_next : (r : Told) (n : ℕ) → d ≡ next.Region r n → h.stop ≤ place → Passing g s m' place (record { start = r.start; stop = r.end; next = n })
+        pub pass_next : (r : Told) (n : ℕ) → d ≡ Some (r, n) → h.stop ≤ place → Passing g s m' place (record { start = r.start; stop = r.end; next = n })
         unfolding inside
         pass_next r n e l =
             let a = next-ahead g s h.next w.here d told r n e in
@@ -91,10 +90,10 @@ module _ (g : Gram) (s : List ℕ) where
               sound = keeps_sound g s m h.next w.here v.sound d m' kept r n e;
             }
 
-        pub pass_less : (r : Told) (n : ℕ) → d ≡ next.Region r n → length s - n < length s - h.next
+        pub pass_less : (r : Told) (n : ℕ) → d ≡ Some (r, n) → length s - n < length s - h.next
         pass_less r n e = omega (arith, next-ahead g s h.next w.here d told r n e)
 
-        pub pass_none : d ≡ next.Nothing → PassedOn g s m' place (record { start = h.start; stop = h.stop; next = length s })
+        pub pass_none : d ≡ None → PassedOn g s m' place (record { start = h.start; stop = h.stop; next = length s })
         unfolding inside
         pass_none e =
             let none : (p : ℕ) → place ≤ p → inside (map row_of (regions g s)) p ≡ covers p (h.start ∷ h.stop ∷ []) = λ p k. w.same p k ∙ rw (next_none g s h.next w.here d told e) (or-false (covers p (h.start ∷ h.stop ∷ []))) in

@@ -1,5 +1,5 @@
 -- Laws of the work sheet of a text by its rules: the ways out of a turn, what lets the loops go on, and the ways out of the entry. Assumes nothing.
-use Rattle.std.specs.Prelude.{◌≡◌, refl, Bool, true, false, List, [], ◌∷◌, map, ℕ, ◌+◌, ◌*◌, ◌/◌, ◌≤◌, ◌<◌, ltb, leb, length, replicate}
+use Rattle.std.specs.Prelude.{◌≡◌, refl, Bool, true, false, List, [], ◌∷◌, map, ℕ, ◌+◌, ◌*◌, ◌/◌, ◌≤◌, ◌<◌, ltb, leb, length, replicate, None, Some}
 use Rattle.std.proofs.Common.{sym, ap, subst, ◌∙◌, append-nil, arith, lt-ltb, le-ltb}
 use Rattle.search.specs.Promise.{Gives}
 use Rattle.common.specs.Refusals.{given}
@@ -26,7 +26,6 @@ use Rattle.sheet.specs.LeftLaws.{started_onward, item_later, item-onward, left_e
 use Rattle.feed.specs.declared.item.SheetItem.{SheetItem}
 use Rattle.sheet.specs.declared.item.Seen.{Seen}
 use Rattle.sheet.specs.declared.item.Seen.TheVariants as seen
-use Rattle.feed.specs.declared.Head.TheVariants as head
 use Rattle.feed.specs.declared.Feed.{Feed}
 use Rattle.feed.specs.declared.Taken.{Taken}
 use Rattle.cells.specs.Bytes.{four}
@@ -74,10 +73,10 @@ module _ {markers delims : List Bool} {s : List ℕ} {regions : List (List ℕ)}
 
 -- ---- a turn
 module _ (g : Gram) (markers delims : List Bool) (s : List ℕ) (w : Sieve) (t : Taken) where
-  pub turned_end : (m : List ℕ) → t.head ≡ head.End → Gives (taken markers delims s w.feed) t → SieveReady g markers delims s w → SieveTurned g markers delims s m w (record { seen = seen.End; rest = record { feed = t.rest; hider = w.hider } })
+  pub turned_end : (m : List ℕ) → t.head ≡ None → Gives (taken markers delims s w.feed) t → SieveReady g markers delims s w → SieveTurned g markers delims s m w (record { seen = seen.End; rest = record { feed = t.rest; hider = w.hider } })
   turned_end m e d r = left_end markers delims s (map row_of (regions g s)) r.low w.feed r.onward t d _ e
 
-  module _ (i : SheetItem) (e : t.head ≡ head.Item i) (d : Gives (taken markers delims s w.feed) t) (r : SieveReady g markers delims s w) (p : ℕ) (at : Gives (tested_place i) p) where
+  module _ (i : SheetItem) (e : t.head ≡ Some i) (d : Gives (taken markers delims s w.feed) t) (r : SieveReady g markers delims s w) (p : ℕ) (at : Gives (tested_place i) p) where
     -- the item's place is not before the last one
     pub item_hides : HidesFrom g s p w.hider
     item_hides = hides_later g s p w.hider r.low (omega (arith, item_later markers delims s (map row_of (regions g s)) r.low w.feed r.onward t d i e, at.answer)) r.hides

@@ -7,7 +7,7 @@ ghost use Rattle.rules.specs.Rows.{gram_by};
 ghost use Rattle.region.specs.MemoryLaws.{Sound};
 ghost use Rattle.sheeting.specs.Hiding.{HidesFrom, PassedOn};
 
-use region::{Next, next_region};
+use region::next_region;
 use rules::rows::Rows;
 use rules::search_bytes::Alphabet;
 
@@ -40,14 +40,14 @@ pub(crate) fn pass(
             return h;
         }
         match next_region(text, h.next, alphabet, fences, rows, dead) {
-            Next::Region(r, next) => {
+            Some((r, next)) => {
                 h = Hider {
                     start: r.start,
                     stop: r.end,
                     next,
                 };
             }
-            Next::Nothing => {
+            None => {
                 return Hider {
                     start: h.start,
                     stop: h.stop,

@@ -21,7 +21,7 @@ use common::grammar::Grammar;
 use common::sets::byte_set;
 use common::span::MAX_INPUT_LEN;
 use feed::item::{SheetItem, tested_place};
-use feed::{Feed, Head, start, take};
+use feed::{Feed, start, take};
 use hiding::{Hider, hides, pass};
 use lines::fence_tests::fence_table;
 use rules::rows::Rows;
@@ -90,14 +90,14 @@ fn turn(
     let head = taken.head;
     let feed = taken.rest;
     match head {
-        Head::End => Sieved {
+        None => Sieved {
             seen: Seen::End,
             rest: Sieve {
                 feed,
                 hider: before,
             },
         },
-        Head::Item(i) => {
+        Some(i) => {
             let place = tested_place(i);
             let hider = pass(before, place, text, alphabet, fences, rows, dead);
             let rest = Sieve { feed, hider };

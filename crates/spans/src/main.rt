@@ -2,7 +2,7 @@
 // docs/PROMISES.md, `listing`, says what the numbers of a line are.
 #![tactic(auto)]
 
-use common::refusal::Answer;
+use common::refusal::Refusal;
 use listing::listing;
 
 // The descriptor that the program reads.
@@ -36,9 +36,9 @@ fn print_listing(input: &mut [u8], output: &mut [u8]) {
 
 fn print_listing_of(text: &[u8], output: &mut [u8]) {
     match listing(text, output) {
-        Answer::Value(n) => {
+        Ok(n) => {
             io::write_all(STDOUT, &output[..n]);
         }
-        Answer::Refused(_) => {} // never: there is room
+        Err(_) => {} // never: there is room
     }
 }

@@ -1,5 +1,5 @@
 -- Laws of runs of numbers. Assumes nothing.
-use Rattle.std.specs.Prelude.{◌≡◌, Bool, true, false, List, ℕ, ◌+◌, ◌≤◌, ◌<◌, length, set}
+use Rattle.std.specs.Prelude.{◌≡◌, Bool, true, false, List, ℕ, ◌+◌, ◌≤◌, ◌<◌, length, set, Err, None, Ok, Option, Result, Some}
 use Rattle.std.proofs.Common.{sym, ◌∙◌, le-leb}
 use Rattle.std.proofs.Math.Path.{ap}
 use Rattle.std.proofs.lemmas.Bool.{lt-leb}
@@ -7,8 +7,6 @@ use Rattle.common.specs.Sets.{as_flag}
 use Rattle.search.specs.Promise.{Gives}
 use Rattle.common.specs.Refusals.{number_of}
 use Rattle.common.specs.declared.refusal.Refusal.{Refusal}
-use Rattle.common.specs.declared.refusal.Found.{Found}
-use Rattle.common.specs.declared.refusal.Found.TheVariants.{At, Nothing, Refused}
 use Rattle.stored.specs.Fold.{fold}
 use Rattle.stored.specs.FoldLaws.{Folds, folds_all}
 use Rattle.stored.specs.Sums.{clipped, fed_answer}
@@ -49,12 +47,12 @@ module _ (n : Numbers) where
   refusal_none e = ap (λ (k : ℕ). record { cells = n.cells; count = k; over = n.over; cut = n.cut; sums = n.sums }) (sym (rw e))
 
 -- ---- what was found
-module _ (n : Numbers) (f : Found) (r : Numbers) where
-  pub found_at : (p : ℕ) → f ≡ At p → Gives (said_value n p) r → r ≡ said_found n f
+module _ (n : Numbers) (f : Result (Option ℕ) Refusal) (r : Numbers) where
+  pub found_at : (p : ℕ) → f ≡ Ok (Some p) → Gives (said_value n p) r → r ≡ said_found n f
   found_at p e g = g.answer ∙ rw e
 
-  pub found_none : f ≡ Nothing → Gives (with_number n 2) r → r ≡ said_found n f
+  pub found_none : f ≡ (Ok None) → Gives (with_number n 2) r → r ≡ said_found n f
   found_none e g = g.answer ∙ rw e
 
-  pub found_refused : (why : Refusal) → f ≡ Refused why → Gives (said_refusal n (number_of why)) r → r ≡ said_found n f
+  pub found_refused : (why : Refusal) → f ≡ Err why → Gives (said_refusal n (number_of why)) r → r ≡ said_found n f
   found_refused why e g = g.answer ∙ rw e

@@ -1,14 +1,13 @@
 -- Runs of numbers, and what a list says of an answer. Assumes nothing.
 -- The head of the first list: "A text, and any other list, is its length and its numbers." and "An answer is 1 and the value, or 2 for None,
 -- or 0 where the Rust panicked."
-use Rattle.std.specs.Prelude.{true, false, cond, List, ℕ, ◌+◌, leb, length, set, replicate}
+use Rattle.std.specs.Prelude.{true, false, cond, List, ℕ, ◌+◌, leb, length, set, replicate, Err, None, Ok, Option, Result, Some}
 use Rattle.common.specs.Refusals.{number_of}
-use Rattle.common.specs.declared.refusal.Found.{Found}
-use Rattle.common.specs.declared.refusal.Found.TheVariants.{At, Nothing, Refused}
 use Rattle.stored.specs.Fold.{fold}
 use Rattle.stored.specs.Sums.{clipped, no_sums, fed_answer, counting, counted_sums}
 use Rattle.stored.specs.declared.sums.Sums.{Sums}
 use Rattle.stored.specs.declared.numbers.Numbers.{Numbers}
+use Rattle.common.specs.declared.refusal.Refusal.{Refusal}
 
 -- no number yet, after what was fed to the sums
 abbrev pub after_sums : Sums → Numbers
@@ -56,10 +55,10 @@ unfoldable pub said_refusal : Numbers → ℕ → Numbers
 said_refusal n k = with_number (cut_off (with_number n 0)) k
 
 -- "1 and the value, or 2 for None, or 0"
-abbrev pub said_found : Numbers → Found → Numbers
-said_found n (At p) = said_value n p
-said_found n Nothing = with_number n 2
-said_found n (Refused r) = said_refusal n (number_of r)
+abbrev pub said_found : Numbers → Result (Option ℕ) Refusal → Numbers
+said_found n (Ok (Some p)) = said_value n p
+said_found n (Ok None) = with_number n 2
+said_found n (Err r) = said_refusal n (number_of r)
 
 -- the 0 alone where a refusal came
 unfoldable pub up_to_refusal : Numbers → Numbers

@@ -4,7 +4,7 @@ ghost use Rattle.common.specs.Refusals.{number_of};
 ghost use Rattle.stored.specs.Numbers.{said_value, said_refusal, said_found, up_to_refusal};
 
 use crate::numbers::Numbers;
-use common::refusal::{Found, Refusal};
+use common::refusal::Refusal;
 
 // More steps than any stored run has. A run that doesn't end by then is cut, and differs.
 pub const STEPS: u32 = 2000;
@@ -24,13 +24,13 @@ impl Numbers {
         all.and(why.number())
     }
 
-    pub fn found(self, f: Found) -> Self
+    pub fn found(self, f: Result<Option<usize>, Refusal>) -> Self
         ensures { Gives (said_found self f) result }
     {
         match f {
-            Found::At(place) => self.value(place),
-            Found::Nothing => self.and(2),
-            Found::Refused(r) => self.refused(r),
+            Ok(Some(place)) => self.value(place),
+            Ok(None) => self.and(2),
+            Err(r) => self.refused(r),
         }
     }
 

@@ -5,8 +5,8 @@ use Rattle.amend.proofs.amend.Goals as goal
 pub settle-requires : goal.settle-requires
 settle-requires c = search ready_told
 
-pub returns-in-Refused : goal.returns-in-Refused
-returns-in-Refused c = search amended_refused
+pub returns-in-Err : goal.returns-in-Err
+returns-in-Err c = search amended_refused
 
-pub returns-in-Fine : goal.returns-in-Fine
-returns-in-Fine c = search amended_settled
+pub returns-in-Ok : goal.returns-in-Ok
+returns-in-Ok c = search amended_settled

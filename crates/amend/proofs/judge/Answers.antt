@@ -14,8 +14,8 @@ is_off_joint-requires c = search judged_fair
 pub returns-then-is_off_joint : goal.returns-then-is_off_joint
 returns-then-is_off_joint c = search judged-joint
 
-pub returns-in-Refused : goal.returns-in-Refused
-returns-in-Refused c = search judged_early
+pub returns-in-Err : goal.returns-in-Err
+returns-in-Err c = search judged_early
 
 pub returns-else-is_off_joint : goal.returns-else-is_off_joint
 returns-else-is_off_joint c = search judged_fine

@@ -6,8 +6,8 @@ use Rattle.amending.proofs.amend_columns.Goals as goal
 pub with_columns-requires : goal.with_columns-requires
 with_columns-requires c = search ready_told
 
-pub returns-in-Refused : goal.returns-in-Refused
-returns-in-Refused c = search bytes_refused
+pub returns-in-Err : goal.returns-in-Err
+returns-in-Err c = search bytes_refused
 
-pub returns-in-Fine : goal.returns-in-Fine
-returns-in-Fine c = search bytes_settled
+pub returns-in-Ok : goal.returns-in-Ok
+returns-in-Ok c = search bytes_settled

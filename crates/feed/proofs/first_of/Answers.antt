@@ -8,11 +8,11 @@ returns-then-y-x c = search pick_rules
 pub returns-else-y-x : goal.returns-else-y-x
 returns-else-y-x c = search pick_rules
 
-pub returns-in-End-number : goal.returns-in-End-number
-returns-in-End-number c = search pick_rules
+pub returns-in-None-number : goal.returns-in-None-number
+returns-in-None-number c = search pick_rules
 
-pub returns-in-Item-number-2 : goal.returns-in-Item-number-2
-returns-in-Item-number-2 c = search pick_rules
+pub returns-in-Some-number-2 : goal.returns-in-Some-number-2
+returns-in-Some-number-2 c = search pick_rules
 
-pub returns-in-End-number-2 : goal.returns-in-End-number-2
-returns-in-End-number-2 c = search pick_rules
+pub returns-in-None-number-2 : goal.returns-in-None-number-2
+returns-in-None-number-2 c = search pick_rules

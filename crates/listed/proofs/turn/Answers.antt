@@ -9,8 +9,8 @@ hides-h-requires c = search (item_ended, rules)
 pub returns-then-h : goal.returns-then-h
 returns-then-h c = search turned_hidden
 
-pub returns-in-End : goal.returns-in-End
-returns-in-End c = search turned_end
+pub returns-in-None : goal.returns-in-None
+returns-in-None c = search turned_end
 
 pub returns-else-h : goal.returns-else-h
 returns-else-h c = search turned_shown

@@ -11,5 +11,5 @@ loop-next-smaller c = search counting_less
 pub loop-next-preserved : goal.loop-next-preserved
 loop-next-preserved c = search counting-next
 
-pub returns-in-Nothing : goal.returns-in-Nothing
-returns-in-Nothing c = search counting_end
+pub returns-in-None : goal.returns-in-None
+returns-in-None c = search counting_end

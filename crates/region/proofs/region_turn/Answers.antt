@@ -5,8 +5,8 @@ use Rattle.region.proofs.region_turn.Goals as goal
 pub returns-then-p-src : goal.returns-then-p-src
 returns-then-p-src c = search turn_stop
 
-pub returns-in-Opens : goal.returns-in-Opens
-returns-in-Opens c = search turn_fence
+pub returns-in-Some : goal.returns-in-Some
+returns-in-Some c = search turn_fence
 
-pub returns-in-Not : goal.returns-in-Not
-returns-in-Not c = search turn-inline
+pub returns-in-None : goal.returns-in-None
+returns-in-None c = search turn-inline

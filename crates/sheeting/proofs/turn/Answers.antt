@@ -8,8 +8,8 @@ pass-hider-requires c = search item_hides
 pub returns-then-hides : goal.returns-then-hides
 returns-then-hides c = search turned_hidden
 
-pub returns-in-End : goal.returns-in-End
-returns-in-End c = search turned_end
+pub returns-in-None : goal.returns-in-None
+returns-in-None c = search turned_end
 
 pub returns-else-hides : goal.returns-else-hides
 returns-else-hides c = search turned_shown

@@ -5,5 +5,5 @@ use Rattle.spans.proofs.print_listing_of.Goals as goal
 pub slice_bounds-write_all-end : goal.slice_bounds-write_all-end
 slice_bounds-write_all-end c = search listing_within
 
-pub slice_bounds-write_all-end-in-Value : goal.slice_bounds-write_all-end-in-Value
-slice_bounds-write_all-end-in-Value c = search listing_part
+pub slice_bounds-write_all-end-in-Ok : goal.slice_bounds-write_all-end-in-Ok
+slice_bounds-write_all-end-in-Ok c = search listing_part

@@ -5,8 +5,8 @@ use Rattle.amend.proofs.own.survey.Goals as goal
 pub loop-r-init : goal.loop-r-init
 loop-r-init c = search surveying_first
 
-pub returns-in-Nothing : goal.returns-in-Nothing
-returns-in-Nothing c = search surveying_end
+pub returns-in-None : goal.returns-in-None
+returns-in-None c = search surveying_end
 
 pub loop-r-smaller : goal.loop-r-smaller
 loop-r-smaller c = search surveying_less

@@ -6,11 +6,11 @@ use Rattle.amending.proofs.own.write_own.Goals as goal
 pub loop-r-init : goal.loop-r-init
 loop-r-init c = search (moving_first, listed_long)
 
-pub shape_of-out-in-Nothing : goal.shape_of-out-in-Nothing
-shape_of-out-in-Nothing c = search moving_same
+pub shape_of-out-in-None : goal.shape_of-out-in-None
+shape_of-out-in-None c = search moving_same
 
-pub returns-in-Nothing : goal.returns-in-Nothing
-returns-in-Nothing c = search moving_end
+pub returns-in-None : goal.returns-in-None
+returns-in-None c = search moving_end
 
 pub put_moved-at-requires : goal.put_moved-at-requires
 put_moved-at-requires c = search moving_puts_bytes

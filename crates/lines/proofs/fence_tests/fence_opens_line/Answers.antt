@@ -2,8 +2,8 @@
 use Rattle.lines.specs.FenceLaws.{enters_yes, enters_no}
 use Rattle.lines.proofs.fence_tests.fence_opens_line.Goals as goal
 
-pub returns-in-Opens : goal.returns-in-Opens
-returns-in-Opens c = search enters_yes
+pub returns-in-Some : goal.returns-in-Some
+returns-in-Some c = search enters_yes
 
-pub returns-in-Not : goal.returns-in-Not
-returns-in-Not c = search enters_no
+pub returns-in-None : goal.returns-in-None
+returns-in-None c = search enters_no

@@ -1,13 +1,15 @@
 -- `moved_numbered` meets its contract. Assumes nothing.
+use Rattle.std.specs.Prelude.{Ok}
+use Rattle.std.proofs.Common.{ap, ◌∙◌}
 use Rattle.block_numbered.specs.Numbered.{told}
 use Rattle.panel.specs.StateLaws.{moved_told, moved-refused}
 use Rattle.panel.proofs.states.moved_numbered.Goals as goal
 
-pub returns-in-Item : goal.returns-in-Item
-returns-in-Item c = search (moved_told told)
+pub returns-in-Ok-Some : goal.returns-in-Ok-Some
+returns-in-Ok-Some c = let m = c.in-Ok-Some.is ∙ ap Ok (rw c.in-Ok-Some.is at c.in-Ok-Some.field-0-is) in search (moved_told told)
 
-pub returns-in-Nothing : goal.returns-in-Nothing
-returns-in-Nothing c = search (moved_told told)
+pub returns-in-Ok-None : goal.returns-in-Ok-None
+returns-in-Ok-None c = let m = c.in-Ok-None.is ∙ ap Ok (rw c.in-Ok-None.is at c.in-Ok-None.field-0-is) in search (moved_told told)
 
-pub returns-in-Refused : goal.returns-in-Refused
-returns-in-Refused c = search (moved-refused told)
+pub returns-in-Err : goal.returns-in-Err
+returns-in-Err c = search (moved-refused told)

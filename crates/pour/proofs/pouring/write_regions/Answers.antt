@@ -15,8 +15,8 @@ loop-r-smaller c = search pouring_less
 pub loop-r-preserved : goal.loop-r-preserved
 loop-r-preserved c = search pouring_next
 
-pub shape_of-out-in-Nothing : goal.shape_of-out-in-Nothing
-shape_of-out-in-Nothing c = search pouring_same
+pub shape_of-out-in-None : goal.shape_of-out-in-None
+shape_of-out-in-None c = search pouring_same
 
-pub returns-in-Nothing : goal.returns-in-Nothing
-returns-in-Nothing c = search pouring_end
+pub returns-in-None : goal.returns-in-None
+returns-in-None c = search pouring_end

@@ -14,5 +14,5 @@ loop-h-smaller c = search pass_less
 pub loop-h-preserved : goal.loop-h-preserved
 loop-h-preserved c = search pass_next
 
-pub returns-in-Nothing : goal.returns-in-Nothing
-returns-in-Nothing c = search pass_none
+pub returns-in-None : goal.returns-in-None
+returns-in-None c = search pass_none
