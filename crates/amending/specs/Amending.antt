@@ -6,7 +6,7 @@ use Rattle.common.specs.Entry.{flatten}
 use Rattle.common.specs.declared.grammar.Grammar.{Grammar}
 use Rattle.region.specs.Region.{Listed, row}
 use Rattle.cells.specs.Bytes.{four, cells, row_bytes}
-use Rattle.cells.specs.ByteRules.{ColumnRuns, uneven_columns, columns_in}
+use Rattle.rules.specs.ByteRules.{ColumnRuns, uneven_columns, columns_in}
 use Rattle.cells.specs.Poured.{ListRuns, Poured}
 use Rattle.amend.specs.Amend.{Edit}
 use Rattle.amend.specs.Amended.{amended_list, amend_answer}

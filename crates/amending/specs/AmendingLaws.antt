@@ -19,8 +19,8 @@ use Rattle.rules.specs.declared.search_bytes.Alphabet.{Alphabet}
 use Rattle.joint.specs.Joint.{open_end, line_end_is_mark}
 use Rattle.cells.specs.Bytes.{cells, row_bytes}
 use Rattle.cells.specs.CellLaws.{length-cells}
-use Rattle.cells.specs.RuleLaws.{gram_folded}
-use Rattle.cells.specs.ByteRules.{ColumnRuns, inline_in, uneven_columns, columns_in}
+use Rattle.rules.specs.RuleLaws.{gram_folded}
+use Rattle.rules.specs.ByteRules.{ColumnRuns, inline_in, uneven_columns, columns_in}
 use Rattle.cells.specs.Reply.{Replied}
 use Rattle.cells.specs.Poured.{ListRuns, Poured, PouredAs}
 use Rattle.cells.specs.PouredLaws.{poured_unique, poured_off, pour_full, pour_done}

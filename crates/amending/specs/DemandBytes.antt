@@ -20,7 +20,7 @@ use Rattle.rules.specs.Columns.{unequal, gram_of}
 use Rattle.context.specs.Build.{built_answer, built_list, Built}
 use Rattle.cells.specs.Bytes.{cells, fourfold, row_bytes}
 use Rattle.cells.specs.CellLaws.{length-cells}
-use Rattle.cells.specs.ByteRules.{ColumnRuns, uneven, uneven_columns, columns_in}
+use Rattle.rules.specs.ByteRules.{ColumnRuns, uneven, uneven_columns, columns_in}
 use Rattle.cells.specs.Reply.{written, fitted, answered}
 use Rattle.cells.specs.ReplyLaws.{enough}
 use Rattle.cells.specs.BackLaws.{reply_served}

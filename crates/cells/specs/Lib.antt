@@ -4,7 +4,5 @@ pub mod ByteLaws
 pub mod BackLaws
 pub mod ReplyLaws
 pub mod CellLaws
-pub mod ByteRules
-pub mod RuleLaws
 pub mod Poured
 pub mod PouredLaws

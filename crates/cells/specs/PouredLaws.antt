@@ -1,10 +1,10 @@
 -- Laws of lists poured into a run of bytes: that a promise leaves one result, and the ways out of pouring and of building. Assumes nothing.
-use Rattle.std.specs.Prelude.{◌≡◌, Bool, true, not, ◌||◌, List, [], ◌∷◌, ◌⊎◌, ℕ, ◌/◌, ◌%◌, ◌≤◌, ◌<◌, eqb, leb, length}
+use Rattle.std.specs.Prelude.{◌≡◌, Bool, true, List, [], ◌∷◌, ◌⊎◌, ℕ, ◌/◌, ◌≤◌, ◌<◌, eqb, leb, length}
 use Rattle.std.proofs.Math.Path.{refl, sym, subst}
 use Rattle.std.proofs.Common.{◌∙◌, inl, inr}
 use Rattle.std.proofs.Math.Bool.{false}
 use Rattle.std.proofs.Math.Dec.{ltb}
-use borrow.Author.Tests.{lt-ltb, le-ltb, leb-true, leb-false, eq-eqb, ne_eqb}
+use borrow.Author.Tests.{lt-ltb, le-ltb, leb-true, leb-false}
 use Rattle.search.specs.Promise.{Gives}
 use Rattle.search.specs.SearchLaws.{decide}
 use Rattle.common.specs.Entry.{flatten}
@@ -12,7 +12,6 @@ use Rattle.common.specs.Refusals.{Outcome, given, refused}
 use Rattle.common.specs.Lists.{Wrote, filled_answer, build_answer, count_answer}
 use Rattle.cells.specs.Reply.{fitted, Replied}
 use Rattle.cells.specs.Poured.{ListRuns, Poured, PouredAs, BuiltAs, CountedAs}
-use Rattle.cells.specs.ByteRules.{RuleRuns, uneven, uneven_rules}
 use Rattle.cells.specs.ReplyLaws.{replied_unique, refused_by, reply_short, enough, too_short}
 
 -- two results for the same arguments are one
@@ -90,25 +89,3 @@ module _ {A : Type 0} (bad : Bool) (l : List A) (s run : List ℕ) where
   count_good b run' r h e g d =
       let x : count_answer bad l s ≡ given (length l ∷ []) = simp (le-ltb 4294967295 (length s) h, sym g.answer ∙ e) in
       subst (λ (o : Outcome). Replied o run run' r) (sym x) d
-
-or_right : (a b : Bool) → b ≡ true → (a || b) ≡ true
-or_right true b e = refl
-or_right false b e = e
-
--- ---- by fence rules of two bytes each: b says whether an inline rule's columns are uneven
-module _ {A : Type 0} (flat : A → List ℕ) (w : ℕ) (c : RuleRuns) (l : List A) (s : List ℕ) (lent : ListRuns) where
-  bad_rules : length s ≤ 4294967295 → uneven_rules c ≡ true → BuiltAs flat w (uneven_rules c) l s lent lent 6
-  bad_rules h e = build_bad flat w (uneven_rules c) l s lent (uneven_rules c) h e (record { answer = refl })
-
-  pub rules_odd : length s ≤ 4294967295 → (length c.fence_rules % 2 ≡ 0 → ⊥) → BuiltAs flat w (uneven_rules c) l s lent lent 6
-  unfolding uneven_rules
-  rules_odd h d = bad_rules h (rw (ne_eqb (length c.fence_rules % 2) 0 d))
-
-  pub rules_uneven : (b : Bool) → length s ≤ 4294967295 → b ≡ true → Gives (uneven c.inline) b → BuiltAs flat w (uneven_rules c) l s lent lent 6
-  unfolding uneven_rules
-  rules_uneven b h e u = bad_rules h (or_right (not (eqb (length c.fence_rules % 2) 0)) (uneven c.inline) (sym u.answer ∙ e))
-
-  pub rules_built : (b : Bool) (after : ListRuns) (r : ℕ) → length s ≤ 4294967295 → length c.fence_rules % 2 ≡ 0 → b ≡ false → Gives (uneven c.inline) b → PouredAs flat w l lent after r → BuiltAs flat w (uneven_rules c) l s lent after r
-  unfolding uneven_rules
-  rules_built b after r h e u x v =
-      build_good flat w (uneven_rules c) l s lent (uneven_rules c) after r h (rw (eq-eqb (length c.fence_rules % 2) 0 e) (sym x.answer ∙ u)) (record { answer = refl }) v

@@ -1,15 +1,55 @@
-// Numbers as cells of a byte run, four bytes each, low byte first: read from a run, written to one, and the rules that runs hold.
+// Numbers of 32 bits in a run, each a place of its own or four bytes, low byte first: read from a run, and written to one.
 #![tactic(auto)]
 
-pub mod columns; // rules by byte, from byte runs
 pub mod reply; // what an entry answers
 
 ghost use Rattle.search.specs.Promise.{Gives};
-ghost use Rattle.std.specs.Prelude.{get_or};
+ghost use Rattle.std.specs.Prelude.{ℕ, List, length, get_or};
 ghost use Rattle.cells.specs.Bytes.{cells, readable};
 
 use common::list::WIDE;
 use common::sets::index;
+
+// What a place of a run holds: a number, or a byte of one.
+pub trait Piece: Copy {
+    // The numbers of a run.
+    ghost numbers: { List Self → List ℕ };
+
+    // How many they are.
+    fn count(run: &[Self]) -> usize
+        ensures { Gives (length (numbers run.now)) result };
+
+    // The number in cell `k`, else 0.
+    fn number(run: &[Self], k: usize) -> u32
+        ensures { Gives (get_or (numbers run.now) k 0) result };
+}
+
+impl Piece for u32 {
+    ghost numbers = { λ l. l };
+
+    fn count(run: &[u32]) -> usize {
+        run.len()
+    }
+
+    fn number(run: &[u32], k: usize) -> u32 {
+        if k < run.len() {
+            return run[k];
+        }
+        0
+    }
+}
+
+impl Piece for u8 {
+    ghost numbers = { cells };
+
+    fn count(run: &[u8]) -> usize {
+        run.len() / 4
+    }
+
+    fn number(run: &[u8], k: usize) -> u32 {
+        cell(run, k)
+    }
+}
 
 // How many bytes a region's row has in a list.
 pub const ROW: usize = WIDE * 4;

@@ -22,7 +22,7 @@ use Rattle.feed.specs.declared.item.SheetItem.{SheetItem}
 use Rattle.sheet.specs.Sheet.{sheet_of, sheet_answer}
 use Rattle.sheet.specs.SheetLaws.{judged_on}
 use Rattle.cells.specs.Bytes.{cells}
-use Rattle.cells.specs.ByteRules.{ColumnRuns, columns_in, uneven_columns}
+use Rattle.rules.specs.ByteRules.{ColumnRuns, columns_in, uneven_columns}
 use Rattle.cells.specs.Poured.{ListRuns}
 use Rattle.cells.specs.PouredLaws.{build_good}
 use Rattle.pour.specs.Building.{BuiltBytes}

@@ -6,7 +6,7 @@ use Rattle.common.specs.Entry.{flatten}
 use Rattle.common.specs.declared.grammar.Grammar.{Grammar}
 use Rattle.region.specs.Region.{Caused, row_of}
 use Rattle.rules.specs.Columns.{Columns}
-use Rattle.cells.specs.ByteRules.{ColumnRuns, RuleRuns, uneven_columns, uneven_rules, columns_in, rule_columns_in}
+use Rattle.rules.specs.ByteRules.{ColumnRuns, RuleRuns, uneven_columns, uneven_rules, columns_in, rule_columns_in}
 use Rattle.cells.specs.Bytes.{four, row_bytes}
 use Rattle.cells.specs.Poured.{ListRuns, PouredAs, BuiltAs, CountedAs}
 

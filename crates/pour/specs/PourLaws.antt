@@ -21,8 +21,8 @@ use Rattle.cells.specs.Bytes.{cells, row_bytes}
 use Rattle.cells.specs.Reply.{Replied, fitted}
 use Rattle.cells.specs.Poured.{ListRuns, PouredAs}
 use Rattle.pour.specs.Building.{region_bytes, PouredBy}
-use Rattle.cells.specs.ByteRules.{inline_in, InlineRuns, ColumnRuns, RuleRuns, columns_in, fence_rules_of, rule_columns_in}
-use Rattle.cells.specs.RuleLaws.{gram_folded}
+use Rattle.rules.specs.ByteRules.{inline_in, InlineRuns, ColumnRuns, RuleRuns, columns_in, fence_rules_of, rule_columns_in}
+use Rattle.rules.specs.RuleLaws.{gram_folded}
 
 pub row_bytes_lem : (r : Caused) → length (region_bytes r) ≡ row_bytes
 row_bytes_lem r = refl

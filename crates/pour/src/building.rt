@@ -2,10 +2,10 @@
 // are.
 ghost use Rattle.std.specs.Prelude.{take};
 ghost use Rattle.pour.specs.Building.{PouredBy, BuiltBytes, BuiltRules};
-ghost use Rattle.cells.specs.ByteRules.{columns_in, rule_columns_in};
+ghost use Rattle.rules.specs.ByteRules.{columns_in, rule_columns_in};
 
 use crate::pouring::pour;
-use cells::columns::{columns_differ, gather_rules, is_uneven, rule_rows};
+use rules::runs::{columns_differ, gather_rules, is_uneven, rule_rows};
 use common::grammar::Grammar;
 use common::span::MAX_INPUT_LEN;
 use lines::fence_tests::fence_table;

@@ -2,11 +2,11 @@
 ghost use Rattle.std.specs.Prelude.{[], ◌∷◌, length};
 ghost use Rattle.common.specs.Refusals.{given};
 ghost use Rattle.region.specs.Regions.{built_by};
-ghost use Rattle.cells.specs.ByteRules.{columns_in};
+ghost use Rattle.rules.specs.ByteRules.{columns_in};
 ghost use Rattle.cells.specs.Reply.{Replied};
 ghost use Rattle.pour.specs.Building.{CountedBytes};
 
-use cells::columns::{columns_differ, rule_rows};
+use rules::runs::{columns_differ, rule_rows};
 use cells::reply;
 use common::grammar::Grammar;
 use common::span::MAX_INPUT_LEN;

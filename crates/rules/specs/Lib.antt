@@ -8,3 +8,6 @@ pub mod RowLaws
 pub mod Records
 pub mod RecordLaws
 pub mod DistinctLaws
+pub mod ByteRules
+pub mod RuleLaws
+pub mod RuleBuilding

@@ -13,7 +13,7 @@ use Rattle.sheet.specs.Parts.{left, Onward, Turned}
 use Rattle.feed.specs.declared.item.SheetItem.{SheetItem}
 use Rattle.cells.specs.Bytes.{four}
 use Rattle.cells.specs.Poured.{ListRuns, PouredAs, BuiltAs, CountedAs}
-use Rattle.cells.specs.ByteRules.{ColumnRuns, uneven_columns, columns_in}
+use Rattle.rules.specs.ByteRules.{ColumnRuns, uneven_columns, columns_in}
 use Rattle.region.specs.MemoryLaws.{Sound}
 use Rattle.sheeting.specs.Hiding.{HidesFrom}
 use Rattle.sheeting.specs.declared.Sieve.{Sieve}

@@ -32,8 +32,8 @@ use Rattle.cells.specs.Bytes.{four}
 use Rattle.cells.specs.Reply.{LaidIf, Replied}
 use Rattle.cells.specs.ReplyLaws.{laid_there}
 use Rattle.cells.specs.Poured.{ListRuns}
-use Rattle.cells.specs.ByteRules.{ColumnRuns, inline_in, columns_in}
-use Rattle.cells.specs.RuleLaws.{gram_folded}
+use Rattle.rules.specs.ByteRules.{ColumnRuns, inline_in, columns_in}
+use Rattle.rules.specs.RuleLaws.{gram_folded}
 use Rattle.cells.specs.PouredLaws.{pour_full, pour_done}
 use Rattle.sheeting.specs.Hiding.{HidesFrom, PassedOn}
 use Rattle.sheeting.specs.HidingLaws.{hides_first, hides_later}

@@ -5,13 +5,13 @@ ghost use Rattle.common.specs.Refusals.{given};
 ghost use Rattle.common.specs.Sets.{set_of};
 ghost use Rattle.region.specs.Regions.{regions, built_by};
 ghost use Rattle.rules.specs.Rows.{gram_by};
-ghost use Rattle.cells.specs.ByteRules.{columns_in};
+ghost use Rattle.rules.specs.ByteRules.{columns_in};
 ghost use Rattle.cells.specs.Reply.{Replied};
 ghost use Rattle.sheeting.specs.Sheeting.{sheet_with, SheetCounted};
 
 use crate::hiding::Hider;
 use crate::{Sieve, count_items};
-use cells::columns::{columns_differ, rule_rows};
+use rules::runs::{columns_differ, rule_rows};
 use cells::reply;
 use common::grammar::Grammar;
 use common::sets::byte_set;

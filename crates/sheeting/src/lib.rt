@@ -11,10 +11,10 @@ ghost use Rattle.common.specs.Sets.{set_of};
 ghost use Rattle.region.specs.Regions.{regions, built_by};
 ghost use Rattle.common.specs.Lists.{Wrote};
 ghost use Rattle.rules.specs.Rows.{gram_by};
-ghost use Rattle.cells.specs.ByteRules.{columns_in};
+ghost use Rattle.rules.specs.ByteRules.{columns_in};
 ghost use Rattle.sheeting.specs.Sheeting.{item_bytes, ItemPut, left_by, SieveReady, ReadyBy, SieveTurned, sheet_with, SheetPoured, SheetBytes};
 
-use cells::columns::{columns_differ, rule_rows};
+use rules::runs::{columns_differ, rule_rows};
 use cells::reply;
 use cells::reply::put_numbers;
 use common::grammar::Grammar;

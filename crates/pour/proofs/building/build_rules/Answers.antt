@@ -1,5 +1,6 @@
 -- `build_rules` meets its contract. Assumes nothing.
-use Rattle.cells.specs.PouredLaws.{build_long, rules_odd, rules_uneven, rules_built}
+use Rattle.cells.specs.PouredLaws.{build_long}
+use Rattle.rules.specs.RuleBuilding.{rules_odd, rules_uneven, rules_built}
 use Rattle.pour.proofs.building.build_rules.Goals as goal
 
 pub returns-then-text-gt-MAX_INPUT_LEN : goal.returns-then-text-gt-MAX_INPUT_LEN

@@ -1,6 +1,6 @@
 -- `is_fourfold` meets its contract. Assumes nothing.
-use Rattle.cells.specs.RuleLaws.{fourfold_count, fourfold-rest}
-use Rattle.cells.proofs.columns.is_fourfold.Goals as goal
+use Rattle.rules.specs.RuleLaws.{fourfold_count, fourfold-rest}
+use Rattle.rules.proofs.runs.is_fourfold.Goals as goal
 
 pub returns-then-len-count : goal.returns-then-len-count
 returns-then-len-count c = search fourfold_count

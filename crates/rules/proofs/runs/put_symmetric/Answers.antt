@@ -1,6 +1,6 @@
 -- `put_symmetric` meets its contract: rules are laid from the last to the first. Assumes nothing.
 use Rattle.rules.specs.RowLaws.{laying_first, twin_hides, twins_again, laying_all}
-use Rattle.cells.proofs.columns.put_symmetric.Goals as goal
+use Rattle.rules.proofs.runs.put_symmetric.Goals as goal
 
 pub loop-i-init : goal.loop-i-init
 loop-i-init c = search (laying_first, twin_hides)

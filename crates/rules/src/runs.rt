@@ -6,12 +6,12 @@ ghost use Rattle.rules.specs.Columns.{inline_rules};
 ghost use Rattle.rules.specs.Rows.{OpenersLaid, RulesLaid, twin, Folded};
 ghost use Rattle.rules.specs.Records.{AllGathered};
 ghost use Rattle.cells.specs.Bytes.{cells};
-ghost use Rattle.cells.specs.ByteRules.{fence_rules_of, uneven, uneven_columns};
+ghost use Rattle.rules.specs.ByteRules.{fence_rules_of, uneven, uneven_columns};
 
-use crate::cell;
+use crate::records::{FenceRule, Gathered};
+use crate::rows::{Rows, no_rows, pair_row, put_fences, widened};
+use cells::cell;
 use common::sets::index;
-use rules::records::{FenceRule, Gathered};
-use rules::rows::{Rows, no_rows, pair_row, put_fences, widened};
 use search::byte_at;
 
 // Whether a run of `len` bytes is four for each of `count` numbers.

@@ -2,7 +2,7 @@
 use Rattle.rules.specs.Rows.{twin}
 use Rattle.rules.specs.RowLaws.{Laying}
 use Rattle.cells.specs.Bytes.{cells}
-use Rattle.cells.proofs.columns.put_symmetric.Given as goal
+use Rattle.rules.proofs.runs.put_symmetric.Given as goal
 
 abbrev pub invariant-loop-i : goal.invariant-loop-i
 invariant-loop-i l = Laying l.symmetric (twin (cells l.times)) l.initial.rows l.rows l.i

@@ -1,6 +1,6 @@
 -- `inline_rows` meets its contract. Assumes nothing.
 use Rattle.rules.specs.RowLaws.{all_inlined}
-use Rattle.cells.proofs.columns.inline_rows.Goals as goal
+use Rattle.rules.proofs.runs.inline_rows.Goals as goal
 
 pub returns : goal.returns
 returns c = search all_inlined

@@ -19,7 +19,7 @@ use Rattle.rules.specs.Records.{no_rule, OneMore, AllGathered}
 use Rattle.rules.specs.RecordLaws.{Gathering, gather_again, gather-all}
 use Rattle.rules.specs.declared.records.Gathered.{Gathered}
 use Rattle.cells.specs.Bytes.{cells, fourfold}
-use Rattle.cells.specs.ByteRules.{InlineRuns, ColumnRuns, uneven, uneven_columns, inline_in, columns_in, fence_rule_of, fence_rules_of}
+use Rattle.rules.specs.ByteRules.{InlineRuns, ColumnRuns, uneven, uneven_columns, inline_in, columns_in, fence_rule_of, fence_rules_of}
 
 -- ---- four bytes for each number
 module _ (len count : ℕ) where

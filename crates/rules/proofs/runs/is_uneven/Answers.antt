@@ -1,6 +1,6 @@
 -- `is_uneven` meets its contract. Assumes nothing.
-use Rattle.cells.specs.RuleLaws.{uneven_times, uneven_closers, uneven_counts, uneven_not}
-use Rattle.cells.proofs.columns.is_uneven.Goals as goal
+use Rattle.rules.specs.RuleLaws.{uneven_times, uneven_closers, uneven_counts, uneven_not}
+use Rattle.rules.proofs.runs.is_uneven.Goals as goal
 
 pub returns-then-openers-closers : goal.returns-then-openers-closers
 returns-then-openers-closers c = search uneven_closers

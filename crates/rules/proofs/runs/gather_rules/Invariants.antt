@@ -2,8 +2,8 @@
 use Prim.Native.Nat.{◌-◌, ◌/◌}
 use lib.ListN.{length}
 use Rattle.rules.specs.RecordLaws.{Gathering}
-use Rattle.cells.specs.ByteRules.{fence_rules_of}
-use Rattle.cells.proofs.columns.gather_rules.Given as goal
+use Rattle.rules.specs.ByteRules.{fence_rules_of}
+use Rattle.rules.proofs.runs.gather_rules.Given as goal
 
 abbrev pub invariant-loop-i : goal.invariant-loop-i
 invariant-loop-i l = Gathering (fence_rules_of l.rules) l.all l.i

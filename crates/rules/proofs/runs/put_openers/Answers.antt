@@ -1,6 +1,6 @@
 -- `put_openers` meets its contract: rules are laid from the last to the first. Assumes nothing.
 use Rattle.rules.specs.RowLaws.{opening-first, opening_again, opening-all}
-use Rattle.cells.proofs.columns.put_openers.Goals as goal
+use Rattle.rules.proofs.runs.put_openers.Goals as goal
 
 pub loop-i-init : goal.loop-i-init
 loop-i-init c = search opening-first
