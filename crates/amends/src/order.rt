@@ -1,44 +1,33 @@
 // The order of refusals: one amendment with any choice of seven faults, and what is answered to each choice. (The first of the page's
 // order, a text that is too long, has no room here.)
-use crate::tally::{number, text};
-use crate::texts::front;
+use crate::trial::{Edit, Rules};
 use common::grammar::Grammar;
 use common::refusal::Refusal;
 
-pub(crate) fn print_all() {
-    let mut choice = 0;
-    while choice < 128 {
-        print_one(choice);
-        choice += 1;
-    }
+// What can be wrong, each by its bit in a choice.
+#[derive(Clone, Copy)]
+enum Fault {
+    ColumnTooShort = 1,
+    CutsOutOfOrder = 2,
+    CountOverRoom = 4,
+    EscapeIsLineEnd = 8,
+    CutAtNoJoint = 16,
+    ReplacementOpen = 32,
+    TooLittleRoom = 64,
 }
 
-fn print_one(choice: u32) {
-    text(b"faults ");
-    number(choice as u64);
-    text(b": ");
-    number(answered(choice) as u64);
-    text(b"\n");
-}
+// The bits of the faults that are chosen.
+#[derive(Clone, Copy)]
+struct Choice(u32);
 
-// Whether a fault is chosen, by its bit.
-fn has(choice: u32, bit: u32) -> bool {
-    if bit > 0 {
-        return choice / bit % 2 == 1;
+pub(crate) fn print_all(rt: &impl Print) {
+    for choice in 0..128 {
+        let number = number_of(Choice(choice).answer());
+        let _ = println!(rt; "faults {choice}: {number}");
     }
-    false
 }
 
 // The refusal's number, or 0.
-fn answered(choice: u32) -> u32 {
-    let mut cells = [0u32; 4];
-    let out: &mut [u32] = &mut cells;
-    if has(choice, 64) {
-        return number_of(amended(choice, &mut out[..0]));
-    }
-    number_of(amended(choice, out))
-}
-
 fn number_of(a: Result<usize, Refusal>) -> u32 {
     match a {
         Ok(_) => 0,
@@ -46,48 +35,61 @@ fn number_of(a: Result<usize, Refusal>) -> u32 {
     }
 }
 
-fn if_chosen(choice: u32, bit: u32, a: usize, b: usize) -> usize {
-    if has(choice, bit) {
-        return a;
+impl Choice {
+    fn has(self, fault: Fault) -> bool {
+        self.0 & fault as u32 != 0
     }
-    b
-}
 
-// The house's, with the line end for an escape where that is chosen.
-fn grammar(escaping: bool) -> Grammar {
-    let mut g = Grammar::house();
-    if escaping {
-        g.escape = g.eol;
-        return g;
+    // The house's, with the line end for an escape where that is chosen.
+    fn grammar(self) -> Grammar {
+        let mut g = Grammar::house();
+        if self.has(Fault::EscapeIsLineEnd) {
+            g.escape = g.eol;
+        }
+        g
     }
-    g
-}
 
-// By turns: a column that is too short, cuts out of order, a count over the list's room, an escape that is the line end, a cut that
-// is at no joint, a replacement that is open at its end; too little room is the caller's.
-fn amended(choice: u32, out: &mut [u32]) -> Result<usize, Refusal> {
-    // It has joints at 3 and 6, and no region.
-    let old: &[u8] = b"a\n\nb\n\nc";
-    let mins: &[u8] = &[3];
-    let first = if_chosen(choice, 16, 2, 3);
-    let low = if_chosen(choice, 2, 6, first);
-    let high = if_chosen(choice, 2, first, 6);
-    let own: &[u8] = b"<d>\n\n";
-    amend::amend(
-        old,
-        &[],
-        if_chosen(choice, 4, 1, 0),
-        low,
-        high,
-        front(own, if_chosen(choice, 32, 3, 5)),
-        grammar(has(choice, 8)),
-        b"~",
-        front(mins, if_chosen(choice, 1, 0, 1)),
-        b"`",
-        &[1],
-        b"<",
-        b">",
-        &[1],
-        out,
-    )
+    fn mins(self) -> &'static [u8] {
+        if self.has(Fault::ColumnTooShort) {
+            &[]
+        } else {
+            &[3]
+        }
+    }
+
+    fn replacement(self) -> &'static [u8] {
+        if self.has(Fault::ReplacementOpen) {
+            b"<d>"
+        } else {
+            b"<d>\n\n"
+        }
+    }
+
+    fn cuts(self) -> (usize, usize) {
+        let first = if self.has(Fault::CutAtNoJoint) { 2 } else { 3 };
+        if self.has(Fault::CutsOutOfOrder) {
+            (6, first)
+        } else {
+            (first, 6)
+        }
+    }
+
+    fn answer(self) -> Result<usize, Refusal> {
+        // It has joints at 3 and 6, and no region.
+        let old = b"a\n\nb\n\nc";
+        let (first, second) = self.cuts();
+        let edit = Edit {
+            first,
+            second,
+            text: self.replacement(),
+        };
+        let rules = Rules {
+            grammar: self.grammar(),
+            mins: self.mins(),
+        };
+        let count = usize::from(self.has(Fault::CountOverRoom));
+        let mut cells = [0; 4];
+        let room = if self.has(Fault::TooLittleRoom) { 0 } else { 4 };
+        rules.amend(old, &[], count, edit, &mut cells[..room])
+    }
 }

@@ -1,12 +1,11 @@
 // What is counted: amendments that are made, refusals by number, and what differs from building afresh.
-
-// The descriptor that the program writes to.
-const STDOUT: i32 = 1;
+use common::refusal::Refusal;
+use std::fmt;
 
 #[derive(Clone, Copy)]
 pub(crate) struct Tally {
     made: u64,
-    refused: [u64; 10],
+    refused: [u64; 10], // by number, from 1 on
     differ: u64,
 }
 
@@ -19,81 +18,36 @@ impl Tally {
         }
     }
 
-    pub(crate) fn made(self, same: bool) -> Self {
-        let mut tally = self;
-        tally.made = more(tally.made);
-        tally.judged(same)
+    pub(crate) fn made(&mut self, same: bool) {
+        self.made = self.made.saturating_add(1);
+        self.judge(same);
     }
 
-    pub(crate) fn refused(self, number: u32, untouched: bool) -> Self {
-        let mut tally = self;
-        let i = number as usize;
-        if i < 10 {
-            tally.refused[i] = more(tally.refused[i]);
-            return tally.judged(untouched);
+    // A refusal that is none of an amendment's differs.
+    pub(crate) fn refused(&mut self, refusal: Refusal, untouched: bool) {
+        if let Some(times) = self.refused.get_mut(refusal.number() as usize) {
+            *times = times.saturating_add(1);
+            self.judge(untouched);
+        } else {
+            self.judge(false);
         }
-        tally.judged(false)
     }
 
-    fn judged(self, right: bool) -> Self {
-        if right {
-            return self;
+    fn judge(&mut self, right: bool) {
+        if !right {
+            self.differ = self.differ.saturating_add(1);
         }
-        let mut tally = self;
-        tally.differ = more(tally.differ);
-        tally
     }
 }
 
-fn more(n: u64) -> u64 {
-    if n < u64::MAX {
-        return n + 1;
+impl fmt::Display for Tally {
+    fn fmt<W: fmt::Write>(&self, f: &mut fmt::Formatter<W>) -> fmt::Result {
+        write!(f, "{} made", self.made)?;
+        for (number, times) in self.refused.iter().enumerate() {
+            if *times > 0 {
+                write!(f, ", refused by {number} {times}")?;
+            }
+        }
+        write!(f, ", {} differ", self.differ)
     }
-    n
-}
-
-pub(crate) fn print_length(length: usize, tally: Tally) {
-    text(b"old texts of ");
-    number(length as u64);
-    print_counts(tally);
-}
-
-pub(crate) fn print_drawn(tally: Tally) {
-    text(b"drawn");
-    print_counts(tally);
-}
-
-fn print_counts(tally: Tally) {
-    text(b": ");
-    number(tally.made);
-    text(b" made");
-    print_refusals(tally);
-    text(b", ");
-    number(tally.differ);
-    text(b" differ\n");
-}
-
-fn print_refusals(tally: Tally) {
-    let mut i = 1;
-    while i < 10 {
-        print_refusal(i, tally.refused[i]);
-        i += 1;
-    }
-}
-
-fn print_refusal(i: usize, times: u64) {
-    if times > 0 {
-        text(b", refused by ");
-        number(i as u64);
-        text(b" ");
-        number(times);
-    }
-}
-
-pub(crate) fn text(bytes: &[u8]) {
-    io::write_all(STDOUT, bytes);
-}
-
-pub(crate) fn number(n: u64) {
-    io::print_decimal(STDOUT, n);
 }

@@ -1,6 +1,5 @@
-// One amendment, with the rules that all have: a fence of one tilde or more, a pair of backticks, a pair of less and greater.
+// One amendment, and the rules that all have.
 use crate::tally::Tally;
-use crate::texts;
 use crate::texts::Short;
 use common::grammar::Grammar;
 use common::refusal::Refusal;
@@ -8,110 +7,139 @@ use common::refusal::Refusal;
 // The cells of a list, more than any of these texts needs. What isn't written keeps its mark.
 const CELLS: usize = 36;
 
-const MARK: u32 = 77;
+const MARKED: [u32; CELLS] = [77; CELLS];
 
-// A list as it is left, and its count.
+// A fence of tildes, a pair of backticks, a pair of less and greater. The order of refusals wants another grammar or other minimums.
 #[derive(Clone, Copy)]
-pub(crate) struct Listed {
+pub(crate) struct Rules<'a> {
+    pub(crate) grammar: Grammar,
+    pub(crate) mins: &'a [u8],
+}
+
+// A text in the place of what stands between two cuts.
+#[derive(Clone, Copy)]
+pub(crate) struct Edit<'a> {
+    pub(crate) first: usize,
+    pub(crate) second: usize,
+    pub(crate) text: &'a [u8],
+}
+
+// A list as it is left, and its count, as `amend` takes both.
+#[derive(Clone, Copy, PartialEq)]
+struct Listed {
     cells: [u32; CELLS],
     count: usize,
 }
 
-// Amends the list of an old text, and builds the edited text afresh.
-pub(crate) fn run(
-    old: Short,
-    list: Listed,
-    first: usize,
-    second: usize,
+// An old text and its list.
+#[derive(Drop)]
+pub(crate) struct Old {
     text: Short,
-    before: Tally,
-) -> Tally {
-    let mut out = [MARK; CELLS];
-    match amended(old, list, first, second, text, &mut out) {
-        Ok(count) => before.made(is_fresh(
-            Listed { cells: out, count },
-            built(texts::edited(old, first, second, text)),
-        )),
-        Err(r) => before.refused(r.number(), is_marked(&out)),
-    }
-}
-
-fn amended(
-    old: Short,
     list: Listed,
-    first: usize,
-    second: usize,
-    text: Short,
-    out: &mut [u32; CELLS],
-) -> Result<usize, Refusal> {
-    let bytes = old.bytes;
-    let own = text.bytes;
-    let cells = list.cells;
-    amend::amend(
-        texts::front(&bytes, old.length),
-        &cells,
-        list.count,
-        first,
-        second,
-        texts::front(&own, text.length),
-        Grammar::house(),
-        b"~",
-        &[1],
-        b"`",
-        &[1],
-        b"<",
-        b">",
-        &[1],
-        out,
-    )
 }
 
-// The list of a text, built into marked cells.
-pub(crate) fn built(text: Short) -> Listed {
-    let bytes = text.bytes;
-    let mut cells = [MARK; CELLS];
-    match context::build(
-        texts::front(&bytes, text.length),
-        Grammar::house(),
-        b"~",
-        &[1],
-        b"`",
-        &[1],
-        b"<",
-        b">",
-        &[1],
-        &mut cells,
-    ) {
-        Ok(count) => Listed { cells, count },
-        Err(_) => Listed {
-            cells,
-            count: CELLS,
-        },
-    }
-}
-
-// Whether two lists are left the same, cell by cell.
-fn is_fresh(a: Listed, b: Listed) -> bool {
-    if a.count != b.count {
-        return false;
-    }
-    let mut i = 0;
-    while i < CELLS {
-        if a.cells[i] != b.cells[i] {
-            return false;
+impl Rules<'_> {
+    // The house's grammar, and fences of one tilde or more.
+    fn house() -> Self {
+        Rules {
+            grammar: Grammar::house(),
+            mins: &[1],
         }
-        i += 1;
     }
-    true
+
+    fn build(self, text: &[u8], out: &mut [u32]) -> Result<usize, Refusal> {
+        context::build(
+            text,
+            self.grammar,
+            b"~",
+            self.mins,
+            b"`",
+            &[1],
+            b"<",
+            b">",
+            &[1],
+            out,
+        )
+    }
+
+    pub(crate) fn amend(
+        self,
+        old: &[u8],
+        list: &[u32],
+        count: usize,
+        edit: Edit,
+        out: &mut [u32],
+    ) -> Result<usize, Refusal> {
+        amend::amend(
+            old,
+            list,
+            count,
+            edit.first,
+            edit.second,
+            edit.text,
+            self.grammar,
+            b"~",
+            self.mins,
+            b"`",
+            &[1],
+            b"<",
+            b">",
+            &[1],
+            out,
+        )
+    }
 }
 
-fn is_marked(cells: &[u32; CELLS]) -> bool {
-    let mut i = 0;
-    while i < CELLS {
-        if cells[i] != MARK {
-            return false;
-        }
-        i += 1;
+impl Edit<'_> {
+    // The text that it makes of an old one; none where a cut is outside.
+    fn applied(self, old: &[u8]) -> Option<Short> {
+        let mut text = Short::new();
+        text.push_all(old.get(..self.first)?);
+        text.push_all(self.text);
+        text.push_all(old.get(self.second..)?);
+        Some(text)
     }
-    true
+}
+
+impl Listed {
+    // The list of a text, built into marked cells.
+    fn built(text: &[u8]) -> Self {
+        let mut cells = MARKED;
+        match Rules::house().build(text, &mut cells) {
+            Ok(count) => Listed { cells, count },
+            Err(_) => Listed {
+                cells,
+                count: CELLS,
+            },
+        }
+    }
+}
+
+impl Old {
+    pub(crate) fn new(text: Short) -> Self {
+        Old {
+            text,
+            list: Listed::built(text.as_slice()),
+        }
+    }
+
+    pub(crate) fn text(&self) -> &[u8] {
+        self.text.as_slice()
+    }
+
+    // Amends the list, and builds the edited text afresh.
+    pub(crate) fn amend(&self, edit: Edit, tally: &mut Tally) {
+        let mut cells = MARKED;
+        let list = &self.list;
+        match Rules::house().amend(self.text(), &list.cells, list.count, edit, &mut cells) {
+            Ok(count) => tally.made(self.is_fresh(edit, Listed { cells, count })),
+            Err(r) => tally.refused(r, cells == MARKED),
+        }
+    }
+
+    // Whether an amended list is left as that of the edited text.
+    fn is_fresh(&self, edit: Edit, list: Listed) -> bool {
+        edit.applied(self.text())
+            .is_some_and(|text| list == Listed::built(text.as_slice()))
+    }
 }

@@ -1,15 +1,12 @@
 // Builds a note of 1,000,000 bytes afresh, or amends its list by 100 bytes, as often as standard input says, and prints how many regions
-// the edited note has. `tools/pace` times both. The input is `b` or `a`, a blank and a number.
+// the edited note has. `tools/pace` times both. The input is `b` or `a`, a blank and a number. What can't be written is left out.
 #![tactic(auto)]
 
 use common::grammar::Grammar;
-use common::refusal::Refusal;
+use std::io::Read;
 
-// The descriptor that the program reads.
-const STDIN: i32 = 0;
-
-// The descriptor that the program writes to.
-const STDOUT: i32 = 1;
+// What is read of the input at the most.
+const ORDER: usize = 16;
 
 const NOTE: usize = 1000000;
 
@@ -21,22 +18,35 @@ const CUT: usize = 505000;
 // Room for the regions of a note: one in each hundredth paragraph, and some more.
 const CELLS: usize = 256;
 
-fn main() {
-    let mut space = [0u8; 16];
-    let order: &mut [u8] = &mut space;
-    let n = io::read_full(STDIN, order);
-    let times = times_of(&order[..], n);
-    let mut room = blank();
-    let note: &mut [u8] = &mut room;
-    fill(note);
-    let mut cells = [0u32; CELLS];
-    let list: &mut [u32] = &mut cells;
-    if search::is_at(&order[..], 0, b'b') {
-        mark(note);
-        report(build_often(&note[..], list, times));
-        return;
+// A number above this one takes no further digit.
+const MOST_TIMES: u32 = 99999999;
+
+fn main(rt: HostRuntime) {
+    let mut room = [0; ORDER];
+    let order = read_all(&mut rt.reader(), &mut room);
+    let times = order.iter().skip(2).copied().fold(0, with_digit);
+    let mut note = blank();
+    fill(&mut note);
+    let mut list = [0; CELLS];
+    let count = if order.starts_with(b"b") {
+        mark(&mut note);
+        build_often(&note, &mut list, times)
+    } else {
+        amend_often(&note, &mut list, times)
+    };
+    let _ = println!(rt; "{count} regions");
+}
+
+// What is read until the room is full, the input ends or a read fails. `read_exact` doesn't tell how much came before a failed read.
+fn read_all<'a>(reader: &mut impl Read, room: &'a mut [u8]) -> &'a [u8] {
+    let mut end = 0;
+    while end < room.len() {
+        match reader.read(&mut room[end..]) {
+            Ok(0) | Err(_) => break,
+            Ok(n) => end += n,
+        }
     }
-    report(amend_often(&note[..], list, times));
+    &room[..end]
 }
 
 // Room for a note. A function makes it, since a proof takes the length of what a call answers from its type, and does not count a
@@ -45,36 +55,18 @@ fn blank() -> [u8; NOTE] {
     [0; NOTE]
 }
 
-// The number behind the first two bytes of the first `n`.
-fn times_of(order: &[u8], n: usize) -> u32 {
-    let mut times = 0;
-    let mut i = 2;
-    while i < n {
-        times = with_digit(times, search::byte_at(order, i));
-        i += 1;
+fn with_digit(n: u32, byte: u8) -> u32 {
+    if byte.is_ascii_digit() && n <= MOST_TIMES {
+        n * 10 + u32::from(byte - b'0')
+    } else {
+        n
     }
-    times
-}
-
-fn with_digit(n: u32, digit: u8) -> u32 {
-    if digit < b'0' {
-        return n;
-    }
-    if digit > b'9' {
-        return n;
-    }
-    if n > 99999999 {
-        return n;
-    }
-    n * 10 + (digit - b'0') as u32
 }
 
 // Prose, with a pair of marks in each hundredth paragraph.
 fn fill(note: &mut [u8]) {
-    let mut i = 0;
-    while i < note.len() {
-        note[i] = byte_for(i % 10000, i % PARAGRAPH);
-        i += 1;
+    for (i, byte) in note.iter_mut().enumerate() {
+        *byte = byte_for(i % 10000, i % PARAGRAPH);
     }
 }
 
@@ -88,35 +80,22 @@ fn byte_for(place: usize, column: usize) -> u8 {
 
 fn prose(column: usize) -> u8 {
     if column > 97 {
-        return b'\n';
+        b'\n'
+    } else if column % 7 == 6 {
+        b' '
+    } else {
+        b'e'
     }
-    if column % 7 == 6 {
-        return b' ';
-    }
-    b'e'
 }
 
 // The paragraph at the cut gets a pair of its own.
-fn mark(note: &mut [u8]) {
-    put(note, CUT + 20, b'<');
-    put(note, CUT + 24, b'>');
-}
-
-fn put(note: &mut [u8], i: usize, byte: u8) {
-    if i < note.len() {
-        note[i] = byte;
-    }
-}
-
-fn value(a: Result<usize, Refusal>) -> usize {
-    match a {
-        Ok(n) => n,
-        Err(_) => 0,
-    }
+fn mark(note: &mut [u8; NOTE]) {
+    note[CUT + 20] = b'<';
+    note[CUT + 24] = b'>';
 }
 
 fn build(note: &[u8], list: &mut [u32]) -> usize {
-    value(context::build(
+    context::build(
         note,
         Grammar::house(),
         b"`~",
@@ -127,36 +106,32 @@ fn build(note: &[u8], list: &mut [u32]) -> usize {
         b">",
         &[1],
         list,
-    ))
+    )
+    .unwrap_or(0)
 }
 
 fn build_often(note: &[u8], list: &mut [u32], times: u32) -> usize {
     let mut count = 0;
-    let mut left = times;
-    while left > 0 {
+    for _ in 0..times {
         count = build(note, list);
-        left -= 1;
     }
     count
 }
 
 fn amend_often(note: &[u8], list: &mut [u32], times: u32) -> usize {
     let held = build(note, list);
-    let mut own = [0u8; PARAGRAPH];
+    let mut own = [0; PARAGRAPH];
     fill(&mut own);
-    let mut cells = [0u32; CELLS];
-    let out: &mut [u32] = &mut cells;
+    let mut out = [0; CELLS];
     let mut count = 0;
-    let mut left = times;
-    while left > 0 {
-        count = amend(note, &list[..], held, &own, out);
-        left -= 1;
+    for _ in 0..times {
+        count = amend(note, list, held, &own, &mut out);
     }
     count
 }
 
 fn amend(note: &[u8], list: &[u32], held: usize, own: &[u8], out: &mut [u32]) -> usize {
-    value(amend::amend(
+    amend::amend(
         note,
         list,
         held,
@@ -172,10 +147,6 @@ fn amend(note: &[u8], list: &[u32], held: usize, own: &[u8], out: &mut [u32]) ->
         b">",
         &[1],
         out,
-    ))
-}
-
-fn report(count: usize) {
-    io::print_decimal(STDOUT, count as u64);
-    io::write_all(STDOUT, b" regions\n");
+    )
+    .unwrap_or(0)
 }

@@ -2,14 +2,8 @@
 // docs/PROMISES.md, `listing`, says what the numbers of a line are.
 #![tactic(auto)]
 
-use common::refusal::Refusal;
 use listing::listing;
-
-// The descriptor that the program reads.
-const STDIN: i32 = 0;
-
-// The descriptor that the program writes to.
-const STDOUT: i32 = 1;
+use std::io::Read;
 
 // One byte more than is listed, so that a longer input is seen.
 const INPUT_ROOM: usize = 8193;
@@ -17,10 +11,11 @@ const INPUT_ROOM: usize = 8193;
 // No listing is longer.
 const OUTPUT_ROOM: usize = 1000000;
 
-fn main() {
+fn main(rt: HostRuntime) {
     let mut input = [0u8; INPUT_ROOM];
     let mut output = room();
-    print_listing(&mut input, &mut output);
+    let text = read_all(&mut rt.reader(), &mut input);
+    print_listing(&rt, text, &mut output);
 }
 
 // The run that a listing is written to. A function makes it, since a proof takes the length of what a call answers from its type, and
@@ -29,16 +24,22 @@ fn room() -> [u8; OUTPUT_ROOM] {
     [0u8; OUTPUT_ROOM]
 }
 
-fn print_listing(input: &mut [u8], output: &mut [u8]) {
-    let n = io::read_full(STDIN, input);
-    print_listing_of(&input[..n], output);
+// What is read until the room is full, the input ends or a read fails. `read_exact` doesn't tell how much came before a failed read.
+fn read_all<'a>(reader: &mut impl Read, room: &'a mut [u8]) -> &'a [u8] {
+    let mut end = 0;
+    while end < room.len() {
+        match reader.read(&mut room[end..]) {
+            Ok(0) | Err(_) => break,
+            Ok(n) => end += n,
+        }
+    }
+    &room[..end]
 }
 
-fn print_listing_of(text: &[u8], output: &mut [u8]) {
-    match listing(text, output) {
-        Ok(n) => {
-            io::write_all(STDOUT, &output[..n]);
-        }
-        Err(_) => {} // never: there is room
+// What can't be written is left out.
+fn print_listing(rt: &impl Print, text: &[u8], output: &mut [u8]) {
+    // Always so, since there is room.
+    if let Ok(n) = listing(text, output) {
+        let _ = rt.write_all(&output[..n]);
     }
 }

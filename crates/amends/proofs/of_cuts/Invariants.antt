@@ -1,8 +1,0 @@
--- `of_cuts` is safe and ends: the replacements left fall. Assumes nothing.
-use Rattle.amends.proofs.of_cuts.Given as goal
-
-abbrev pub invariant-loop-left : goal.invariant-loop-left
-invariant-loop-left l = Unit {0}
-
-abbrev pub decreases-loop-left : goal.decreases-loop-left
-decreases-loop-left l = l.left
