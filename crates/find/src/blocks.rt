@@ -45,20 +45,7 @@ fn place_of(x: u8, j: u8, k: Twelve) -> u8
     requires { j < 32 }
     ensures { Placed (of_twelve k x) j result }
 {
-    if is_of_twelve(x, k) {
-        return j;
-    }
-    32
-}
-
-// The lesser of two places within a block.
-fn nearer(a: u8, b: u8) -> u8
-    ensures { Gives (min a b) result }
-{
-    if a < b {
-        return a;
-    }
-    b
+    if is_of_twelve(x, k) { j } else { 32 }
 }
 
 // Whether one of three is among the `w` bytes from `i` on. Only the miss is promised: it is a filter.
@@ -67,10 +54,8 @@ fn seen(src: &[u8], i: usize, w: usize, t: Three) -> bool
     ensures { Clear (of_three t) src.now i w result }
 {
     let mut any = false;
-    let mut j = 0;
-    while j < w {
-        any = any | is_of_three(src[i + j], t);
-        j += 1;
+    for j in 0..w {
+        any |= is_of_three(src[i + j], t);
     }
     any
 }
@@ -82,11 +67,8 @@ fn nearest(src: &[u8], i: usize, k: Twelve) -> u8
     ensures { Stage (of_twelve k) src.now i (i + 32) (i + result) }
 {
     let mut least: u8 = 32;
-    let mut j: u8 = 0;
-    while j < 32 {
-        let place = place_of(src[i + j as usize], j, k);
-        least = nearer(place, least);
-        j += 1;
+    for j in 0..32 {
+        least = least.min(place_of(src[i + j as usize], j, k));
     }
     least
 }
@@ -96,12 +78,10 @@ fn upto(src: &[u8], from: usize, end: usize, t: Three) -> usize
     requires { (from ≤ end) × (end ≤ length src.now) }
     ensures { Stage (of_three t) src.now from end result }
 {
-    let mut i = from;
-    while i < end {
+    for i in from..end {
         if is_of_three(src[i], t) {
             return i;
         }
-        i += 1;
     }
     end
 }
