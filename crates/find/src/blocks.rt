@@ -6,7 +6,8 @@ ghost use Rattle.search.specs.Promise.{Gives};
 ghost use Rattle.search.specs.Search.{Sought, is};
 ghost use Rattle.find.specs.Blocks.{of_three, of_twelve, Placed, Clear, Stage, Reaches};
 
-// Three needles; where there are fewer, one is repeated.
+// Three needles; where there are fewer, one is repeated. No array of any length: the tests of one were compiled with branches, at two
+// needles 3 to 5 times as slow as these, at near hits up to 2.4 times.
 #[derive(Clone, Copy)]
 pub struct Three {
     pub a: u8,
@@ -87,6 +88,7 @@ fn upto(src: &[u8], from: usize, end: usize, t: Three) -> usize
 }
 
 // Where the blocks of `w` bytes end that have none of three: at one that may have one, or where no whole block is left before `end`.
+// They are walked by their places, since what is answered is a place: by `chunks_exact` it would be counted beside them.
 fn pass(src: &[u8], from: usize, end: usize, w: usize, t: Three) -> usize
     requires { ((from ≤ end) × (end ≤ length src.now)) × (0 < w) }
     ensures { Reaches (of_three t) src.now from end result }
@@ -101,7 +103,8 @@ fn pass(src: &[u8], from: usize, end: usize, w: usize, t: Three) -> usize
     i
 }
 
-// Where a search for twelve comes to by blocks of 32 bytes: the first of them, or where no whole block is left.
+// Where a search for twelve comes to by blocks of 32 bytes: the first of them, or where no whole block is left. They
+// are walked by their places, as in `pass`.
 pub fn many(src: &[u8], from: usize, k: Twelve) -> usize
     ensures { Reaches (of_twelve k) src.now from (max from (length src.now)) result }
 {

@@ -11,7 +11,7 @@ pub returns : goal.returns
 returns c =
     record {
       answer =
-        any_from_yields_List (λ y. eqb c.args.x y) _ _ c.any.result c.any.ensures.ran (YieldsList-from_slice (take c.min.result c.args.needles.now) cc) (λ x b q k. search (rules, tests))
-        ∙ one_any _ c.args.x
-        ∙ ap (λ l. one_of l c.args.x) (taken c.args.needles.now c.args.n c.min.result c.min.ensures);
+          any_from_yields_List (λ y. eqb c.args.x y) _ _ c.any.result c.any.ensures.ran (YieldsList-from_slice (take c.min.result c.args.needles.now) cc) (λ x b q k. search (rules, tests))
+          ∙ one_any _ c.args.x
+          ∙ ap (λ l. one_of l c.args.x) (taken c.args.needles.now c.args.n c.min.result c.min.ensures);
     }
