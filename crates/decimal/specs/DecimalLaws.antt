@@ -77,6 +77,21 @@ decimal-few (suc d) n h = by (λ l. decimal-few d (n / 10) (omega (arith, pow-su
     by ih (inl e) = omega (arith, ap length (decimal_small n (ltb-true n 10 e)))
     by ih (inr e) = let l = ltb-false n 10 e in omega (arith, decimal_size n l, ih l)
 
+power_some : (d : ℕ) → 0 < 10 ^ d
+power_some zero = omega arith
+power_some (suc d) = omega (arith, pow-succ' 10 d, power_some d)
+
+-- one that reaches a power of ten has more digits than the power has zeros
+pub decimal-many : (d n : ℕ) → 10 ^ d ≤ n → suc d ≤ length (decimal n)
+decimal-many zero n h = by (decide (ltb n 10))
+  where
+    by : (ltb n 10 ≡ true) ⊎ (ltb n 10 ≡ false) → 1 ≤ length (decimal n)
+    by (inl e) = omega (arith, ap length (decimal_small n (ltb-true n 10 e)))
+    by (inr e) = omega (arith, decimal_size n (ltb-false n 10 e))
+decimal-many (suc d) n h =
+    let p = pow-succ' 10 d in
+    omega (arith, decimal_size n (omega (arith, p, power_some d)), decimal-many d (n / 10) (omega (arith, p)))
+
 -- ---- the digits in an array of ten
 -- its front holds them
 pub digits-front : (n : ℕ) → take (digits_of n).count (digits_of n).bytes ≡ decimal n

@@ -1,36 +1,26 @@
--- Laws of the code that writes digits: a loop that counts them, and one that sets them from the last to the first. Assumes nothing.
-use Rattle.std.specs.Prelude.{◌≡◌, refl, ℕ, zero, suc, ◌+◌, ◌-◌, ◌/◌, ◌%◌, ◌≤◌, ◌<◌, drop, set}
+-- Laws of the code that writes digits: how many they are, and a loop that sets them from the last to the first. Assumes nothing.
+use Rattle.std.specs.Prelude.{◌≡◌, refl, ℕ, zero, suc, ◌+◌, ◌-◌, ◌*◌, ◌/◌, ◌%◌, ◌^◌, ◌≤◌, ◌<◌, drop, set, Option, Some, None, IfSome, IfNone, unwrap_or}
 use Rattle.std.proofs.Common.{sym, ◌∙◌, add-one, Fits, length-append, length-set, drop-cons, drop-set-lt, get_or-set_same}
 use Rattle.std.proofs.Math.Path.{ap}
 use mathlib.Core.List.{List, [], ◌∷◌, ◌++◌, append_assoc}
+use Rattle.std.proofs.Math.Nat.{pow-succ'}
 use Rattle.std.proofs.Math.Numerals.{unary_clauses}
 use native.Mathlib.Omega.{arith}
 use Rattle.std.specs.Int.{w32}
 use Rattle.std.proofs.Math.ListN.{length, replicate}
 use Rattle.search.specs.Promise.{Gives}
 use Rattle.decimal.specs.Decimal.{decimal, digits_of}
-use Rattle.decimal.specs.DecimalLaws.{decimal_small, decimal_size, digits_ten, by_tenths}
+use Rattle.decimal.specs.DecimalLaws.{decimal_small, decimal-few, decimal-many, digits_ten, by_tenths}
 
 ten : (x : ℕ) → Fits w32 x → length (decimal x) ≤ 10
 unfolding digits_of
 ten x b = digits_ten x (omega (arith, b.fits))
 
 -- ---- the digits are counted
--- the digits that are counted and those of what is left are all, and share one
-pub record DigitCounting (x rest count : ℕ) : Type 0 where
-  pub size : length (decimal rest) + count ≡ length (decimal x) + 1
-  pub few : length (decimal x) ≤ 10
-
-module _ (x : ℕ) where
-  pub counting-first : Fits w32 x → DigitCounting x x 1
-  counting-first b = record { size = refl; few = ten x b }
-
-  module _ (rest count : ℕ) (w : DigitCounting x rest count) where
-    pub counting_again : 10 ≤ rest → DigitCounting x (rest / 10) (count + 1)
-    counting_again h = record { size = omega (arith, decimal_size rest h, w.size); few = w.few }
-
-    pub counting_end : rest < 10 → Gives (length (decimal x)) count
-    counting_end h = record { answer = omega (arith, ap length (decimal_small rest h), w.size) }
+-- they are one more than the number's logarithm
+pub counted : (x k : ℕ) (o : Option ℕ) → IfNone o (x ≡ 0) → IfSome o (λ d. 10 ^ d ≤ x) → IfSome o (λ d. x < 10 * 10 ^ d) → k ≡ unwrap_or o 0 → Gives (length (decimal x)) (k + 1)
+counted x k None z p q e = record { answer = omega (arith, e, ap length (decimal_small x (omega (arith, z)))) }
+counted x k (Some d) z p q e = record { answer = omega (arith, e, decimal-many d x p, decimal-few d x (omega (arith, pow-succ' 10 d))) }
 
 -- ---- the digits are set, from the last to the first
 -- the last i digits of n, zeros before them where it has fewer

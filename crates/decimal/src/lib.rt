@@ -16,20 +16,14 @@ pub struct Digits {
 fn last_digit(x: u32) -> u8
     ensures { Gives (48 + x % 10) result }
 {
-    (48 + x % 10) as u8
+    b'0' + (x % 10) as u8
 }
 
 // How many digits a number has.
 fn digit_count(x: u32) -> usize
     ensures { Gives (length (decimal x)) result }
 {
-    let mut rest = x;
-    let mut count: usize = 1;
-    while rest >= 10 {
-        rest /= 10;
-        count += 1;
-    }
-    count
+    x.checked_ilog10().unwrap_or(0) as usize + 1
 }
 
 // The digits of a number, set from the last to the first: where the last one stands is known by their count.
@@ -39,9 +33,7 @@ pub fn digits_of(x: u32) -> Digits
     let count = digit_count(x);
     let mut bytes = [0u8; 10];
     let mut rest = x;
-    let mut i = count;
-    while i > 0 {
-        i -= 1;
+    for i in (0..count).rev() {
         bytes[i] = last_digit(rest);
         rest /= 10;
     }

@@ -6,7 +6,7 @@ use Rattle.std.proofs.Common.{ap, subst, ◌∙◌, true≢false, inl, inr, add-
 use Rattle.std.proofs.Math.Bool.{true, false}
 use Rattle.search.specs.Promise.{Gives}
 use Rattle.search.specs.Search.{find, Sought}
-use Rattle.search.specs.SearchLaws.{decide, find_here, find-next, find_end, find_from, sought}
+use Rattle.search.specs.SearchLaws.{decide, find_here, find-next, find_end, find_from, sought, sought_past, Seeks}
 use Rattle.find.specs.Blocks.{hit_place, Placed, Clear, Stage, Reaches}
 
 -- ---- the place of a hit
@@ -73,8 +73,8 @@ module _ (t : ℕ → Bool) (s : List ℕ) where
       go false e true f = keep _ (ltb-true m 32 f) (omega (arith, ltb-true m 32 f))
       go false e false f = goes _ (ltb-false m 32 f) (omega (arith, ltb-false m 32 f, w.most)) e
 
-  pub least_step : (i j m p n : ℕ) → Gives (min p m) n → Placed (t (get_or s (i + j) 0)) j p → Least t s i j m → i + 32 ≤ length s → Least t s i (j + 1) n
-  least_step i j m p n gn gp w h = rw (gn.answer, gp.answer) (least_again i j m h gp.inside w)
+  pub least_step : (i j m p n : ℕ) → n ≡ min m p → Placed (t (get_or s (i + j) 0)) j p → Least t s i j m → i + 32 ≤ length s → Least t s i (j + 1) n
+  least_step i j m p n e gp w h = let z : n ≡ min p m = omega (arith, e) in rw (z, gp.answer) (least_again i j m h gp.inside w)
 
   pub least_stage : (i j m : ℕ) → 32 ≤ j → Least t s i j m → Stage t s i (i + 32) (i + m)
   least_stage i j m l w =
@@ -111,10 +111,17 @@ module _ (t : ℕ → Bool) (s : List ℕ) where
         let at = g.before (omega arith) in
         record { low = omega (arith, w.low); high = omega arith; same = w.same ∙ find_from t s k (k + m) (omega arith) (omega arith) (omega (arith, at)) }
 
-  -- ---- stages that are put together
-  pub sought_past : (i : ℕ) → length s < i → Sought t s i i
-  sought_past i h = sought t s i i (find_end t s i (omega arith))
+  -- ---- a walk through the whole text
+  pub seeks_whole : (i k r : ℕ) → Seeks t s i k → length s ≤ k → (i ≤ length s → k ≤ length s) → r ≡ max i (length s) → Sought t s i r
+  seeks_whole i k r w l h e = by (decide (ltb (length s) i))
+    where
+      by : (ltb (length s) i ≡ true) ⊎ (ltb (length s) i ≡ false) → Sought t s i r
+      by (inl u) = sought t s i r (find_end t s i (omega (arith, ltb-true (length s) i u)) ∙ omega (arith, ltb-true (length s) i u, e))
+      by (inr u) =
+          let v = ltb-false (length s) i u in
+          sought t s i r (w.same ∙ find_end t s k l ∙ omega (arith, h v, e))
 
+  -- ---- stages that are put together
   -- an answer before the stage's end
   pub sought_near : (i e r : ℕ) → r < e → Stage t s i e r → Sought t s i r
   sought_near i e r l g = sought t s i r (g.before l)

@@ -1,5 +1,7 @@
 -- Needles in places: the tests of three and of twelve are the tests that the contracts name. Assumes nothing.
 use Rattle.std.specs.Prelude.{◌≡◌, Bool, ◌||◌, List, [], ◌∷◌, ◌⊎◌, ℕ, zero, suc, ◌+◌, ◌≤◌, ◌<◌, min, max, eqb, ltb, get_or, take}
+use Rattle.std.specs.List.{list_any}
+use Rattle.std.proofs.lemmas.List.{nil_from_length}
 use Rattle.std.proofs.Math.Path.{refl, sym, ap, fun_ext}
 use Rattle.std.proofs.Common.{◌∙◌, inl, inr, not-suc-le-zero, arith, length-take, take_all, take-suc}
 use Rattle.std.proofs.Math.Bool.{true, false, or_self, or-false, or_assoc}
@@ -39,6 +41,20 @@ twelve_told k x a b c d ga gb gc gd = rw (ga.answer, gb.answer, gc.answer, gd.an
 pub trio_told : (l : List ℕ) (k a b c : ℕ) → Gives (needle_at l k) a → Gives (needle_at l (k + 1)) b → Gives (needle_at l (k + 2)) c → record { a = a; b = b; c = c } ≡ trio_of l k
 trio_told l k a b c ga gb gc = rw (ga.answer, gb.answer, gc.answer)
 
+-- std's test of a list is that of the contracts
+pub one_any : (l : List ℕ) (x : ℕ) → list_any (λ y. eqb x y) l ≡ one_of l x
+unfolding one_of
+one_any [] x = refl
+one_any (y ∷ l) x = ap (λ (b : Bool). eqb x y || b) (one_any l x)
+
+-- as many of a list as it has
+pub taken : (l : List ℕ) (n m : ℕ) → m ≡ min n (length l) → take m l ≡ take n l
+taken l n m e = by (decide (ltb n (length l)))
+  where
+    by : (ltb n (length l) ≡ true) ⊎ (ltb n (length l) ≡ false) → take m l ≡ take n l
+    by (inl u) = let z : m ≡ n = omega (arith, e, ltb-true n (length l) u) in rw z
+    by (inr u) = let v = ltb-false n (length l) u in take_all m l (omega (arith, e)) ∙ sym (take_all n l v)
+
 -- ---- a list's numbers in places
 get_or_else : (l : List ℕ) (j d d' : ℕ) → j < length l → get_or l j d ≡ get_or l j d'
 get_or_else [] j d d' h = absurd (not-suc-le-zero h)
@@ -55,11 +71,8 @@ module _ (l : List ℕ) (n j : ℕ) (some : 0 < n) where
   unfolding needle_at
   first_else r h g = g.answer ∙ sym (get_or-eq_default (take n l) (get_or (take n l) 0 0) h ∙ get_or-take n l 0 0 some)
 
-  pub needle_over : (r : ℕ) → n ≤ j → Gives (get_or l 0 0) r → r ≡ needle_at (take n l) j
-  needle_over r h g = first_else r (omega (arith, length-take n l)) g
-
-  pub needle_short : (r : ℕ) → length l ≤ j → Gives (get_or l 0 0) r → r ≡ needle_at (take n l) j
-  needle_short r h g = first_else r (omega (arith, length-take n l)) g
+  pub needle_else : (r : ℕ) → min n (length l) ≤ j → Gives (get_or l 0 0) r → r ≡ needle_at (take n l) j
+  needle_else r h g = first_else r (omega (arith, length-take n l)) g
 
 -- the first of a list is among it
 first_in : (l : List ℕ) → 0 < length l → (x : ℕ) → (one_of l x || eqb x (get_or l 0 0)) ≡ one_of l x
@@ -157,9 +170,9 @@ module _ (t : Three) (s : List ℕ) (i e r : ℕ) where
 
 -- ---- a search for the first n of a list
 module _ (l : List ℕ) (n : ℕ) (s : List ℕ) (i r : ℕ) where
-  pub sought_none : n ≡ 0 → Gives (max i (length s)) r → Sought (one_of (take n l)) s i r
+  pub sought_none : min n (length l) ≡ 0 → Gives (max i (length s)) r → Sought (one_of (take n l)) s i r
   unfolding one_of
-  sought_none e g = rw e (sought (one_of []) s i r (by (decide (ltb i (length s)))))
+  sought_none e g = rw (nil_from_length (take n l) (omega (arith, length-take n l))) (sought (one_of []) s i r (by (decide (ltb i (length s)))))
     where
       by : (ltb i (length s) ≡ true) ⊎ (ltb i (length s) ≡ false) → find (one_of []) s i ≡ r
       by (inl u) =

@@ -1,6 +1,8 @@
--- Laws of what is put at a place of a run: the loop that puts bytes, a number's digits, and one piece behind another. Assumes nothing.
-use Rattle.std.specs.Prelude.{◌≡◌, refl, List, [], ◌∷◌, ◌++◌, ℕ, ◌+◌, ◌-◌, ◌≤◌, ◌<◌, min, length, get_or, take, drop, set}
-use Rattle.std.proofs.Common.{sym, ap, ◌∙◌, add-one, arith, length-append, length-take, length-drop, take-append-drop, take-suc, Fits}
+-- Laws of what is put at a place of a run: the bytes that fit, a number's digits, and one piece behind another. Assumes nothing.
+use Rattle.std.specs.Prelude.{◌≡◌, refl, List, [], ◌∷◌, ◌++◌, ℕ, suc, ◌+◌, ◌-◌, ◌≤◌, ◌<◌, min, length, take, drop, set}
+use Rattle.std.proofs.Common.{sym, ap, ◌∙◌, arith, append_assoc, length-append, length-take, length-drop, take-append-drop, drop-set-lt, Fits}
+use borrow.Rule.Slice.PartMut.{put_mid}
+use Rattle.std.proofs.lemmas.List.{drop-drop}
 use Rattle.std.proofs.Math.Seq.{set_out}
 use Rattle.std.specs.Int.{w32, w64}
 use Rattle.search.specs.Promise.{Gives}
@@ -8,7 +10,7 @@ use Rattle.decimal.specs.Decimal.{decimal, digits_of}
 use Rattle.decimal.specs.DecimalLaws.{decimal-few, digits-front, digits_long}
 use Rattle.decimal.specs.declared.Digits.{Digits}
 use Rattle.common.specs.Entry.{put_at}
-use Rattle.common.specs.EntryLaws.{length_put, put_append}
+use Rattle.common.specs.EntryLaws.{length_put, put_append, put_front}
 use Rattle.put.specs.Put.{Put, LaidWithin}
 
 -- ---- bytes
@@ -18,8 +20,8 @@ put_past n [] out h = refl
 put_past n (x ∷ b) out h = ap (put_at (n + 1) b) (set_out out n x h) ∙ put_past (n + 1) b out (omega arith)
 
 -- so bytes that reach the run's end are as good as more of them
-put_front : (n m : ℕ) (b out : List ℕ) → m ≡ min (length b) (length out - n) → n ≤ length out → put_at n (take m b) out ≡ put_at n b out
-put_front n m b out e h =
+put_enough : (n m : ℕ) (b out : List ℕ) → m ≡ min (length b) (length out - n) → n ≤ length out → put_at n (take m b) out ≡ put_at n b out
+put_enough n m b out e h =
     let x = length_put n (take m b) out in
     let y = length-take m b in
     sym (ap (λ (z : List ℕ). put_at n z out) (sym (take-append-drop m b)) ∙ put_append n (take m b) (drop m b) out ∙ rest (drop m b) refl x y)
@@ -29,42 +31,29 @@ put_front n m b out e h =
     rest [] u x y = refl
     rest (a ∷ r) u x y = put_past (n + length (take m b)) (a ∷ r) (put_at n (take m b) out) (omega (arith, x, y, e, ap length u, length-drop m b))
 
--- the first i of the bytes are put, as many as there are and as the run reaches
-pub record Puts (b : List ℕ) (n most : ℕ) (out₀ out : List ℕ) (i : ℕ) : Type 0 where
-  pub within : i ≤ most
-  pub reach : most ≡ min (length b) (length out₀ - n)
-  pub inside : n < length out₀
-  pub list : out ≡ put_at n (take i b) out₀
+-- behind what is put the run is as it was
+put_behind : (n : ℕ) (b out : List ℕ) → drop (n + length b) (put_at n b out) ≡ drop (n + length b) out
+put_behind n [] out = refl
+put_behind n (x ∷ b) out =
+    let z : n + suc (length b) ≡ n + 1 + length b = omega arith in
+    rw z (put_behind (n + 1) b (set out n x) ∙ drop-set-lt (n + 1 + length b) out n x (omega arith))
 
-module _ {b out₀ : List ℕ} {n most : ℕ} where
-  pub puts_first : n < length out₀ → Gives (min (length b) (length out₀ - n)) most → Puts b n most out₀ out₀ 0
-  puts_first h g = record { within = omega arith; reach = g.answer; inside = h; list = refl }
+-- what fits is put where a part of the run is copied over
+module _ (b out part : List ℕ) (n m : ℕ) (inside : n < length out) (most : m ≡ min (length b) (length out - n)) (copied : part ≡ take m b) where
+  pub put_copied : Put b n out (put_mid n (n + m - n) out part) (length b)
+  put_copied = record { size = refl; list = sym (sym (put_enough n m b out most (omega arith)) ∙ sym (take-append-drop (n + m) (put_at n (take m b) out)) ∙ rw (front, back, z, copied, drop-drop m n out) (append_assoc (take n out) (take m b) (drop (n + m) out))) }
+    where
+      z : n + m - n ≡ m
+      z = omega arith
 
-  module _ {out : List ℕ} {i : ℕ} (p : Puts b n most out₀ out i) where
-    pub puts_same : length out ≡ length out₀
-    puts_same = ap length p.list ∙ length_put n (take i b) out₀
+      short : length (take m b) ≡ m
+      short = omega (arith, length-take m b, most)
 
-    pub puts_place : i < most → n + i < length out
-    puts_place h = omega (arith, p.reach, p.inside, puts_same)
+      front : take (n + m) (put_at n (take m b) out) ≡ take n out ++ take m b
+      front = ap (λ (k : ℕ). take (n + k) (put_at n (take m b) out)) (sym short) ∙ put_front n (take m b) out (omega (arith, short, most))
 
-    pub puts_byte : i < most → i < length b
-    puts_byte h = omega (arith, p.reach)
-
-    pub puts_again : i < most → Puts b n most out₀ (set out (n + i) (get_or b i 0)) (i + 1)
-    puts_again h =
-        let s : length (take i b) ≡ i = omega (arith, length-take i b, p.reach) in
-        let e : take (i + 1) b ≡ take i b ++ (get_or b i 0 ∷ []) = rw (add-one i, take-suc b i 0 (puts_byte h)) in
-        record {
-          within = omega arith;
-          reach = p.reach;
-          inside = p.inside;
-          list = ap (λ (z : List ℕ). set z (n + i) (get_or b i 0)) p.list ∙ sym (rw e (put_append n (take i b) (get_or b i 0 ∷ []) out₀ ∙ rw s));
-        }
-
-    pub puts_end : most ≤ i → Put b n out₀ out (length b)
-    puts_end h =
-        let z : i ≡ most = omega (arith, p.within) in
-        record { size = refl; list = p.list ∙ ap (λ (k : ℕ). put_at n (take k b) out₀) z ∙ put_front n most b out₀ p.reach (omega (arith, p.inside)) }
+      back : drop (n + m) (put_at n (take m b) out) ≡ drop (n + m) out
+      back = rw short at (put_behind n (take m b) out)
 
 pub put_beyond : (n : ℕ) (b out : List ℕ) → length out ≤ n → Put b n out out (length b)
 put_beyond n b out h = record { size = refl; list = sym (put_past n b out h) }
@@ -78,11 +67,12 @@ put_unique p q = (p.size ∙ sym q.size, p.list ∙ sym q.list)
 pub digits-within : (d : Digits) (x : ℕ) → Gives (digits_of x) d → d.count ≤ length d.bytes
 digits-within d x g = rw g.answer (digits_long x)
 
-pub put_digits : (d : Digits) (x n : ℕ) (out out' : List ℕ) (r : ℕ) → Gives (digits_of x) d → Put (take (d.count - 0) (drop 0 d.bytes)) n out out' r → Put (decimal x) n out out' r
+pub put_digits : (d : Digits) (x n : ℕ) (out out' : List ℕ) (r : ℕ) → Gives (digits_of x) d → Put (take d.count d.bytes) n out out' r → Put (decimal x) n out out' r
 put_digits d x n out out' r g p =
-    let z : d.count - 0 ≡ d.count = omega arith in
-    let e : take (d.count - 0) (drop 0 d.bytes) ≡ decimal x = rw z (rw g.answer (digits-front x)) in
+    let e : take d.count d.bytes ≡ decimal x = rw g.answer (digits-front x) in
     rw (← e) p
+
+pub ruleset within_rules = (digits-within)
 
 -- ---- one behind the other
 module _ {a b : List ℕ} {n r r' : ℕ} {out out' out'' : List ℕ} where

@@ -16,7 +16,7 @@ ghost use Rattle.region.specs.Memory.{kept_pair, kept_turn, KeptNext};
 ghost use Rattle.region.specs.Parts.{fence_gram, fenced_by, sym_pair, asym_pair, inline_by};
 
 use common::grammar::Grammar;
-use find::find_needle;
+use find::find_any_of;
 use lines::fence_tests::{Hit, fence_close_scan, opens_at};
 use pairs::{asym_close, is_escaped, sym_close};
 use rules::rows::{Rows, closer_of, count_of, fence_index, index_of, kind_of};
@@ -201,7 +201,7 @@ fn region_turn(
     let g = alphabet.grammar;
     let searched = alphabet.searched;
     let needles = searched.bytes;
-    let p = find_needle(&needles, searched.count, src, q);
+    let p = find_any_of(&needles, searched.count, src, q);
     if p >= src.len() {
         return Turn::Stop(q);
     }

@@ -1,10 +1,15 @@
 -- Laws of the searches: bounds, hit, miss, what a text before or behind changes; of runs back; of lines. Assumes nothing.
-use Rattle.std.specs.Prelude.{◌≡◌, refl, Bool, true, false, not, ◌&&◌, ◌||◌, List, [], ◌∷◌, ◌++◌, ◌⊎◌, ℕ, zero, suc, ◌+◌, ◌-◌, ◌≤◌, ◌<◌, min, max, eqb, ltb, leb, get_or, take, drop}
+use Rattle.std.specs.Prelude.{◌≡◌, refl, Bool, true, false, not, ◌&&◌, ◌||◌, List, [], ◌∷◌, ◌++◌, ◌⊎◌, ℕ, zero, suc, ◌+◌, ◌-◌, ◌≤◌, ◌<◌, min, max, eqb, ltb, leb, get_or, take, drop, reverse, position, cond, Option, Some, None, unwrap_or}
+use Rattle.std.specs.List.{between, position_or_len, prefix_len}
+use Rattle.std.proofs.lemmas.List.{get_or-drop, reverse-append}
+use Rattle.std.proofs.lemmas.List.Folds.{length-prefix_len}
+use Rattle.std.proofs.lemmas.List.Sums.{prefix_len-le-length, passes_at_first, fails_before_first}
+use Rattle.std.proofs.lemmas.Slice.{between_to_end, between_from_start}
 use Rattle.std.proofs.Math.Path.{sym, ap}
-use Rattle.std.proofs.Common.{◌∙◌, inl, inr, ⊎_elim, not-suc-le-zero, add-zero, add-suc, add-one, sub-one, arith, length-take, drop_of_length-le, get_or-append-add, drop-cons, get_or-take}
+use Rattle.std.proofs.Common.{◌∙◌, inl, inr, ⊎_elim, not-suc-le-zero, add-zero, add-suc, add-one, sub-one, arith, length-take, length-drop, take-append-drop, take-suc, take_all, drop_of_length-le, get_or-append-add, drop-cons, get_or-take}
 use Rattle.std.proofs.Math.Bool.{or-true, or_assoc}
 use Rattle.std.proofs.Math.ListN.{length, length-append, get_or-append, get_or-eq_default}
-use borrow.Author.Tests.{eq-eqb, ne_eqb, eqb-true, eqb-false, lt-ltb, le-ltb, ltb-true, ltb-false, leb-true, le-leb, lt-leb}
+use borrow.Author.Tests.{eq-eqb, ne_eqb, eqb-true, eqb-false, lt-ltb, le-ltb, ltb-true, ltb-false, leb-true, leb-false, le-leb, lt-leb}
 use Rattle.search.specs.Promise.{Gives}
 use Rattle.search.specs.Search.{is, either, one_of, digit, other, holds, first_of, first_place, find, Sought, back, line_start, line_end, after_line}
 
@@ -57,13 +62,6 @@ pub either_none : (b c x : ℕ) → (x ≡ b → ⊥) → (x ≡ c → ⊥) → 
 unfolding either
 either_none b c x e f = rw (ne_eqb x b e, ne_eqb x c f)
 
-pub either_rest : (b c x : ℕ) → (x ≡ b → ⊥) → eqb x c ≡ either b c x
-unfolding either
-either_rest b c x e = rw (ne_eqb x b e)
-
-pub either_first : (b c x : ℕ) → x ≡ b → true ≡ either b c x
-either_first b c x e = sym (either_left b c x e)
-
 pub either_true : (b c x : ℕ) → either b c x ≡ true → (x ≡ b) ⊎ (x ≡ c)
 unfolding either
 either_true b c x e = by (decide (eqb x b)) (decide (eqb x c))
@@ -74,15 +72,6 @@ either_true b c x e = by (decide (eqb x b)) (decide (eqb x c))
     by (inr u) (inr v) = absurd (clash e (rw (u, v)))
 
 -- ---- a digit
--- a byte below 48 is none; of the others those to 57 are
-pub digit_low : (x : ℕ) → x < 48 → Gives (digit x) false
-unfolding digit
-digit_low x h = record { answer = simp (lt-leb 48 x h) }
-
-pub digit-rest : (x : ℕ) → 48 ≤ x → Gives (digit x) (leb x 57)
-unfolding digit
-digit-rest x h = record { answer = simp (le-leb 48 x h) }
-
 -- a digit lies from 48 to 57
 pub digit-bounds : (x : ℕ) → digit x ≡ true → (48 ≤ x) × (x ≤ 57)
 unfolding digit
@@ -173,10 +162,6 @@ holds_in t s k h = rw (lt-ltb k (length s) h)
 pub holds-past : (t : ℕ → Bool) (s : List ℕ) (k : ℕ) → length s ≤ k → holds t s k ≡ false
 unfolding holds
 holds-past t s k h = rw (le-ltb k (length s) h)
-
-pub holds_read : (b : ℕ) (s : List ℕ) (k : ℕ) → k < length s → eqb (get_or s k 0) b ≡ holds (is b) s k
-unfolding is
-holds_read b s k h = sym (holds_in (is b) s k h)
 
 pub holds_none : (t : ℕ → Bool) (s : List ℕ) (k : ℕ) → length s ≤ k → false ≡ holds t s k
 holds_none t s k h = sym (holds-past t s k h)
@@ -440,6 +425,84 @@ module _ (t : ℕ → Bool) (a b : List ℕ) where
   unfolding find
   find_past i h l = first_past (holds t a) (holds t (a ++ b)) i (length a) (length (a ++ b)) h (omega (arith, length-append a b)) (λ j k m. holds_prefix t a b j m) l
 
+-- ---- a search in what is left of the text from i on
+module _ (t : ℕ → Bool) (s rest : List ℕ) (i : ℕ) (cut : rest ≡ between i (length s) s) where
+  left : rest ≡ drop i s
+  left = cut ∙ between_to_end s i (length s) (omega arith)
+
+  pub find_left : i ≤ length s → find t s i ≡ i + position_or_len t rest
+  find_left h = by (decide (ltb p (length rest)))
+    where
+      p : ℕ
+      p = position_or_len t rest
+
+      at : (k : ℕ) → get_or rest k 0 ≡ get_or s (i + k) 0
+      at k = ap (λ (l : List ℕ). get_or l k 0) left ∙ get_or-drop i s k 0
+
+      long : length rest ≡ length s - i
+      long = ap length left ∙ length-drop i s
+
+      miss : (j : ℕ) → i ≤ j → j < i + p → t (get_or s j 0) ≡ false
+      miss j a b =
+          let z : i + (j - i) ≡ j = omega arith in
+          ap (λ (k : ℕ). t (get_or s k 0)) (sym z) ∙ ap t (sym (at (j - i))) ∙ fails_before_first t rest (j - i) 0 (omega arith)
+
+      by : (ltb p (length rest) ≡ true) ⊎ (ltb p (length rest) ≡ false) → find t s i ≡ i + p
+      by (inl u) =
+          let l = ltb-true p (length rest) u in
+          find-is t s i (i + p) (omega arith) (omega (arith, long)) miss (ap t (sym (at p)) ∙ passes_at_first t rest 0 l)
+      by (inr u) =
+          let l = ltb-false p (length rest) u in
+          let z : length s ≡ i + p = omega (arith, long, prefix_len-le-length (λ (x : ℕ). not (t x)) rest) in
+          find-over t s i (length s) h (omega arith) (λ j a b. miss j a (omega arith)) ∙ find_end t s (length s) (omega arith) ∙ z
+
+  -- where std's `position` looked for it
+  pub sought_left : (o : Option ℕ) (r : ℕ) → i ≤ length s → o ≡ position t rest → r ≡ unwrap_or o (length rest) → Sought t s i (i + r)
+  sought_left o r h f g = sought t s i (i + r) (find_left h ∙ ap (λ (k : ℕ). i + k) (sym (g ∙ ap (λ (u : Option ℕ). unwrap_or u (length rest)) f ∙ by (decide (ltb p (length rest))))))
+    where
+      p : ℕ
+      p = position_or_len t rest
+
+      by : (ltb p (length rest) ≡ true) ⊎ (ltb p (length rest) ≡ false) → unwrap_or (cond (ltb p (length rest)) (Some p) None) (length rest) ≡ p
+      by (inl u) = rw u
+      by (inr u) = rw u (omega (arith, ltb-false p (length rest) u, prefix_len-le-length (λ (x : ℕ). not (t x)) rest))
+
+pub sought_past : (t : ℕ → Bool) (s : List ℕ) (i : ℕ) → length s < i → Sought t s i i
+sought_past t s i h = sought t s i i (find_end t s i (omega arith))
+
+-- ---- a search in the text's front before an end: it stops there
+module _ (t : ℕ → Bool) (s : List ℕ) (i e m r : ℕ) (short : m ≡ min e (length s)) (found : Sought t (take m s) i r) where
+  pub front_same : min (find t s i) e ≡ min r e
+  front_same = by (decide (ltb r m)) (decide (ltb m i)) (decide (ltb e (length s)))
+    where
+      front : List ℕ
+      front = take m s
+
+      long : length front ≡ m
+      long = omega (arith, length-take m s)
+
+      whole : find t (front ++ drop m s) i ≡ find t s i
+      whole = ap (λ (l : List ℕ). find t l i) (take-append-drop m s)
+
+      past : i ≤ m → m ≤ r → m ≤ find t s i
+      past h l =
+          omega (arith, whole, find_past t front (drop m s) i (omega (arith, long)) (omega (arith, found.here, long)), find_ge t (front ++ drop m s) (length front), long)
+
+      by : (ltb r m ≡ true) ⊎ (ltb r m ≡ false) → (ltb m i ≡ true) ⊎ (ltb m i ≡ false) → (ltb e (length s) ≡ true) ⊎ (ltb e (length s) ≡ false) → min (find t s i) e ≡ min r e
+      by (inl u) w v = omega (arith, whole, find_prefix t front (drop m s) i (omega (arith, found.here, long, ltb-true r m u)), found.here)
+      by (inr u) w (inr v) =
+          let z : m ≡ length s = omega (arith, ltb-false e (length s) v) in
+          omega (arith, ap (λ (l : List ℕ). find t l i) (take_all m s (omega arith)), found.here)
+      by (inr u) (inl w) (inl v) = omega (arith, ltb-true e (length s) v, ltb-false r m u, ltb-true m i w, find_ge t s i)
+      by (inr u) (inr w) (inl v) = omega (arith, ltb-true e (length s) v, ltb-false r m u, past (ltb-false m i w) (ltb-false r m u))
+
+  pub front_all : leb e r ≡ leb e (find t s i)
+  front_all = by (decide (leb e r))
+    where
+      by : (leb e r ≡ true) ⊎ (leb e r ≡ false) → leb e r ≡ leb e (find t s i)
+      by (inl u) = u ∙ sym (le-leb e (find t s i) (omega (arith, leb-true e r u, front_same)))
+      by (inr u) = u ∙ sym (lt-leb e (find t s i) (omega (arith, leb-false e r u, front_same)))
+
 -- ---- the invariant of a loop that searches, and its rules
 pub record Seeks (t : ℕ → Bool) (s : List ℕ) (from i : ℕ) : Type 0 where
   pub ahead : from ≤ i
@@ -474,29 +537,6 @@ module _ (t : ℕ → Bool) (s : List ℕ) (from i : ℕ) (y : Bool) (says : Giv
 pub ruleset told_rules = (seeks_first, seeks_told_again, seeks_told_found, seeks_other_again, seeks_other_found, seeks_end)
 
 pub ruleset seek_rules = (seeks_first, seeks_again, seeks_found, seeks_end, byte_rules)
-
--- ---- a search that stops at `end`: before it the text ends, or a byte passes the test; or none does
-module _ (t : ℕ → Bool) (s : List ℕ) (from i end : ℕ) (w : Seeks t s from i) where
-  stops : i < end → find t s i ≡ i → (i ≡ min (find t s from) end) × (false ≡ leb end (find t s from))
-  stops l e = (omega (arith, w.same), sym (lt-leb end (find t s from) (omega (arith, w.same))))
-
-  pub within_out : i < end → length s ≤ i → i ≡ min (find t s from) end
-  within_out l h = (stops l (find_end t s i h)).0
-
-  pub within_found : i < end → i < length s → t (get_or s i 0) ≡ true → i ≡ min (find t s from) end
-  within_found l h e = (stops l (find_here t s i h e)).0
-
-  pub within_end : end ≤ i → end ≡ min (find t s from) end
-  within_end l = omega (arith, w.same, find_ge t s i)
-
-  pub all_out : i < end → length s ≤ i → false ≡ leb end (find t s from)
-  all_out l h = (stops l (find_end t s i h)).1
-
-  pub all_end : end ≤ i → true ≡ leb end (find t s from)
-  all_end l = sym (le-leb end (find t s from) (omega (arith, w.same, find_ge t s i)))
-
-pub all_found : (t : ℕ → Bool) (s : List ℕ) (from i end : ℕ) → Seeks (other t) s from i → i < end → i < length s → (y : Bool) → y ≡ false → Gives (t (get_or s i 0)) y → false ≡ leb end (find (other t) s from)
-all_found t s from i end w l h y e says = (stops (other t) s from i end w l (find_here (other t) s i h (other_yes t (get_or s i 0) (sym says.answer ∙ e)))).1
 
 -- ---- runs back
 pub back_suc_true : (t : ℕ → Bool) (s : List ℕ) (k : ℕ) → holds t s k ≡ true → back t s (suc k) ≡ suc (back t s k)
@@ -569,6 +609,21 @@ back_stop t s (suc k) j e = by (decide (holds t s k)) (back_stop t s k j)
     by : (holds t s k ≡ true) ⊎ (holds t s k ≡ false) → (suc j ≡ k - back t s k → holds t s j ≡ false) → holds t s j ≡ false
     by (inl u) i = i (omega (arith, back_suc_true t s k u))
     by (inr u) i = let z : j ≡ k = omega (arith, back_suc_false t s k u) in rw z u
+
+-- ---- a run back is a run forward in the text's front, turned round
+back_front : (t : ℕ → Bool) (s : List ℕ) (k : ℕ) → k ≤ length s → back t s k ≡ prefix_len t (reverse (take k s))
+unfolding back
+back_front t s zero h = refl
+back_front t s (suc k) h = rw (take-suc s k 0 h, reverse-append) (by (decide (holds t s k)) (back_front t s k (omega arith)))
+  where
+    by : (holds t s k ≡ true) ⊎ (holds t s k ≡ false) → back t s k ≡ prefix_len t (reverse (take k s))
+        → back t s (suc k) ≡ cond (t (get_or s k 0)) (1 + prefix_len t (reverse (take k s))) 0
+    by (inl e) i = back_suc_true t s k e ∙ rw (sym (holds_in t s k h) ∙ e) (omega (arith, i))
+    by (inr e) i = back_suc_false t s k e ∙ rw (sym (holds_in t s k h) ∙ e)
+
+pub back_turned : (t : ℕ → Bool) (s front : List ℕ) (k r : ℕ) → front ≡ between 0 k s → k ≤ length s → r ≡ length (take (prefix_len t (reverse front)) (reverse front)) → r ≡ back t s k
+back_turned t s front k r cut h e =
+    e ∙ length-prefix_len t (reverse front) ∙ ap (λ (l : List ℕ). prefix_len t (reverse l)) (cut ∙ between_from_start s k) ∙ sym (back_front t s k h)
 
 -- ---- the invariant of a loop that runs back, and its rules
 pub record Backs (t : ℕ → Bool) (s : List ℕ) (pos k : ℕ) : Type 0 where

@@ -1,12 +1,10 @@
 -- `needle` meets its contract. Assumes nothing.
-use Rattle.find.specs.NeedleLaws.{needle_over, needle_short, needle_there}
+use Rattle.std.proofs.Common.{rules}
+use Rattle.find.specs.NeedleLaws.{needle_there, needle_else}
 use Rattle.find.proofs.needle.Goals as goal
 
-pub returns-then-n-j : goal.returns-then-n-j
-returns-then-n-j c = search needle_over
+pub returns-then-j-min : goal.returns-then-j-min
+returns-then-j-min c = search (rules, needle_there)
 
-pub returns-then-needles-j : goal.returns-then-needles-j
-returns-then-needles-j c = search needle_short
-
-pub returns : goal.returns
-returns c = search needle_there
+pub returns-else-j-min : goal.returns-else-j-min
+returns-else-j-min c = search (rules, needle_else)

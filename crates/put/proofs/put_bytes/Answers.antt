@@ -1,28 +1,9 @@
--- `put_bytes` meets its contract. Assumes nothing.
-use borrow.Author.Rules.{rules}
-use Rattle.put.specs.PutLaws.{puts_first, puts_same, puts_place, puts_byte, puts_again, puts_end, put_beyond}
+-- `put_bytes` meets its contract: the bytes that fit are copied. Assumes nothing.
+use Rattle.put.specs.PutLaws.{put_copied, put_beyond}
 use Rattle.put.proofs.put_bytes.Goals as goal
 
-pub loop-i-init : goal.loop-i-init
-loop-i-init c = search puts_first
-
-pub bounds-piece-i : goal.bounds-piece-i
-bounds-piece-i c = search (rules, puts_byte)
-
-pub overflow_add-out : goal.overflow_add-out
-overflow_add-out c = search (rules, puts_place)
-
-pub bounds-out-n : goal.bounds-out-n
-bounds-out-n c = search (rules, puts_place)
-
-pub loop-i-preserved : goal.loop-i-preserved
-loop-i-preserved c = search puts_again
-
-pub shape_of-out : goal.shape_of-out
-shape_of-out c = search (rules, puts_same)
-
-pub returns-after-loop-i : goal.returns-after-loop-i
-returns-after-loop-i c = search (puts_end, put_beyond)
+pub returns-then-n-out : goal.returns-then-n-out
+returns-then-n-out c = put_copied c.args.piece.now c.args.out.now c.copy_from_slice.new.self c.args.n c.min-most.result c.if-n-out.true c.min-most.ensures c.copy_from_slice.ensures.after
 
 pub returns-else-n-out : goal.returns-else-n-out
-returns-else-n-out c = search (puts_end, put_beyond)
+returns-else-n-out c = search put_beyond

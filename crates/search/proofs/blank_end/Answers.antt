@@ -1,15 +1,17 @@
--- `blank_end` meets its contract: a loop that searches by a test. Assumes nothing.
-use Rattle.search.specs.SearchLaws.{told_rules}
+-- `blank_end` meets its contract: what is left of the text is searched. Assumes nothing.
+use Rattle.std.proofs.Common.{rules}
+use borrow.Author.Tests.{tests}
+use Rattle.std.proofs.lemmas.Iterator.{YieldsList-from_slice}
+use Rattle.std.proofs.lemmas.Iterator.Search.{position_from_yields_List}
+use Rattle.search.specs.Search.{other, either}
+use Rattle.search.specs.SearchLaws.{sought_left, sought_past}
 use Rattle.search.proofs.blank_end.Goals as goal
 
-pub loop-i-init : goal.loop-i-init
-loop-i-init c = search told_rules
-
-pub loop-i-preserved : goal.loop-i-preserved
-loop-i-preserved c = search told_rules
-
-pub returns-else-is_blank : goal.returns-else-is_blank
-returns-else-is_blank c = search told_rules
-
 pub returns : goal.returns
-returns c = search told_rules
+unfolding other
+returns c =
+    let o = position_from_yields_List (other (either c.args.sep c.args.tab)) _ _ c.position-run.result c.position-run.ensures.ran (YieldsList-from_slice c.in-Some.rest.now cc) (λ x b q k. search (rules, tests)) in
+    sought_left _ c.args.src.now c.in-Some.rest.now c.args.from (search rules) _ _ (search rules) o c.unwrap_or.ensures
+
+pub returns-in_default : goal.returns-in_default
+returns-in_default c = search (rules, sought_past)

@@ -1,9 +1,10 @@
 -- `is_at` meets its contract. Assumes nothing.
-use Rattle.search.specs.SearchLaws.{holds_read, holds_none}
+use Rattle.std.proofs.lemmas.Grind.{common_steps}
+use Rattle.std.proofs.lemmas.Option.{gets}
+use native.Mathlib.Omega.{arith}
+use Rattle.search.specs.Search.{is, holds}
 use Rattle.search.proofs.is_at.Goals as goal
 
-pub returns-then-k-src : goal.returns-then-k-src
-returns-then-k-src c = search holds_read
-
 pub returns : goal.returns
-returns c = search holds_none
+unfolding is holds
+returns c = grind (arith, common_steps, gets)

@@ -1,9 +1,12 @@
 -- `is_blank` meets its contract. Assumes nothing.
-use Rattle.search.specs.SearchLaws.{either_first, either_rest}
+use Rattle.std.proofs.Common.{rules}
+use Rattle.search.specs.Search.{either}
 use Rattle.search.proofs.is_blank.Goals as goal
 
 pub returns-then-x-sep : goal.returns-then-x-sep
-returns-then-x-sep c = search either_first
+unfolding either
+returns-then-x-sep c = search rules
 
-pub returns : goal.returns
-returns c = search either_rest
+pub returns-else-x-sep : goal.returns-else-x-sep
+unfolding either
+returns-else-x-sep c = search rules

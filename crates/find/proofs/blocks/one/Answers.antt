@@ -1,5 +1,6 @@
 -- `one` meets its contract: stages that are put together. Assumes nothing.
-use Rattle.find.specs.BlockLaws.{sought_past, sought_rules}
+use Rattle.search.specs.SearchLaws.{sought_past}
+use Rattle.find.specs.BlockLaws.{sought_rules}
 use Rattle.find.specs.NeedleLaws.{sought_one}
 use Rattle.find.proofs.blocks.one.Goals as goal
 

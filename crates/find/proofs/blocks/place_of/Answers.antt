@@ -6,5 +6,5 @@ use Rattle.find.proofs.blocks.place_of.Goals as goal
 pub returns-then-is_of_twelve : goal.returns-then-is_of_twelve
 returns-then-is_of_twelve c = search (rules, picked_yes)
 
-pub returns : goal.returns
-returns c = search (rules, picked_no)
+pub returns-else-is_of_twelve : goal.returns-else-is_of_twelve
+returns-else-is_of_twelve c = search (rules, picked_no)

@@ -1,6 +1,0 @@
--- `byte_at` meets its contract. Assumes nothing.
-use Rattle.search.specs.SearchLaws.{past_end}
-use Rattle.search.proofs.byte_at.Goals as goal
-
-pub returns : goal.returns
-returns c = search past_end
