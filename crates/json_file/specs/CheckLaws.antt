@@ -1,5 +1,5 @@
 -- The first pass over a file: what its loop knows, and the ways out. Assumes nothing.
-use Rattle.std.specs.Prelude.{◌≡◌, Bool, true, false, ◌&&◌, List, [], ◌∷◌, ◌++◌, map, ℕ, ◌+◌, ◌<◌, ◌≤◌, leb, ltb, length}
+use Rattle.std.specs.Prelude.{◌≡◌, Bool, true, false, ◌&&◌, List, [], ◌∷◌, ◌++◌, map, ℕ, ◌+◌, ◌<◌, ◌≤◌, leb, ltb, length, Result, Ok, Err}
 use Rattle.std.proofs.Math.Path.{refl, subst}
 use Rattle.std.proofs.Common.{sym, ap, ◌∙◌, append_assoc, append-nil, arith, Fits, length-append, le-leb, lt-ltb, le-ltb}
 use Rattle.std.specs.Int.{w32}
@@ -17,8 +17,9 @@ use Rattle.json_file.specs.declared.phase.Phase.{Phase}
 use Rattle.json_file.specs.declared.phase.Phase.TheVariants as phase
 use Rattle.json_file.specs.declared.objects.NextObject.{NextObject}
 use Rattle.json_file.specs.declared.objects.NextObject.TheVariants as next
-use Rattle.json_file.specs.declared.check.Checked.{Checked}
-use Rattle.json_file.specs.declared.check.Checked.TheVariants as checked
+use Rattle.json_file.specs.declared.Unread.{Unread}
+use Rattle.json_file.specs.declared.Unread.TheVariants as unread
+use Rattle.common.specs.declared.refusal.Refusal.TheVariants.{ListMisshapen}
 
 -- ---- regions in order, with one more
 and_none : (c : Bool) → false ≡ c && false
@@ -45,13 +46,13 @@ pub ruleset join_rules = (joins_early, joins_empty, joins_on)
 
 -- ---- what is said at the end
 module _ (g : Phase) (good : Bool) (n len : ℕ) (y : Bool) where
-  pub finish_whole : y ≡ true → Gives (may_end g) y → good ≡ true → checked.Whole n ≡ finished_as g good n len
+  pub finish_whole : y ≡ true → Gives (may_end g) y → good ≡ true → Ok n ≡ finished_as g good n len
   finish_whole e v b = rw (← v.answer, e, b) refl
 
-  pub finish_misshapen : y ≡ true → Gives (may_end g) y → good ≡ false → checked.Misshapen ≡ finished_as g good n len
+  pub finish_misshapen : y ≡ true → Gives (may_end g) y → good ≡ false → Err (unread.Refused ListMisshapen) ≡ finished_as g good n len
   finish_misshapen e v b = rw (← v.answer, e, b) refl
 
-  pub finish_broken : y ≡ false → Gives (may_end g) y → checked.Broken len ≡ finished_as g good n len
+  pub finish_broken : y ≡ false → Gives (may_end g) y → Err (unread.Broken len) ≡ finished_as g good n len
   finish_broken e v = rw (← v.answer, e) refl
 
 pub ruleset finish_rules = (finish_whole, finish_misshapen, finish_broken)
@@ -98,7 +99,7 @@ module _ (s : List ℕ) (i : ℕ) (g : Phase) (n low : ℕ) (good : Bool) (w : C
           within = t.1;
         }
 
-    pub checked_bad : (p : ℕ) → r ≡ next.Bad p → checked.Broken p ≡ checked_of (follow outset s) (broken_at outset s)
+    pub checked_bad : (p : ℕ) → r ≡ next.Bad p → Err (unread.Broken p) ≡ checked_of (follow outset s) (broken_at outset s)
     unfolding checked_of
     checked_bad p e =
         let t = subst (WalkedTo s i g) e v.to w.behind w.reached in
@@ -107,7 +108,7 @@ module _ (s : List ℕ) (i : ℕ) (g : Phase) (n low : ℕ) (good : Bool) (w : C
     in_order : list_shaped w.behind ≡ good
     in_order = ap list_shaped (sym (append-nil w.behind)) ∙ w.shape [] ∙ sym (and_all good)
 
-    pub checked_over : (k : Phase) (c : Checked) → r ≡ next.Over k → Gives (finished_as k good n (length s)) c → c ≡ checked_of (follow outset s) (broken_at outset s)
+    pub checked_over : (k : Phase) (c : Result ℕ Unread) → r ≡ next.Over k → Gives (finished_as k good n (length s)) c → c ≡ checked_of (follow outset s) (broken_at outset s)
     unfolding checked_of
     checked_over k c e f =
         let t = subst (WalkedTo s i g) e v.to w.behind w.reached in

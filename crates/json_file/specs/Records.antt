@@ -3,21 +3,19 @@
 -- region is refused on both sides. Output is written only when all of it fits. Refusals: list shape 5; not this JSON 10, with the place of the first byte that
 -- can't continue a file of this form, list shape aside, or the length of a file that breaks off; no room 3. In that order, except that 10 comes first
 -- when reading."
-use Rattle.std.specs.Prelude.{◌≡◌, Bool, cond, not, ◌&&◌, List, [], ◌∷◌, map, ℕ, leb, ltb, length}
+use Rattle.std.specs.Prelude.{◌≡◌, Bool, cond, not, ◌&&◌, List, [], ◌∷◌, map, ℕ, leb, ltb, length, Result, Ok, Err}
 use Rattle.common.specs.Entry.{flatten, rows, shaped, wide}
 use Rattle.common.specs.Lists.{filled_answer, filled_by, text_answer}
 use Rattle.common.specs.Refusals.{Outcome, given, refused, refuse, number_of, span_values, span_back}
-use Rattle.common.specs.declared.refusal.Refusal.TheVariants.{NotRecords}
+use Rattle.common.specs.declared.refusal.Refusal.TheVariants.{ListMisshapen, NotRecords}
 use Rattle.common.specs.declared.span.Span.{Span}
 use Rattle.cover.specs.Shape.{misshapen}
 use Rattle.json_file.specs.Grammar.{greatest}
 use Rattle.json_file.specs.Form.{Course, outset, follow, may_end, is_whole, broken_at, regions_read}
 use Rattle.json_file.specs.Layout.{layout}
 use Rattle.json_file.specs.declared.phase.Phase.{Phase}
-use Rattle.json_file.specs.declared.check.Checked.{Checked}
-use Rattle.json_file.specs.declared.check.Checked.TheVariants as checked
-use Rattle.json_file.specs.declared.FileRead.{FileRead}
-use Rattle.json_file.specs.declared.FileRead.TheVariants as file_read
+use Rattle.json_file.specs.declared.Unread.{Unread}
+use Rattle.json_file.specs.declared.Unread.TheVariants as unread
 
 -- ---- writing
 -- the first n regions of a list
@@ -57,19 +55,19 @@ pub record ReadRecords (flat : Span → List ℕ) (w : ℕ) (s out out' : List �
   pub list : out' ≡ filled_by (read_answer w s out) (flatten flat (records_in s)) out
 
 -- what the answer says
-abbrev pub told_read : FileRead → Outcome
-told_read (file_read.Value n) = given (n ∷ [])
-told_read (file_read.Broken p) = broken p
-told_read (file_read.Refused r) = refused (number_of r)
+abbrev pub told_read : Result ℕ Unread → Outcome
+told_read (Ok n) = given (n ∷ [])
+told_read (Err (unread.Broken p)) = broken p
+told_read (Err (unread.Refused r)) = refused (number_of r)
 
 -- ---- the first pass
 -- of how far a file was read, and of the place of the first byte that can't continue
-unfoldable pub checked_of : Course → ℕ → Checked
-checked_of c p = cond (is_whole c) (cond (list_shaped (regions_read c)) (checked.Whole (length (regions_read c))) checked.Misshapen) (checked.Broken p)
+unfoldable pub checked_of : Course → ℕ → Result ℕ Unread
+checked_of c p = cond (is_whole c) (cond (list_shaped (regions_read c)) (Ok (length (regions_read c))) (Err (unread.Refused ListMisshapen))) (Err (unread.Broken p))
 
 -- what that is at a file's end, where n regions are in order or not, and the file has so many bytes
-abbrev pub finished_as : Phase → Bool → ℕ → ℕ → Checked
-finished_as g good n len = cond (may_end g) (cond good (checked.Whole n) checked.Misshapen) (checked.Broken len)
+abbrev pub finished_as : Phase → Bool → ℕ → ℕ → Result ℕ Unread
+finished_as g good n len = cond (may_end g) (cond good (Ok n) (Err (unread.Refused ListMisshapen))) (Err (unread.Broken len))
 
 -- regions in order or not, the last of which ends at low, with one more from a to b
 abbrev pub stays_shaped : Bool → ℕ → ℕ → ℕ → Bool

@@ -1,6 +1,6 @@
 -- "Reading what we wrote gives the list again, and writing what was read gives our one layout": of the promises, which determine every answer and run.
 -- Assumes nothing.
-use Rattle.std.specs.Prelude.{◌≡◌, refl, Bool, cond, not, List, [], ◌∷◌, map, ℕ, zero, suc, ◌*◌, ◌<◌, ◌≤◌, ltb, get_or, take, drop, Result}
+use Rattle.std.specs.Prelude.{◌≡◌, refl, Bool, cond, not, List, [], ◌∷◌, map, ℕ, zero, suc, ◌*◌, ◌<◌, ◌≤◌, ltb, get_or, take, drop, Result, Ok, Err}
 use Rattle.std.proofs.Common.{sym, ap, ◌∙◌, arith}
 use Rattle.std.proofs.Math.Bool.{true, false}
 use Rattle.std.proofs.Math.ListN.{length, length-append}
@@ -18,8 +18,8 @@ use Rattle.cover.specs.ShapeLaws.{shape_fits, shape_order}
 use Rattle.json_file.specs.Grammar.{File, greatest}
 use Rattle.json_file.specs.Layout.{layout}
 use Rattle.json_file.specs.Records.{regions_of, write_answer, WroteRecords, list_shaped, read_answer, ReadRecords, records_in, told_read}
-use Rattle.json_file.specs.declared.FileRead.{FileRead}
-use Rattle.json_file.specs.declared.FileRead.TheVariants as file_read
+use Rattle.json_file.specs.declared.Unread.{Unread}
+use Rattle.json_file.specs.declared.Unread.TheVariants as unread
 use Rattle.json_file.specs.LayoutLaws.{SpansFit, layout_file}
 use Rattle.json_file.specs.AnswerLaws.{file_records, read_file}
 use Rattle.common.specs.declared.refusal.Refusal.{Refusal}
@@ -132,16 +132,16 @@ pub writing_unique : {l : List ℕ} {n : ℕ} {out out' out'' : List ℕ} {r r' 
 writing_unique {l} {n} {out} a b = (answer_unique {o = write_answer l n out} (record { answer = a.answer }) (record { answer = b.answer }), a.list ∙ sym b.list)
 
 -- what says an outcome of reading: with values a count or a place, else a refusal
-read_back : Outcome → FileRead
-read_back o = unless_none (read (λ l. file_read.Value 0) file_read.Refused o) (λ l. cond (served o) (file_read.Value (get_or l 0 0)) (file_read.Broken (get_or l 0 0))) o.values
+read_back : Outcome → Result ℕ Unread
+read_back o = unless_none (read (λ l. Ok 0) (λ r. Err (unread.Refused r)) o) (λ l. cond (served o) (Ok (get_or l 0 0)) (Err (unread.Broken (get_or l 0 0)))) o.values
 
-read_back_lem : (r : FileRead) → read_back (told_read r) ≡ r
+read_back_lem : (r : Result ℕ Unread) → read_back (told_read r) ≡ r
 unfolding read_back
-read_back_lem (file_read.Value n) = refl
-read_back_lem (file_read.Broken p) = refl
-read_back_lem (file_read.Refused r) = read-refused (λ l. file_read.Value 0) file_read.Refused r
+read_back_lem (Ok n) = refl
+read_back_lem (Err (unread.Broken p)) = refl
+read_back_lem (Err (unread.Refused r)) = read-refused {A = Result ℕ Unread} (λ l. Ok 0) (λ r. Err (unread.Refused r)) r
 
-pub reading_unique : {flat : Span → List ℕ} {w : ℕ} {s out out' out'' : List ℕ} {r r' : FileRead}
+pub reading_unique : {flat : Span → List ℕ} {w : ℕ} {s out out' out'' : List ℕ} {r r' : Result ℕ Unread}
     → ReadRecords flat w s out out' (told_read r) → ReadRecords flat w s out out'' (told_read r') → (r ≡ r') × (out' ≡ out'')
 reading_unique {w = w} {s = s} {out = out} a b =
     (told_unique told_read read_back read_back_lem {o = read_answer w s out} (record { answer = a.answer }) (record { answer = b.answer }), a.list ∙ sym b.list)

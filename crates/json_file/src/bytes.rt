@@ -6,7 +6,8 @@ ghost use Rattle.json_file.specs.Form.{outset, follow, is_whole};
 ghost use Rattle.json_file.specs.Records.{records_in};
 ghost use Rattle.json_file.specs.ByteRecords.{span_bytes, WroteBytes, ReadBytes};
 
-use crate::check::{Checked, check};
+use crate::Unread;
+use crate::check::check;
 use crate::layout::{cell_layout_fits, put_cells};
 use crate::rows::pour_rows;
 use byte_list::is_misshapen;
@@ -68,16 +69,16 @@ pub fn read_bytes(file: &[u8], out: &mut [u8], answer: &mut [u8]) -> PlacedReply
         (record { list = out.new; answer = answer.new }) result.refusal result.place }
 {
     match check(file) {
-        Checked::Broken(place) => PlacedReply {
+        Ok(n) => PlacedReply {
+            refusal: pour_file(file, n, out, answer),
+            place: 0,
+        },
+        Err(Unread::Broken(place)) => PlacedReply {
             refusal: Refusal::NotRecords.number(),
             place,
         },
-        Checked::Misshapen => PlacedReply {
-            refusal: 5,
-            place: 0,
-        },
-        Checked::Whole(n) => PlacedReply {
-            refusal: pour_file(file, n, out, answer),
+        Err(Unread::Refused(r)) => PlacedReply {
+            refusal: r.number(),
             place: 0,
         },
     }

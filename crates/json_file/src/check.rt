@@ -3,66 +3,41 @@ ghost use Rattle.search.specs.Promise.{Gives};
 ghost use Rattle.json_file.specs.Form.{outset, follow, broken_at, may_end};
 ghost use Rattle.json_file.specs.Records.{checked_of, finished_as, stays_shaped};
 
+use crate::Unread;
 use crate::objects::{NextObject, next_object};
 use crate::phase::Phase;
-
-// The place of the first byte that can't continue, or the length of a file that breaks off; else that the regions are no
-// list; else their number.
-#[derive(Clone, Copy)]
-pub enum Checked {
-    Broken(usize),
-    Misshapen,
-    Whole(usize),
-}
+use common::refusal::Refusal;
 
 // Whether a file may end here.
 fn may_end(g: Phase) -> bool
     ensures { Gives (may_end g) result }
 {
-    match g {
-        Phase::Begin => false,
-        Phase::First => false,
-        Phase::Next => false,
-        Phase::Opened(_) => false,
-        Phase::Quoted(_) => false,
-        Phase::Naming(_, _) => false,
-        Phase::Colon(_, _) => false,
-        Phase::Value(_, _) => false,
-        Phase::Number(_, _, _) => false,
-        Phase::Member(_) => false,
-        Phase::Closed => false,
-        Phase::Done => true,
-    }
+    matches!(g, Phase::Done)
 }
 
 // Whether regions that were in order up to `low` still are with one from `a` to `b`.
 fn joins(good: bool, low: u32, a: u32, b: u32) -> bool
     ensures { Gives (stays_shaped good low a b) result }
 {
-    if a < low {
-        return false;
-    }
-    if b <= a {
-        return false;
-    }
-    good
+    low <= a && a < b && good
 }
 
 // What is said at the end of a file of `len` bytes and `n` regions.
-fn finished(last: Phase, good: bool, n: usize, len: usize) -> Checked
+fn finished(last: Phase, good: bool, n: usize, len: usize) -> Result<usize, Unread>
     ensures { Gives (finished_as last good n len) result }
 {
-    if may_end(last) {
-        if good {
-            return Checked::Whole(n);
-        }
-        return Checked::Misshapen;
+    if !may_end(last) {
+        return Err(Unread::Broken(len));
     }
-    Checked::Broken(len)
+    if good {
+        Ok(n)
+    } else {
+        Err(Unread::Refused(Refusal::ListMisshapen))
+    }
 }
 
 // Reads a file to its end or to its first bad byte, and writes nothing.
-pub(crate) fn check(file: &[u8]) -> Checked
+pub(crate) fn check(file: &[u8]) -> Result<usize, Unread>
     ensures { Gives (checked_of (follow outset file.now) (broken_at outset file.now)) result }
 {
     let mut g = Phase::Begin;
@@ -80,7 +55,7 @@ pub(crate) fn check(file: &[u8]) -> Checked
                 i = next;
             }
             NextObject::Bad(place) => {
-                return Checked::Broken(place);
+                return Err(Unread::Broken(place));
             }
             NextObject::Over(last) => {
                 return finished(last, good, n, file.len());

@@ -12,7 +12,7 @@ ghost use Rattle.common.specs.Entry.{wide};
 ghost use Rattle.common.specs.Refusals.{told, span_values};
 ghost use Rattle.json_file.specs.Records.{WroteRecords, ReadRecords, told_read};
 
-use check::{Checked, check};
+use check::check;
 use common::list::WIDE;
 use common::refusal::Refusal;
 use common::span::MAX_INPUT_LEN;
@@ -20,11 +20,10 @@ use cover::shape::is_misshapen;
 use layout::{layout_fits, put_list};
 use rows::write_rows;
 
-// How many regions were read; or the place of the first byte that can't continue a file of this form, the length for one that breaks
-// off: refusal 10; or another refusal.
+// Why a file isn't read: the place of the first byte that can't continue a file of this form, the length for one that breaks off:
+// refusal 10; or another refusal.
 #[derive(Clone, Copy)]
-pub enum FileRead {
-    Value(usize),
+pub enum Unread {
     Broken(usize),
     Refused(Refusal),
 }
@@ -45,17 +44,12 @@ pub fn write(list: &[u32], count: usize, out: &mut [u8]) -> Result<usize, Refusa
 
 // Reads a file's regions into a list, and answers how many there are. A refusal (10 the file is not of this form, 5 its regions are no list, 3
 // too little room) changes nothing.
-pub fn read(file: &[u8], out: &mut [u32]) -> FileRead
+pub fn read(file: &[u8], out: &mut [u32]) -> Result<usize, Unread>
     ensures { ReadRecords span_values wide file.now out.old out.new (told_read result) }
 {
-    match check(file) {
-        Checked::Broken(p) => FileRead::Broken(p),
-        Checked::Misshapen => FileRead::Refused(Refusal::ListMisshapen),
-        Checked::Whole(n) => {
-            if out.len() / WIDE < n {
-                return FileRead::Refused(Refusal::NoRoom);
-            }
-            FileRead::Value(write_rows(file, out))
-        }
+    let n = check(file)?;
+    if out.len() / WIDE < n {
+        return Err(Unread::Refused(Refusal::NoRoom));
     }
+    Ok(write_rows(file, out))
 }
