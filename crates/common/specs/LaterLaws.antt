@@ -117,14 +117,6 @@ module _ (eol sep tab : ℕ) (s : List ℕ) where
   unfolding leads_by joined
   line-told p y h = h.answer
 
-  -- ---- ways out of the question
-  module _ (p lost : ℕ) (y : Bool) (h : Gives (leads_by eol sep tab s lost p) y) where
-    pub led_told : y ≡ true → LedBy eol sep tab s p lost true lost
-    led_told e = record { answer = sym e ∙ h.answer; kept = refl }
-
-    pub led_not : y ≡ false → LedBy eol sep tab s p lost false p
-    led_not e = record { answer = sym e ∙ h.answer; kept = refl }
-
   -- the promise leaves no choice
   pub led_unique : {p lost a b : ℕ} {x y : Bool} → LedBy eol sep tab s p lost x a → LedBy eol sep tab s p lost y b → (x ≡ y) × (a ≡ b)
   led_unique {p} {lost} v w =
