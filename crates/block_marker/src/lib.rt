@@ -122,7 +122,7 @@ fn kept_turn(
     tab: u8,
     needles: &[u8; 3],
     nn: usize,
-    lost: &mut [usize; 1],
+    lost: &mut usize,
 ) -> MarkerTurn
     requires { Unled eol sep tab src.now lost.old }
     ensures { Looked eol sep tab src.now
@@ -150,7 +150,7 @@ fn first_kept(
     ensures { Gives (first_turn (stream_turn (grammar eol sep tab (one_of (take nn needles.now))) src.now)
         (length src.now) from) (rests result) }
 {
-    let mut lost = [0usize; 1];
+    let mut lost = 0;
     let mut q = from;
     loop {
         match kept_turn(src, q, eol, sep, tab, needles, nn, &mut lost) {

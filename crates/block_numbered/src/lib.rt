@@ -187,7 +187,7 @@ fn stream_turn(
     tab: u8,
     needles: &[u8; 3],
     nn: usize,
-    lost: &mut [usize; 1],
+    lost: &mut usize,
 ) -> NumberedTurn
     requires { Unled eol sep tab src.now lost.old }
     ensures { Looked eol sep tab src.now
@@ -230,7 +230,7 @@ fn first_streamed(
     ensures { Gives (first_turn (stream_turn (grammar eol sep tab (one_of (take nn needles.now))) src.now)
         (length src.now) from) (rests result) }
 {
-    let mut lost = [0usize; 1];
+    let mut lost = 0;
     let mut q = from;
     loop {
         match stream_turn(src, q, eol, sep, tab, needles, nn, &mut lost) {

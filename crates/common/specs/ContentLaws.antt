@@ -1,25 +1,14 @@
 -- Laws of stretches. Assumes nothing.
-use Rattle.std.specs.Prelude.{◌≡◌, true, false, List, ◌⊎◌, ℕ, ◌-◌, ◌≤◌, ◌<◌, min, leb, length, take, drop}
-use Rattle.std.proofs.Common.{sym, ap, subst, ◌∙◌, inl, inr, arith, le-leb, leb-true}
+use Rattle.std.specs.Prelude.{◌≡◌, true, false, List, ◌⊎◌, ℕ, ◌-◌, ◌≤◌, leb, length, take, drop}
+use Rattle.std.proofs.Common.{sym, ap, subst, ◌∙◌, inl, inr, arith, leb-true}
 use Rattle.std.proofs.Math.Bool.{and-false}
-use Rattle.std.proofs.lemmas.Bool.{lt-leb}
 use Rattle.std.specs.Borrow.{Bor}
 use Rattle.search.specs.Promise.{Gives}
 use Rattle.search.specs.SearchLaws.{decide}
-use Rattle.common.specs.Content.{bounds, stretch, cut, onward, Stretch}
+use Rattle.common.specs.Content.{stretch, cut, onward, Stretch}
 use Rattle.common.specs.declared.span.Bounds.{Bounds}
 
 module _ (len a e : ℕ) where
-  pub stretch-own : a ≤ e → e ≤ len → bounds a e ≡ stretch len a e
-  stretch-own h l = simp (le-leb a e h, le-leb e len l)
-
-  module _ (m : ℕ) (g : Gives (min a len) m) where
-    pub stretch_turned : e < a → bounds m m ≡ stretch len a e
-    stretch_turned h = simp (lt-leb a e h, g.answer)
-
-    pub stretch-past : len < e → bounds m m ≡ stretch len a e
-    stretch-past h = simp (lt-leb e len h, and-false, g.answer)
-
   within : ((stretch len a e).start ≤ (stretch len a e).end) × ((stretch len a e).end ≤ len)
   within = by (decide (leb a e)) (decide (leb e len))
     where

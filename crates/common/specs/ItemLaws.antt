@@ -12,7 +12,7 @@ use Rattle.std.proofs.Math.Seq.{slice, slice_empty, slice-cons, length-slice}
 use borrow.Author.Tests.{eqb-true, eq-eqb, lt-ltb, le-ltb, ltb-true, ltb-false}
 use Rattle.search.specs.Promise.{Gives, Steps}
 use Rattle.search.specs.Search.{is, one_of, other, holds, find, Sought, back, line_start, line_end, next_line, after_line}
-use Rattle.search.specs.SearchLaws.{decide, clash, and_true, is_true, either_true, other_yes, other_no, other_false, holds_in, holds_true, find_ge, find_le, find_at, find_before, find-is, find_end, find_here, find-next, back_run, back_stop, start_zero, line_one, line-next}
+use Rattle.search.specs.SearchLaws.{decide, clash, and_true, is_true, either_true, other_yes, other_no, other_false, holds_in, holds-past, holds_true, find_ge, find_le, find_at, find_before, find-is, find_end, find_here, find-next, back_run, back_stop, start_zero, line_one, line-next}
 use Rattle.common.specs.Sets.{accepted_from, accepted, probe_of, probe}
 use Rattle.common.specs.Refusals.{Outcome, refused}
 use Rattle.common.specs.Turn.{Turn, go, stop, found, all_found, None, yields, step_of}
@@ -229,6 +229,9 @@ start_after eol s (suc i) j e q =
 -- ---- what the tests of a line tell
 pub holds-told : (t : ℕ → Bool) (s : List ℕ) (k : ℕ) (y : Bool) → k < length s → Gives (t (get_or s k 0)) y → y ≡ holds t s k
 holds-told t s k y h g = g.answer ∙ sym (holds_in t s k h)
+
+pub holds_out : (t : ℕ → Bool) (s : List ℕ) (k : ℕ) → length s ≤ k → ltb k (length s) ≡ holds t s k
+holds_out t s k h = le-ltb k (length s) h ∙ sym (holds-past t s k h)
 
 -- a place where a line begins, or the text's end
 abbrev pub AtLine : ℕ → List ℕ → ℕ → Type 0

@@ -1,5 +1,5 @@
 -- Laws of the question whether a place leads its line, asked of one place after another. Assumes nothing.
-use Rattle.std.specs.Prelude.{◌≡◌, refl, Bool, true, cond, ◌&&◌, List, [], ◌∷◌, ◌⊎◌, ℕ, zero, suc, ◌+◌, ◌-◌, ◌≤◌, ◌<◌, eqb, ltb, length, get_or, set, replicate}
+use Rattle.std.specs.Prelude.{◌≡◌, refl, Bool, true, cond, ◌&&◌, List, ◌⊎◌, ℕ, zero, suc, ◌+◌, ◌-◌, ◌≤◌, ◌<◌, eqb, ltb, length, get_or}
 use Rattle.std.proofs.Math.Path.{sym, ap}
 use Rattle.std.proofs.Common.{◌∙◌, inl, inr, arith}
 use Rattle.std.proofs.Math.Bool.{false}
@@ -117,40 +117,31 @@ module _ (eol sep tab : ℕ) (s : List ℕ) where
   unfolding leads_by joined
   line-told p y h = h.answer
 
-  -- ---- ways out of the question
-  module _ (p : ℕ) (lost : List ℕ) (y : Bool) (h : Gives (leads_by eol sep tab s (get_or lost 0 0) p) y) where
-    pub led_told : y ≡ true → LedBy eol sep tab s p lost true lost
-    led_told e = record { answer = sym e ∙ h.answer; kept = refl }
-
-    pub led_not : y ≡ false → LedBy eol sep tab s p lost false (set lost 0 p)
-    led_not e = record { answer = sym e ∙ h.answer; kept = refl }
-
   -- the promise leaves no choice
-  pub led_unique : {p : ℕ} {lost a b : List ℕ} {x y : Bool} → LedBy eol sep tab s p lost x a → LedBy eol sep tab s p lost y b → (x ≡ y) × (a ≡ b)
+  pub led_unique : {p lost a b : ℕ} {x y : Bool} → LedBy eol sep tab s p lost x a → LedBy eol sep tab s p lost y b → (x ≡ y) × (a ≡ b)
   led_unique {p} {lost} v w =
       let e = v.answer ∙ sym w.answer in
-      (e, v.kept ∙ ap (λ (r : Bool). cond r lost (set lost 0 p)) e ∙ sym w.kept)
+      (e, v.kept ∙ ap (λ (r : Bool). cond r lost p) e ∙ sym w.kept)
 
   -- what it is worth where the place that is lent does not lead its line
-  pub unled_first : Unled eol sep tab s (replicate 1 0)
+  pub unled_first : Unled eol sep tab s 0
   unled_first = record { unled = λ l. absurd (omega arith) }
 
-  module _ (p : ℕ) (lost : List ℕ) (y : Bool) (lost' : List ℕ) (u : Unled eol sep tab s lost) (w : LedBy eol sep tab s p lost y lost') where
+  module _ (p lost : ℕ) (y : Bool) (lost' : ℕ) (u : Unled eol sep tab s lost) (w : LedBy eol sep tab s p lost y lost') where
     pub led_leads : Gives (leads eol sep tab s p) y
     unfolding leads_by
-    led_leads = record { answer = by (decide (joined sep tab s (get_or lost 0 0) p)) }
+    led_leads = record { answer = by (decide (joined sep tab s lost p)) }
       where
-        by : (joined sep tab s (get_or lost 0 0) p ≡ true) ⊎ (joined sep tab s (get_or lost 0 0) p ≡ false) → y ≡ leads eol sep tab s p
-        by (inl e) = let v = joined_same (get_or lost 0 0) p e in w.answer ∙ rw e (sym (v.1 ∙ u.unled v.0))
+        by : (joined sep tab s lost p ≡ true) ⊎ (joined sep tab s lost p ≡ false) → y ≡ leads eol sep tab s p
+        by (inl e) = let v = joined_same lost p e in w.answer ∙ rw e (sym (v.1 ∙ u.unled v.0))
         by (inr e) = w.answer ∙ rw e
 
     pub led_unled : Unled eol sep tab s lost'
-    led_unled = by y lost refl u w.kept
+    led_unled = by y refl w.kept
       where
-        by : (z : Bool) (l : List ℕ) → y ≡ z → Unled eol sep tab s l → lost' ≡ cond z l (set l 0 p) → Unled eol sep tab s lost'
-        by true l e v k = rw k v
-        by false [] e v k = rw k (record { unled = λ h. absurd (omega arith) })
-        by false (x ∷ l) e v k = rw k (record { unled = λ h. sym led_leads.answer ∙ e })
+        by : (z : Bool) → y ≡ z → lost' ≡ cond z lost p → Unled eol sep tab s lost'
+        by true e k = rw k u
+        by false e k = rw k (record { unled = λ h. sym led_leads.answer ∙ e })
 
 pub ruleset led_rules = (led_leads, led_unled)
 

@@ -2,7 +2,7 @@
 ghost use Rattle.search.specs.Promise.{Gives};
 ghost use Rattle.common.specs.Grammars.{house};
 
-#[derive(Clone, Copy)]
+#[derive(Clone, Copy, PartialEq, Eq, Debug)]
 pub struct Grammar {
     pub eol: u8,
     pub escape: u8,

@@ -10,10 +10,7 @@ use search::is_blank;
 pub fn blank_at(src: &[u8], k: usize, sep: u8, tab: u8) -> bool
     ensures { Gives (holds (either sep tab) src.now k) result }
 {
-    if k < src.len() {
-        return is_blank(src[k], sep, tab);
-    }
-    false
+    k < src.len() && is_blank(src[k], sep, tab)
 }
 
 // Whether only separators and tabs stand before `p` on its line, where `k` is taken for a place that does not lead its line, 0 for none:
@@ -24,15 +21,12 @@ fn leads_from(src: &[u8], p: usize, eol: u8, sep: u8, tab: u8, k: usize) -> bool
     if p > src.len() {
         return false;
     }
-    let mut at = p;
-    while at > 0 {
-        if at == k {
+    for at in (0..p).rev() {
+        if at + 1 == k {
             return false;
         }
-        let b = src[at - 1];
-        if is_blank(b, sep, tab) {
-            at -= 1;
-        } else {
+        let b = src[at];
+        if !is_blank(b, sep, tab) {
             return b == eol;
         }
     }
@@ -48,12 +42,12 @@ pub fn leads_line(src: &[u8], p: usize, eol: u8, sep: u8, tab: u8) -> bool
 
 // The same asked of one place after another. `lost` holds a place that does not lead its line, 0 for none: 0 at first, and then as the
 // last question left it, so that separators and tabs are not walked back over for every place behind them.
-pub fn leads_later(src: &[u8], p: usize, eol: u8, sep: u8, tab: u8, lost: &mut [usize; 1]) -> bool
+pub fn leads_later(src: &[u8], p: usize, eol: u8, sep: u8, tab: u8, lost: &mut usize) -> bool
     ensures { LedBy eol sep tab src.now p lost.old result lost.new }
 {
-    if leads_from(src, p, eol, sep, tab, lost[0]) {
-        return true;
+    let leads = leads_from(src, p, eol, sep, tab, *lost);
+    if !leads {
+        *lost = p;
     }
-    lost[0] = p;
-    false
+    leads
 }

@@ -3,18 +3,18 @@ ghost use Rattle.search.specs.Promise.{Gives};
 ghost use Rattle.common.specs.Refusals.{number_of};
 
 // Why an input is not served, each by the page's number.
-#[derive(Clone, Copy)]
+#[derive(Clone, Copy, PartialEq, Eq, Debug)]
 pub enum Refusal {
-    TextTooLong,
-    PlaceOutside,
-    NoRoom,
-    CutsOutOfOrder,
-    ListMisshapen,
-    ColumnsDiffer,
-    NotAtJoint,
-    ReplacementOpen,
-    LineEndMark,
-    NotRecords,
+    TextTooLong = 1,
+    PlaceOutside = 2,
+    NoRoom = 3,
+    CutsOutOfOrder = 4,
+    ListMisshapen = 5,
+    ColumnsDiffer = 6,
+    NotAtJoint = 7,
+    ReplacementOpen = 8,
+    LineEndMark = 9,
+    NotRecords = 10,
 }
 
 impl Refusal {
@@ -22,17 +22,6 @@ impl Refusal {
     pub fn number(self) -> u32
         ensures { Gives (number_of self) result }
     {
-        match self {
-            Refusal::TextTooLong => 1,
-            Refusal::PlaceOutside => 2,
-            Refusal::NoRoom => 3,
-            Refusal::CutsOutOfOrder => 4,
-            Refusal::ListMisshapen => 5,
-            Refusal::ColumnsDiffer => 6,
-            Refusal::NotAtJoint => 7,
-            Refusal::ReplacementOpen => 8,
-            Refusal::LineEndMark => 9,
-            Refusal::NotRecords => 10,
-        }
+        self as u32
     }
 }

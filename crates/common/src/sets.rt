@@ -32,10 +32,8 @@ pub fn byte_set(accepted: &[u8]) -> [bool; 256]
     ensures { Gives (set_of accepted.now) result }
 {
     let mut set = [false; 256];
-    let mut i = 0;
-    while i < accepted.len() {
-        set[index(accepted[i])] = true;
-        i += 1;
+    for b in accepted {
+        set[index(*b)] = true;
     }
     set
 }
@@ -52,15 +50,14 @@ pub fn class_set(wanted: u8) -> [bool; 256]
     ensures { Gives (class_set wanted) result }
 {
     let mut set = [false; 256];
-    let mut b: usize = 0;
-    while b < 256 {
-        set[b] = class(b as u8) == wanted;
-        b += 1;
+    for (b, has) in set.iter_mut().enumerate() {
+        *has = class(b as u8) == wanted;
     }
     set
 }
 
-// What a streaming search needs of a set: its needles, how many, and whether there are few enough to stream.
+// What a streaming search needs of a set: its needles, how many, and whether there are few enough to stream. Its fields stand one by
+// one in the item scanners' states, which C reads.
 #[derive(Clone, Copy)]
 pub struct Probe {
     pub needles: [u8; 3],
@@ -74,23 +71,20 @@ pub fn probe_matcher(matches: &[bool; 256]) -> Probe
     ensures { Gives (probe matches.now) result }
 {
     let mut needles = [0u8; 3];
-    let mut n: usize = 0;
-    let mut b: usize = 0;
-    while b < 256 {
-        if matches[b] {
-            if n == 3 {
-                return Probe {
-                    needles,
-                    nn: 0,
-                    streaming: false,
-                };
-            }
-            needles[n] = b as u8;
-            n += 1;
-            b += 1;
+    let mut n = 0;
+    for (b, accepted) in matches.iter().enumerate() {
+        if !*accepted {
             continue;
         }
-        b += 1;
+        if n == 3 {
+            return Probe {
+                needles,
+                nn: 0,
+                streaming: false,
+            };
+        }
+        needles[n] = b as u8;
+        n += 1;
     }
     Probe {
         needles,

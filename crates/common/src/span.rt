@@ -3,19 +3,18 @@ ghost use Rattle.search.specs.Promise.{Gives};
 ghost use Rattle.common.specs.Content.{stretch, Stretch};
 
 use crate::refusal::Refusal;
-use search::lesser;
 
 // The most bytes a text may have: spans are 32-bit numbers.
 pub const MAX_INPUT_LEN: usize = 4294967295;
 
-#[derive(Clone, Copy)]
+#[derive(Clone, Copy, PartialEq, Eq, Debug)]
 pub struct Span {
     pub start: u32,
     pub end: u32,
 }
 
 // A stretch of a text: from `start` up to, not including, `end`.
-#[derive(Clone, Copy)]
+#[derive(Clone, Copy, PartialEq, Eq, Debug)]
 pub struct Bounds {
     pub start: usize,
     pub end: usize,
@@ -28,22 +27,17 @@ pub fn content_bounds(len: usize, span: Span) -> Bounds
 {
     let start = span.start as usize;
     let end = span.end as usize;
-    let at = lesser(start, len);
-    if end < start {
-        return Bounds { start: at, end: at };
+    if start <= end && end <= len {
+        return Bounds { start, end };
     }
-    if len < end {
-        return Bounds { start: at, end: at }; // not cut short
-    }
-    Bounds { start, end }
+    let at = start.min(len);
+    Bounds { start: at, end: at }
 }
 
 // The stretch itself: the caller's own bytes, no copy. It refuses nothing.
 pub fn content(text: &[u8], span: Span) -> &[u8]
     ensures { Stretch text.entry span.start span.end result }
 {
-    let bounds = content_bounds(text.len(), span);
-    let start = bounds.start;
-    let end = bounds.end;
+    let Bounds { start, end } = content_bounds(text.len(), span);
     &text[start..end]
 }

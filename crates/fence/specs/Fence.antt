@@ -2,7 +2,7 @@
 -- The page: "A fence begins its line, has a run of at least min and at least 1, and no further fence byte on that line. It is closed by
 -- the first later line …", "The span ends after the closing line's line end, or at the text's end.", "The scan goes on from the span's
 -- end."
-use Rattle.std.specs.Prelude.{Bool, true, false, cond, ◌&&◌, List, ℕ, ◌+◌, ltb, length}
+use Rattle.std.specs.Prelude.{Bool, true, false, cond, ◌&&◌, List, ℕ, ◌+◌, ltb, length, None, Option, Some}
 use Rattle.search.specs.Search.{find, after_run, is, either, holds, first_place, line_start, line_end, after_line}
 use Rattle.lines.specs.Fences.{run_count, opens_run, closes_run}
 use Rattle.common.specs.Refusals.{Outcome, span_values}
@@ -12,8 +12,6 @@ use Rattle.common.specs.declared.span.Span.{Span}
 use Rattle.fence.specs.declared.FenceIter.{FenceIter}
 use Rattle.fence.specs.declared.Turn.{Turn as Told}
 use Rattle.fence.specs.declared.Turn.TheVariants.{Go, Stop, Found}
-use Rattle.fence.specs.declared.Opened.{Opened}
-use Rattle.fence.specs.declared.Opened.TheVariants as opened
 
 -- a fence: where it starts, and where it ends
 abbrev pub Fence : Type 0
@@ -92,12 +90,12 @@ open_turn g s q = open_from g s q (find (is g.byte) s q)
 abbrev pub view : Told → Turn Fence
 view (Go n) = go n
 view (Stop v) = stop v
-view (Found a b) = found (record { start = a; end = b }) b
+view (Found f) = found f f.end
 
--- of a whole scan, which comes to something
-abbrev pub rests : Opened → Turn Fence
-rests (opened.Found a b) = found (record { start = a; end = b }) b
-rests (opened.Stopped v) = stop v
+-- of a whole scan, which comes to something: a fence or none, and the place that it goes on from
+abbrev pub rests : Option Fence → ℕ → Turn Fence
+rests (Some f) n = found f n
+rests None v = stop v
 
 -- what the scan from a state's place comes to
 unfoldable pub first_open : FenceIter → List ℕ → Turn Fence

@@ -1,6 +1,6 @@
 -- Laws of the fence scanner: places that a search may pass over, the ways out of its functions, that its turns move on, and that its promises leave one answer. Assumes nothing.
-use Rattle.std.specs.Prelude.{◌≡◌, refl, Bool, true, false, cond, ◌&&◌, List, ◌⊎◌, ℕ, ◌+◌, ◌-◌, ◌≤◌, ◌<◌, ltb, leb, length, get_or}
-use Rattle.std.proofs.Math.Path.{sym, ap, subst}
+use Rattle.std.specs.Prelude.{◌≡◌, refl, Bool, true, false, cond, ◌&&◌, List, [], ◌⊎◌, ℕ, ◌+◌, ◌-◌, ◌≤◌, ◌<◌, ltb, leb, length, get_or, None, Ok, Option, Some}
+use Rattle.std.proofs.Math.Path.{sym, ap}
 use Rattle.std.proofs.Common.{◌∙◌, inl, inr, ⊎_elim}
 use Rattle.std.proofs.Math.Bool.{and-false}
 use native.Mathlib.Omega.{arith}
@@ -9,19 +9,15 @@ use Rattle.search.specs.Promise.{Gives, Steps, steps_unique}
 use Rattle.search.specs.Search.{is, either, other, holds, first_place, find, Sought, line_start, line_end, next_line}
 use Rattle.search.specs.SearchLaws.{decide, clash, and_true, is_yes, either_true, either_false, other_no, holds_in, holds-past, holds_true, first_ge, first_none, first_end, first-over, first_here, find_ge, sought, find_before, find_at, find-over, find_hit, find_from, find-next, line_one}
 use Rattle.lines.specs.Fences.{run_count, opens_run, closes_run}
-use Rattle.common.specs.Refusals.{Outcome, refused, span_values}
+use Rattle.common.specs.Refusals.{given, refused, span_values, told_span}
 use Rattle.common.specs.RefusalLaws.{span_unique}
 use Rattle.common.specs.Turn.{Turn, go, stop, found, first_turn}
 use Rattle.common.specs.Turning.{Ahead, Adv}
-use Rattle.common.specs.Items.{said, place_of}
 use Rattle.common.specs.ItemLaws.{step_long, step_past, step_seen}
 use Rattle.fence.specs.Fence.{Fence, at, whole_run_end, run_line, after_run_line, begins, closes, span_end, close_end, fence_at, open_line, open_turn, rests, first_open, answer, state}
-use Rattle.fence.specs.Steps.{EndTurned, Kept}
+use Rattle.fence.specs.Steps.{Kept}
 use Rattle.fence.specs.declared.FenceIter.{FenceIter}
 use Rattle.fence.specs.declared.FenceStep.{FenceStep}
-use Rattle.fence.specs.declared.CloseTurn.{CloseTurn}
-use Rattle.fence.specs.declared.CloseTurn.TheVariants as close
-use Rattle.fence.specs.declared.Opened.{Opened}
 
 -- ---- a run of the fence byte that begins at q
 module _ (g : FenceIter) (s : List ℕ) where
@@ -194,41 +190,38 @@ module _ (g : FenceIter) (count : ℕ) (s : List ℕ) where
 
   -- the ways out of a turn: q is the next fence byte
   module _ (from q : ℕ) (hq : Sought (is g.byte) s from q) where
-    pub close_none : length s ≤ q → EndTurned g count s from (close.End (length s))
-    unfolding EndTurned closes
+    close_none : length s ≤ q → length s ≡ close_end g count s from
+    unfolding closes
     close_none l = close_past from (first_gone g s (locks g count s) (locks-parts g count s) from q hq l)
 
     module _ (inside : q < length s) (y : Bool) (hy : Gives (line_start g.eol s q) y) where
-      pub close_skip : y ≡ false → EndTurned g count s from (close.Go (q + 1))
-      unfolding EndTurned closes
-      close_skip e = (
-        omega (arith, hq.low),
-        omega arith,
-        close_at from (q + 1) (first_skip g s (locks g count s) (locks-parts g count s) from q hq inside (sym hy.answer ∙ e)),
-      )
+      close_skip : y ≡ false → close_end g count s from ≡ close_end g count s (q + 1)
+      unfolding closes
+      close_skip e = close_at from (q + 1) (first_skip g s (locks g count s) (locks-parts g count s) from q hq inside (sym hy.answer ∙ e))
 
       -- its run ends at j, its line at e, and n is the place after it
       module _ (start : y ≡ true) (j : ℕ) (hj : Sought (other (is g.byte)) s q j) (e : ℕ) (he : Sought (is g.eol) s j e) (n : ℕ) (hn : Gives (next_line (length s) e) n) (c : ℕ) (hc : Gives (run_count q j) c) where
-        close_miss : locks g count s q (whole_run_end g s q) (run_line g s q) ≡ false → EndTurned g count s from (close.Go n)
-        unfolding EndTurned closes
+        pub close_less : length s - n < length s - from
+        close_less = omega (arith, hq.low, hj.low, he.low, hn.answer)
+
+        close_miss : locks g count s q (whole_run_end g s q) (run_line g s q) ≡ false → close_end g count s from ≡ close_end g count s n
+        unfolding closes
         close_miss f =
             let z : n ≡ after_run_line g s q = hn.answer ∙ ap (next_line (length s)) (he.here ∙ ap (line_end g.eol s) hj.here) in
-            (omega (arith, hq.low, hj.low, he.low, hn.answer), omega (arith, hn.answer), rw z (close_at from (after_run_line g s q) (first_miss g s (locks g count s) (locks-parts g count s) from q hq inside f)))
+            rw z (close_at from (after_run_line g s q) (first_miss g s (locks g count s) (locks-parts g count s) from q hq inside f))
 
-        pub close_short : c < count → EndTurned g count s from (close.Go n)
+        close_short : c < count → close_end g count s from ≡ close_end g count s n
         close_short l = close_miss (simp (← hj.here, ← hc.answer, lt-leb count c l))
 
-        pub close_text : (z : Bool) → z ≡ false → Gives (leb e (find (other (either g.sep g.tab)) s j)) z → EndTurned g count s from (close.Go n)
+        close_text : (z : Bool) → z ≡ false → Gives (leb e (find (other (either g.sep g.tab)) s j)) z → close_end g count s from ≡ close_end g count s n
         close_text z k hz = close_miss (simp (← hj.here, ← he.here, ← hz.answer, k, and-false))
 
-        pub close_found : count ≤ c → (z : Bool) → z ≡ true → Gives (leb e (find (other (either g.sep g.tab)) s j)) z → EndTurned g count s from (close.End n)
-        unfolding EndTurned closes
+        close_found : count ≤ c → (z : Bool) → z ≡ true → Gives (leb e (find (other (either g.sep g.tab)) s j)) z → n ≡ close_end g count s from
+        unfolding closes
         close_found l z k hz =
             hn.answer
             ∙ ap (next_line (length s)) (he.here ∙ ap (line_end g.eol s) hj.here)
             ∙ close_on from q (first_meet g s (locks g count s) (locks-parts g count s) from q hq inside (sym hy.answer ∙ start) (simp (← hj.here, ← hc.answer, le-leb count c l, ← he.here, ← hz.answer, k))) inside
-
-pub ruleset close_turn_rules = (close_none, close_skip, close_short, close_text, close_found)
 
 -- the loop: from the place that it has come to, the search has the same answer
 pub record FenceCloses (g : FenceIter) (count : ℕ) (s : List ℕ) (from q : ℕ) : Type 0 where
@@ -237,20 +230,26 @@ pub record FenceCloses (g : FenceIter) (count : ℕ) (s : List ℕ) (from q : �
 pub closes-first : (g : FenceIter) (count : ℕ) (s : List ℕ) (q : ℕ) → FenceCloses g count s q q
 closes-first g count s q = record { same = refl }
 
-module _ (g : FenceIter) (count : ℕ) (s : List ℕ) (from q : ℕ) (d : CloseTurn) (turned : EndTurned g count s q d) where
-  pub closes_less : (n : ℕ) → d ≡ close.Go n → length s - n < length s - q
-  unfolding EndTurned
-  closes_less n e = let w = subst (EndTurned g count s q) e turned in omega (arith, w)
+module _ (g : FenceIter) (count : ℕ) (s : List ℕ) (from q' q : ℕ) (w : FenceCloses g count s from q') (hq : Sought (is g.byte) s q' q) where
+  pub closes_none : length s ≤ q → length s ≡ close_end g count s from
+  closes_none l = close_none g count s q' q hq l ∙ sym w.same
 
-  pub closes_again : (n : ℕ) → d ≡ close.Go n → FenceCloses g count s from q → FenceCloses g count s from n
-  unfolding EndTurned
-  closes_again n e w = record { same = w.same ∙ (subst (EndTurned g count s q) e turned).2 }
+  module _ (inside : q < length s) (y : Bool) (hy : Gives (line_start g.eol s q) y) where
+    pub closes_skip : y ≡ false → FenceCloses g count s from (q + 1)
+    closes_skip e = record { same = w.same ∙ close_skip g count s q' q hq inside y hy e }
 
-  pub closes_end : (n : ℕ) → d ≡ close.End n → FenceCloses g count s from q → n ≡ close_end g count s from
-  unfolding EndTurned
-  closes_end n e w = subst (EndTurned g count s q) e turned ∙ sym w.same
+    module _ (start : y ≡ true) (j : ℕ) (hj : Sought (other (is g.byte)) s q j) (e : ℕ) (he : Sought (is g.eol) s j e) (n : ℕ) (hn : Gives (next_line (length s) e) n) (c : ℕ) (hc : Gives (run_count q j) c) where
+      pub closes_short : c < count → FenceCloses g count s from n
+      closes_short l = record { same = w.same ∙ close_short g count s q' q hq inside y hy start j hj e he n hn c hc l }
 
-pub ruleset close_rules = (closes-first, closes_less, closes_again, closes_end)
+      module _ (z : Bool) (hz : Gives (leb e (find (other (either g.sep g.tab)) s j)) z) where
+        pub closes_text : z ≡ false → FenceCloses g count s from n
+        closes_text k = record { same = w.same ∙ close_text g count s q' q hq inside y hy start j hj e he n hn c hc z k hz }
+
+        pub closes_found : count ≤ c → z ≡ true → n ≡ close_end g count s from
+        closes_found l k = close_found g count s q' q hq inside y hy start j hj e he n hn c hc l z k hz ∙ sym w.same
+
+pub ruleset close_rules = (closes-first, closes_none, closes_skip, closes_short, closes_text, closes_found, close_less)
 
 -- ---- a further fence byte on the line: one search for it or the line end, which ends at e, tells whether it comes first
 module _ (b eol : ℕ) (s : List ℕ) (j e m : ℕ) (he : Sought (is eol) s j e) (hm : Sought (either b eol) s j m) where
@@ -284,6 +283,14 @@ module _ (g : FenceIter) (s : List ℕ) (p : ℕ) (j : ℕ) (hj : Sought (other 
       simp (← hj.here, lt-ltb p j w, ← hc.answer, le-leb g.min c l, ← he.here, le-leb e (find (is g.byte) s j) (far g.byte g.eol s j e m he hm k), ← hn.answer, ← hr.answer)
 
 pub ruleset open_line_rules = (open_short, open_more, open_found)
+
+-- a fence's bounds are 32-bit numbers
+module _ (g : FenceIter) (s : List ℕ) (fits : length s ≤ 4294967295) where
+  pub start_fits : (p : ℕ) → holds (is g.byte) s p ≡ true → p < 4294967296
+  start_fits p here = let w = holds_true (is g.byte) s p here in omega arith
+
+  pub end_fits : (e n count r : ℕ) → Gives (next_line (length s) e) n → Gives (close_end g count s n) r → r < 4294967296
+  end_fits e n count r hn hr = omega (arith, hr.answer, close_inside g count s n (omega (arith, hn.answer)))
 
 -- one turn: p is the next fence byte at or after q
 module _ (g : FenceIter) (s : List ℕ) (q p : ℕ) (hp : Sought (is g.byte) s q p) where
@@ -351,11 +358,11 @@ module _ (g : FenceIter) (s : List ℕ) where
     unfolding answer state
     next-outside l = step_past span_values at g s g.pos (first_open g s) l fits
 
-    -- d is what the code's scan came to, e what a `match` told that d is, h the state that comes back
-    pub next-told : g.pos ≤ length s → (d e : Opened) (h : FenceIter) (o : Outcome) → d ≡ e → Gives (first_turn (open_turn g s) (length s) g.pos) (rests d) → o ≡ said span_values (rests e) → Gives (at g (place_of (rests e))) h
-        → Steps (answer g s) (state g s) o h
+    -- f and v are what the code's scan came to, h is the state that comes back
+    pub next-told : g.pos ≤ length s → (f : Option Fence) (v : ℕ) (h : FenceIter) → Gives (first_turn (open_turn g s) (length s) g.pos) (rests f v) → Gives (at g v) h → Steps (answer g s) (state g s) (told_span (Ok f)) h
     unfolding answer state first_open
-    next-told inside d e h o = step_seen span_values at g s g.pos (first_open g s) inside fits rests d e o h
+    next-told inside (Some f) v h w = step_seen span_values at g s g.pos (first_open g s) inside fits (λ t. t) (found f v) (found f v) (given (span_values f)) h refl w refl
+    next-told inside None v h w = step_seen span_values at g s g.pos (first_open g s) inside fits (λ t. t) (stop v) (stop v) (given []) h refl w refl
 
 -- ---- two results of a step that keep its promise are one
 pub next_unique : (g : FenceIter) (s : List ℕ) (r r' : FenceStep) → Kept g s r → Kept g s r' → (r.found ≡ r'.found) × (r.next ≡ r'.next)

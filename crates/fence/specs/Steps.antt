@@ -1,20 +1,13 @@
--- What the functions promise of a turn of the search for a close and of a step, and the step that a run takes. Assumes nothing.
+-- What the functions promise of a step, and the step that a run takes. Assumes nothing.
 -- The page: "each step takes a state and gives the answer with the next state".
-use Rattle.std.specs.Prelude.{◌≡◌, List, ℕ, ◌≤◌, ◌<◌, length}
+use Rattle.std.specs.Prelude.{List, ℕ}
 use Rattle.search.specs.Promise.{Steps}
 use Rattle.common.specs.Refusals.{span_back, told_span}
 use Rattle.common.specs.Items.{step_for}
 use Rattle.common.specs.Turn.{Step, step_of}
-use Rattle.fence.specs.Fence.{Fence, at, close_end, first_open, answer, state}
+use Rattle.fence.specs.Fence.{Fence, at, first_open, answer, state}
 use Rattle.fence.specs.declared.FenceIter.{FenceIter}
 use Rattle.fence.specs.declared.FenceStep.{FenceStep}
-use Rattle.fence.specs.declared.CloseTurn.{CloseTurn}
-use Rattle.fence.specs.declared.CloseTurn.TheVariants.{Go, End}
-
--- the search from q for a fence's end goes on from a later place, or it has its answer
-unfoldable pub EndTurned : FenceIter → ℕ → List ℕ → ℕ → CloseTurn → Type 0
-EndTurned g count s q (Go n) = (q < n) × (n ≤ length s) × (close_end g count s q ≡ close_end g count s n)
-EndTurned g count s q (End n) = n ≡ close_end g count s q
 
 -- the promise of `next` for its result
 abbrev pub Kept : FenceIter → List ℕ → FenceStep → Type 0

@@ -14,7 +14,6 @@ ghost use Rattle.search.specs.Search.{holds, is};
 ghost use Rattle.common.specs.Refusals.{told_span};
 ghost use Rattle.common.specs.Turn.{first_turn};
 ghost use Rattle.fence.specs.Fence.{fresh, at, close_end, open_line, open_turn, view, rests, answer, state};
-ghost use Rattle.fence.specs.Steps.{EndTurned};
 
 use common::refusal::Refusal;
 use common::span::{MAX_INPUT_LEN, Span};
@@ -33,33 +32,19 @@ pub struct FenceIter {
     pub pos: usize,
 }
 
-// What a step answers, and the state after it.
+// What a step answers, and the state after it, both by value: C reads them.
 #[derive(Clone, Copy)]
 pub struct FenceStep {
     pub found: Result<Option<Span>, Refusal>,
     pub next: FenceIter,
 }
 
-// One turn of the search for a close: on from a later place, or the place after the closing line.
-#[derive(Clone, Copy)]
-enum CloseTurn {
-    Go(usize),
-    End(usize),
-}
-
-// One turn of the scan: on from a later place; no fence byte left; or a fence, from where to where.
+// One turn of the scan: on from a later place; no fence byte left; or a fence. It may only go on, so it is no Option.
 #[derive(Clone, Copy)]
 enum Turn {
     Go(usize),
     Stop(usize),
-    Found(usize, usize),
-}
-
-// What the scan comes to: a fence, from where to where; or none, and the place where it stops.
-#[derive(Clone, Copy)]
-enum Opened {
-    Found(usize, usize),
-    Stopped(usize),
+    Found(Span),
 }
 
 impl FenceIter {
@@ -79,37 +64,7 @@ impl FenceIter {
     fn at(self, pos: usize) -> Self
         ensures { Gives (at self pos) result }
     {
-        FenceIter {
-            byte: self.byte,
-            min: self.min,
-            eol: self.eol,
-            sep: self.sep,
-            tab: self.tab,
-            pos,
-        }
-    }
-
-    // What the next fence byte at or after `search` says to the search for the close of a run of `count`.
-    fn close_turn(self, src: &[u8], count: usize, search: usize) -> CloseTurn
-        ensures { EndTurned self count src.now search result }
-    {
-        let q = find_byte(src, search, self.byte);
-        if q >= src.len() {
-            return CloseTurn::End(src.len());
-        }
-        if line_start(src, q, self.eol) {
-            let j = run_end(src, q, self.byte);
-            let e = find_byte(src, j, self.eol);
-            let n = next_line(src.len(), e);
-            if run_count(q, j) < count {
-                return CloseTurn::Go(n);
-            }
-            if blank_within(src, j, e, self.sep, self.tab) {
-                return CloseTurn::End(n);
-            }
-            return CloseTurn::Go(n);
-        }
-        CloseTurn::Go(q + 1)
+        FenceIter { pos, ..self }
     }
 
     // Where the span of a fence ends whose opening run is `count` long, searched from `from`.
@@ -118,66 +73,70 @@ impl FenceIter {
     {
         let mut search = from;
         loop {
-            match self.close_turn(src, count, search) {
-                CloseTurn::Go(n) => {
-                    search = n;
-                }
-                CloseTurn::End(n) => {
-                    return n;
-                }
+            let q = find_byte(src, search, self.byte);
+            if q >= src.len() {
+                return src.len();
             }
+            if !line_start(src, q, self.eol) {
+                search = q + 1;
+                continue;
+            }
+            let j = run_end(src, q, self.byte);
+            let e = find_byte(src, j, self.eol);
+            let n = next_line(src.len(), e);
+            if run_count(q, j) >= count && blank_within(src, j, e, self.sep, self.tab) {
+                return n;
+            }
+            search = n;
         }
     }
 
     // A line that begins with the fence byte at `p`: a fence, or nothing more on that line, since an opening fence begins its line.
     fn open_at(self, src: &[u8], p: usize) -> Turn
-        requires { holds (is self.byte) src.now p ≡ true }
+        requires here { holds (is self.byte) src.now p ≡ true }
+        requires src_len_bound { length src.now ≤ 4294967295 }
         ensures { Gives (open_line self src.now p) (view result) }
     {
         let j = run_end(src, p, self.byte);
         let e = find_byte(src, j, self.eol);
         let n = next_line(src.len(), e);
         let count = run_count(p, j);
-        if count < self.min as usize {
-            return Turn::Go(n);
-        }
         // One search for either, so that it never goes beyond the line.
-        if find_either(src, j, self.byte, self.eol) < e {
+        if count < self.min as usize || find_either(src, j, self.byte, self.eol) < e {
             return Turn::Go(n);
         }
-        Turn::Found(p, self.close(src, count, n))
+        Turn::Found(Span {
+            start: p as u32,
+            end: self.close(src, count, n) as u32,
+        })
     }
 
     fn open_turn(self, src: &[u8], q: usize) -> Turn
+        requires { length src.now ≤ 4294967295 }
         ensures { Gives (open_turn self src.now q) (view result) }
     {
         let p = find_byte(src, q, self.byte);
         if p >= src.len() {
-            return Turn::Stop(q);
+            Turn::Stop(q)
+        } else if line_start(src, p, self.eol) {
+            self.open_at(src, p)
+        } else {
+            Turn::Go(p + 1)
         }
-        if line_start(src, p, self.eol) {
-            return self.open_at(src, p);
-        }
-        Turn::Go(p + 1)
     }
 
-    // The first fence at or after `from`, or where the scan stays when there is none.
-    fn first_open(self, src: &[u8], from: usize) -> Opened
-        requires { from ≤ length src.now }
-        ensures { Gives (first_turn (open_turn self src.now) (length src.now) from) (rests result) }
+    // The first fence from the state's place on, if there is one, and the place that the scan goes on from.
+    fn first_open(self, src: &[u8]) -> (Option<Span>, usize)
+        requires pos_in_bounds { self.pos ≤ length src.now }
+        requires src_len_bound { length src.now ≤ 4294967295 }
+        ensures { Gives (first_turn (open_turn self src.now) (length src.now) self.pos) (rests result.0 result.1) }
     {
-        let mut q = from;
+        let mut q = self.pos;
         loop {
             match self.open_turn(src, q) {
-                Turn::Go(n) => {
-                    q = n;
-                }
-                Turn::Stop(v) => {
-                    return Opened::Stopped(v);
-                }
-                Turn::Found(a, b) => {
-                    return Opened::Found(a, b);
-                }
+                Turn::Go(n) => q = n,
+                Turn::Stop(v) => return (None, v),
+                Turn::Found(f) => return (Some(f), f.end as usize),
             }
         }
     }
@@ -185,31 +144,22 @@ impl FenceIter {
     pub fn next(self, src: &[u8]) -> FenceStep
         ensures { Steps (answer self src.now) (state self src.now) (told_span result.found) result.next }
     {
-        let pos = self.pos;
         if src.len() > MAX_INPUT_LEN {
             return FenceStep {
                 found: Err(Refusal::TextTooLong),
                 next: self,
             };
         }
-        if pos > src.len() {
+        if self.pos > src.len() {
             return FenceStep {
                 found: Err(Refusal::PlaceOutside),
                 next: self,
             };
         }
-        match self.first_open(src, pos) {
-            Opened::Found(a, b) => FenceStep {
-                found: Ok(Some(Span {
-                    start: a as u32,
-                    end: b as u32,
-                })),
-                next: self.at(b),
-            },
-            Opened::Stopped(v) => FenceStep {
-                found: Ok(None),
-                next: self.at(v),
-            },
+        let (found, pos) = self.first_open(src);
+        FenceStep {
+            found: Ok(found),
+            next: self.at(pos),
         }
     }
 }

@@ -1,7 +1,6 @@
 -- Laws of what lines say of fences: the ways out of the functions that ask. Assumes nothing.
-use Rattle.std.specs.Prelude.{◌≡◌, refl, Bool, true, cond, ◌&&◌, List, ◌⊎◌, leb, None, Option, Some}
-use Rattle.std.proofs.Common.{sym, ◌∙◌, inl, inr}
-use Rattle.std.proofs.Math.Path.{subst}
+use Rattle.std.specs.Prelude.{◌≡◌, refl, Bool, true, cond, ◌&&◌, List, ◌⊎◌, leb, None, Option, Some, is_some}
+use Rattle.std.proofs.Common.{sym, ap, ◌∙◌, inl, inr}
 use Rattle.std.proofs.Math.Bool.{false, and-false}
 use Rattle.std.proofs.Math.Logic.{⊎_elim}
 use Prim.Native.Nat.{ℕ, ◌+◌, ◌-◌, ◌≤◌, ◌<◌, min}
@@ -15,14 +14,11 @@ use Rattle.search.specs.SearchLaws.{decide, is_yes, is_no, is_true, is_false, ei
 use Rattle.common.specs.Rules.{entry}
 use Rattle.lines.specs.Fences.{has_in, least_in, run_count, opens_to, opening_of, opens_line, opening, closes_to, closing}
 use Rattle.lines.specs.Reader.{reader, shuts, reader_in, opening_at, close_scan}
-use Rattle.lines.specs.Steps.{CloseTurned}
 use Rattle.common.specs.declared.grammar.Grammar.{Grammar}
-use Rattle.lines.specs.declared.fence_tests.CloseTurn.{CloseTurn}
-use Rattle.lines.specs.declared.fence_tests.CloseTurn.TheVariants.{Go, Closed, Unclosed}
 
 -- ---- a line that closes: its run ends at j, within the line, and is c long
 module _ (g : Grammar) (b count : ℕ) (s : List ℕ) (q e j c : ℕ) (hj : Gives (min (find (other (is b)) s q) e) j) (hc : Gives (run_count q j) c) where
-  pub closes-short : c < count → false ≡ closes_to g b count s q e
+  pub closes-short : c < count → leb count c ≡ closes_to g b count s q e
   unfolding closes_to
   closes-short l = simp (← hj.answer, ← hc.answer, lt-leb count c l)
 
@@ -113,13 +109,13 @@ pub ruleset open_rules = (opens_eol, opens_none, opens-short, opens-more, opens_
 
 -- by the table: f is what it says of the byte b at p
 module _ (eol : ℕ) (fences s : List ℕ) (p b f : ℕ) (hb : Gives (get_or s p 0) b) (hf : Gives (entry 0 fences b) f) where
-  pub opens_rule : (d : Option (ℕ × ℕ)) → (f ≡ 0 → ⊥) → Gives (opening_of eol b (f - 1) s p) d → d ≡ opening eol (has_in fences) (least_in fences) s p
+  pub opens_rule : (n : ℕ) (d : Option (ℕ × ℕ)) → 1 ≤ f → n ≡ f - 1 → Gives (opening_of eol b n s p) d → d ≡ opening eol (has_in fences) (least_in fences) s p
   unfolding opening has_in least_in
-  opens_rule d some hd = hd.answer ∙ simp (← hb.answer, ← hf.answer, lt-ltb 0 f (omega (arith, some)))
+  opens_rule n d some e hd = hd.answer ∙ simp (e, ← hb.answer, ← hf.answer, lt-ltb 0 f (omega (arith, some)))
 
-  pub opens_unruled : f ≡ 0 → None ≡ opening eol (has_in fences) (least_in fences) s p
+  pub opens_unruled : (1 ≤ f → ⊥) → None ≡ opening eol (has_in fences) (least_in fences) s p
   unfolding opening has_in
-  opens_unruled e = simp (← hb.answer, ← hf.answer, e)
+  opens_unruled h = let e : f ≡ 0 = omega (arith, h) in simp (← hb.answer, ← hf.answer, e)
 
 -- a line opens with its whole run, up to its line's end
 abbrev pub whole_run : (eol : ℕ) (s : List ℕ) (p : ℕ) → Option (ℕ × ℕ)
@@ -135,32 +131,15 @@ opening-is eol has least s p = by (has (get_or s p 0))
     by true = refl
     by false = refl
 
--- what an answer says of the line
-module _ (eol : ℕ) (has : ℕ → Bool) (least : ℕ → ℕ) (s : List ℕ) (p : ℕ) (d : Option (ℕ × ℕ)) (says : Gives (opening eol has least s p) d) where
-  told-opens : (r e : ℕ) → d ≡ Some (r, e) → true ≡ opens_line eol has least s p
-  told-opens r e h = by (decide (opens_line eol has least s p))
-    where
-      by : (opens_line eol has least s p ≡ true) ⊎ (opens_line eol has least s p ≡ false) → true ≡ opens_line eol has least s p
-      by (inl u) = sym u
-      by (inr u) = absurd (let w : None ≡ Some (r, e) = sym (opening-is eol has least s p ∙ rw u) ∙ (sym says.answer ∙ h) in let z : ◌≡◌ {A = ℕ} 0 1 = cc in omega arith)
-
-  told_not : d ≡ None → false ≡ opens_line eol has least s p
-  told_not h = by (decide (opens_line eol has least s p))
-    where
-      by : (opens_line eol has least s p ≡ true) ⊎ (opens_line eol has least s p ≡ false) → false ≡ opens_line eol has least s p
-      by (inl u) =
-          absurd (let w : whole_run eol s p ≡ None = sym (opening-is eol has least s p ∙ rw u) ∙ (sym says.answer ∙ h) in let z : ◌≡◌ {A = ℕ} 0 1 = cc in omega arith)
-      by (inr u) = sym u
-
 -- ---- the same, asked of the reader
-module _ (g : Grammar) (fences s : List ℕ) (p : ℕ) (d : Option (ℕ × ℕ)) (says : Gives (opening g.eol (has_in fences) (least_in fences) s p) d) where
-  pub enters_yes : (r e : ℕ) → d ≡ Some (r, e) → true ≡ (reader_in g fences).enters s p
-  unfolding reader
-  enters_yes r e h = told-opens g.eol (has_in fences) (least_in fences) s p d says r e h
-
-  pub enters_no : d ≡ None → false ≡ (reader_in g fences).enters s p
-  unfolding reader
-  enters_no h = told_not g.eol (has_in fences) (least_in fences) s p d says h
+pub enters_told : (g : Grammar) (fences s : List ℕ) (p : ℕ) (d : Option (ℕ × ℕ)) → Gives (opening g.eol (has_in fences) (least_in fences) s p) d → is_some d ≡ (reader_in g fences).enters s p
+unfolding reader
+enters_told g fences s p d says =
+    ap is_some (says.answer ∙ opening-is g.eol (has_in fences) (least_in fences) s p) ∙ by (opens_line g.eol (has_in fences) (least_in fences) s p)
+  where
+    by : (y : Bool) → is_some (cond y (whole_run g.eol s p) None) ≡ y
+    by true = refl
+    by false = refl
 
 module _ (g : Grammar) (fences s : List ℕ) (p : ℕ) (y : Bool) where
   pub at_start : (d : Option (ℕ × ℕ)) → y ≡ true → Gives (line_start g.eol s p) y → Gives (opening g.eol (has_in fences) (least_in fences) s p) d → d ≡ opening_at (reader_in g fences) g.eol s p
@@ -201,8 +180,7 @@ module _ (g : Grammar) (b count : ℕ) (s : List ℕ) where
         closing_byte j
         (⊎_elim (λ (u : ltb j (length s) ≡ true). holds_in (is b) s j (ltb-true j (length s) u) ∙ find_before (is b) s from j h (omega (arith, hq.here))) (λ u. holds-past (is b) s j (ltb-false j (length s) u)) (decide (ltb j (length s))))
 
-    pub close_none : length s ≤ q → CloseTurned (shuts g b count s) g.eol s from Unclosed
-    unfolding CloseTurned
+    close_none : length s ≤ q → length s ≤ first_place (shuts g b count s) from (length s)
     close_none l = by (decide (ltb from (length s)))
       where
         by : (ltb from (length s) ≡ true) ⊎ (ltb from (length s) ≡ false) → length s ≤ first_place (shuts g b count s) from (length s)
@@ -215,13 +193,8 @@ module _ (g : Grammar) (b count : ℕ) (s : List ℕ) where
       at_b : holds (is b) s q ≡ true
       at_b = holds_in (is b) s q inside ∙ (rw (← hq.here) at (find_at (is b) s from (omega (arith, hq.here))))
 
-      pub close_skip : y ≡ false → CloseTurned (shuts g b count s) g.eol s from (Go (q + 1))
-      unfolding CloseTurned
-      close_skip e = (
-        omega (arith, hq.low),
-        omega arith,
-        first-over (shuts g b count s) from (q + 1) (length s) (omega (arith, hq.low)) (omega arith) miss,
-      )
+      close_skip : y ≡ false → first_place (shuts g b count s) from (length s) ≡ first_place (shuts g b count s) (q + 1) (length s)
+      close_skip e = first-over (shuts g b count s) from (q + 1) (length s) (omega (arith, hq.low)) (omega arith) miss
         where
           miss : (j : ℕ) → from ≤ j → j < q + 1 → shuts g b count s j ≡ false
           miss j h l =
@@ -229,21 +202,16 @@ module _ (g : Grammar) (b count : ℕ) (s : List ℕ) where
               (λ u. let z : j ≡ q = omega (arith, ltb-false j q u) in rw z (closing_start q (sym hy.answer ∙ e))) (decide (ltb j q))
 
       module _ (start : y ≡ true) (e : ℕ) (he : Sought (is g.eol) s q e) (x : Bool) (hx : Gives (closes_to g b count s q e) x) where
-        pub close_hit : x ≡ true → CloseTurned (shuts g b count s) g.eol s from (Closed q e)
-        unfolding CloseTurned
-        close_hit c = (
-          first-over (shuts g b count s) from q (length s) hq.low (omega arith) before
-              ∙ first_here (shuts g b count s) q (length s) inside (closing_yes q (sym hy.answer ∙ start) at_b (rw he.here at (sym hx.answer ∙ c))),
-          inside,
-          he.here,
-        )
+        close_hit : x ≡ true → first_place (shuts g b count s) from (length s) ≡ q
+        close_hit c =
+            first-over (shuts g b count s) from q (length s) hq.low (omega arith) before
+            ∙ first_here (shuts g b count s) q (length s) inside (closing_yes q (sym hy.answer ∙ start) at_b (rw he.here at (sym hx.answer ∙ c)))
 
-        pub close_miss : (n : ℕ) → x ≡ false → Gives (next_line (length s) e) n → CloseTurned (shuts g b count s) g.eol s from (Go n)
-        unfolding CloseTurned
-        close_miss n c hn =
-            let h : from < n = omega (arith, hq.low, he.low, hn.answer) in
-            let l : n ≤ length s = omega (arith, hn.answer) in
-            (h, l, first-over (shuts g b count s) from n (length s) (omega arith) l miss)
+        pub close_less : (n : ℕ) → Gives (next_line (length s) e) n → length s - n < length s - from
+        close_less n hn = omega (arith, hq.low, he.low, hn.answer)
+
+        close_miss : (n : ℕ) → x ≡ false → Gives (next_line (length s) e) n → first_place (shuts g b count s) from (length s) ≡ first_place (shuts g b count s) n (length s)
+        close_miss n c hn = first-over (shuts g b count s) from n (length s) (omega (arith, hq.low, he.low, hn.answer)) (omega (arith, hn.answer)) miss
           where
             miss : (j : ℕ) → from ≤ j → j < n → shuts g b count s j ≡ false
             miss j h l = by (decide (ltb j q)) (decide (ltb q j))
@@ -256,8 +224,6 @@ module _ (g : Grammar) (b count : ℕ) (s : List ℕ) where
                     let z : j ≡ q = omega (arith, ltb-false j q u, ltb-false q j v) in
                     rw z (closing-line q (rw he.here at (sym hx.answer ∙ c)))
 
-pub ruleset close_turn_rules = (close_none, close_skip, close_hit, close_miss)
-
 -- the loop: from the place that it has come to, the search has the same answer
 pub record Closes (t : ℕ → Bool) (len from q : ℕ) : Type 0 where
   pub same : first_place t from len ≡ first_place t q len
@@ -265,25 +231,21 @@ pub record Closes (t : ℕ → Bool) (len from q : ℕ) : Type 0 where
 pub closes-first : (t : ℕ → Bool) (len q : ℕ) → Closes t len q q
 closes-first t len q = record { same = refl }
 
-module _ (g : Grammar) (b count : ℕ) (s : List ℕ) (from q : ℕ) (d : CloseTurn) (turned : CloseTurned (shuts g b count s) g.eol s q d) where
-  pub closes_less : (n : ℕ) → d ≡ Go n → length s - n < length s - q
-  unfolding CloseTurned
-  closes_less n e = let w = subst (CloseTurned (shuts g b count s) g.eol s q) e turned in omega (arith, w)
+module _ (g : Grammar) (b count : ℕ) (s : List ℕ) (from j q : ℕ) (w : Closes (shuts g b count s) (length s) from j) (hq : Sought (is b) s j q) where
+  pub closes_not : length s ≤ q → None ≡ close_scan g b count s from
+  unfolding close_scan
+  closes_not l = simp (w.same, le-ltb (first_place (shuts g b count s) j (length s)) (length s) (close_none g b count s j q hq l))
 
-  pub closes_again : (n : ℕ) → d ≡ Go n → Closes (shuts g b count s) (length s) from q → Closes (shuts g b count s) (length s) from n
-  unfolding CloseTurned
-  closes_again n e w = record { same = w.same ∙ (subst (CloseTurned (shuts g b count s) g.eol s q) e turned).2 }
+  module _ (inside : q < length s) (y : Bool) (hy : Gives (line_start g.eol s q) y) where
+    pub closes_skip : y ≡ false → Closes (shuts g b count s) (length s) from (q + 1)
+    closes_skip e = record { same = w.same ∙ close_skip g b count s j q hq inside y hy e }
 
-  pub closes_found : (p e : ℕ) → d ≡ Closed p e → Closes (shuts g b count s) (length s) from q → Some (p, e) ≡ close_scan g b count s from
-  unfolding close_scan CloseTurned
-  closes_found p e h w =
-      let v = subst (CloseTurned (shuts g b count s) g.eol s q) h turned in
-      simp (w.same, v.0, lt-ltb p (length s) v.1, v.2)
+    module _ (start : y ≡ true) (e : ℕ) (he : Sought (is g.eol) s q e) (x : Bool) (hx : Gives (closes_to g b count s q e) x) where
+      pub closes_found : x ≡ true → Some (q, e) ≡ close_scan g b count s from
+      unfolding close_scan
+      closes_found c = simp (w.same, close_hit g b count s j q hq inside y hy start e he x hx c, lt-ltb q (length s) inside, he.here)
 
-  pub closes_not : d ≡ Unclosed → Closes (shuts g b count s) (length s) from q → None ≡ close_scan g b count s from
-  unfolding close_scan CloseTurned
-  closes_not h w =
-      let v = subst (CloseTurned (shuts g b count s) g.eol s q) h turned in
-      simp (w.same, le-ltb (first_place (shuts g b count s) q (length s)) (length s) v)
+      pub closes_again : (n : ℕ) → x ≡ false → Gives (next_line (length s) e) n → Closes (shuts g b count s) (length s) from n
+      closes_again n c hn = record { same = w.same ∙ close_miss g b count s j q hq inside y hy start e he x hx n c hn }
 
-pub ruleset close_rules = (closes-first, closes_less, closes_again, closes_found, closes_not)
+pub ruleset close_rules = (closes-first, closes_not, closes_skip, closes_found, closes_again, close_less)

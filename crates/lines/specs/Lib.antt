@@ -2,7 +2,6 @@ pub mod Fences
 pub mod Paragraph
 pub mod Reader
 pub mod Leaf
-pub mod Steps
 pub mod RuleLaws
 pub mod FenceLaws
 pub mod ParagraphLaws

@@ -1,6 +1,6 @@
 -- Laws of paragraphs: the ways out of the search for a byte in one. Assumes nothing.
-use Rattle.std.proofs.Math.Path.{◌≡◌, sym, subst}
-use Rattle.std.specs.Prelude.{refl, Bool, List, ◌⊎◌, ℕ, ◌+◌, ◌-◌, ◌≤◌, ◌<◌}
+use Rattle.std.proofs.Math.Path.{◌≡◌, sym}
+use Rattle.std.specs.Prelude.{refl, Bool, List, ◌⊎◌, ℕ, ◌+◌, ◌≤◌, ◌<◌}
 use Rattle.std.proofs.Common.{◌∙◌, inl, inr}
 use Rattle.std.proofs.Math.Bool.{true, false, and-false, or-true}
 use Rattle.std.proofs.Math.Logic.{⊎_elim}
@@ -12,10 +12,7 @@ use Rattle.search.specs.Promise.{Gives}
 use Rattle.search.specs.Search.{is, either, holds, first_place, find, Sought}
 use Rattle.search.specs.SearchLaws.{decide, is_yes, is_no, either_true, either_false, holds_in, holds-past, first_none, first_end, first-over, first-is, first_ge, find_ge, find_end, find_before, find_at, find-is, find-over}
 use Rattle.lines.specs.Paragraph.{ends_at, paragraph_end, next_in}
-use Rattle.lines.specs.Steps.{NextTurned}
 use Rattle.lines.specs.declared.fence_tests.Hit.TheVariants as hit
-use Rattle.lines.specs.declared.fence_tests.NextTurn.{NextTurn}
-use Rattle.lines.specs.declared.fence_tests.NextTurn.TheVariants.{Go, At, End}
 
 module _ (eol : ℕ) (opens : ℕ → Bool) (s : List ℕ) where
   ends_eol : (q : ℕ) → holds (is eol) s q ≡ false → ends_at eol opens s q ≡ false
@@ -78,8 +75,8 @@ module _ (eol : ℕ) (opens : ℕ → Bool) (s : List ℕ) (x j q : ℕ) (hq : S
   unfolding paragraph_end
   ends_here l e = none eol opens s x j q (first-is (ends_at eol opens s) j q (length s) hq.low l no_end e) no_sooner
 
-  pub next_past : length s ≤ q → NextTurned eol opens s x j (End q)
-  unfolding paragraph_end NextTurned
+  next_past : length s ≤ q → next_in eol opens s x j ≡ hit.End q
+  unfolding paragraph_end
   next_past l = none eol opens s x j q (by (decide (ltb j (length s)))) no_sooner
     where
       by : (ltb j (length s) ≡ true) ⊎ (ltb j (length s) ≡ false) → paragraph_end eol opens s j ≡ q
@@ -92,8 +89,8 @@ module _ (eol : ℕ) (opens : ℕ → Bool) (s : List ℕ) (x j q : ℕ) (hq : S
           first_end (ends_at eol opens s) j (length s) h ∙ sym (hq.here ∙ find_end (either x eol) s j h)
 
   module _ (inside : q < length s) where
-    pub next-at : (get_or s q 0 ≡ eol → ⊥) → NextTurned eol opens s x j (At q)
-    unfolding next_in paragraph_end NextTurned
+    next-at : (get_or s q 0 ≡ eol → ⊥) → next_in eol opens s x j ≡ hit.At q
+    unfolding next_in paragraph_end
     next-at d =
         let w = either_true x eol (get_or s q 0) (rw (← hq.here) at (find_at (either x eol) s j (omega (arith, hq.here)))) in
         let y : get_or s q 0 ≡ x = ⊎_elim (λ (a : get_or s q 0 ≡ x). a) (λ a. absurd (d a)) w in
@@ -111,26 +108,20 @@ module _ (eol : ℕ) (opens : ℕ → Bool) (s : List ℕ) (x j q : ℕ) (hq : S
       at_eol : holds (is eol) s q ≡ true
       at_eol = holds_in (is eol) s q inside ∙ is_yes eol (get_or s q 0) e
 
-      pub next_last : length s ≤ q + 1 → NextTurned eol opens s x j (End q)
-      unfolding NextTurned
+      next_last : length s ≤ q + 1 → next_in eol opens s x j ≡ hit.End q
       next_last l = ends_here inside (ends_last eol opens s q at_eol l)
 
-      pub next_empty : q + 1 < length s → get_or s (q + 1) 0 ≡ eol → NextTurned eol opens s x j (End q)
-      unfolding NextTurned
+      next_empty : q + 1 < length s → get_or s (q + 1) 0 ≡ eol → next_in eol opens s x j ≡ hit.End q
       next_empty l f = ends_here inside (ends_empty eol opens s q at_eol (holds_in (is eol) s (q + 1) l ∙ is_yes eol (get_or s (q + 1) 0) f))
 
-      pub next_fence_lem : (y : Bool) → y ≡ true → Gives (opens (q + 1)) y → NextTurned eol opens s x j (End q)
-      unfolding NextTurned
+      next_fence_lem : (y : Bool) → y ≡ true → Gives (opens (q + 1)) y → next_in eol opens s x j ≡ hit.End q
       next_fence_lem y u g = ends_here inside (ends_fence eol opens s q at_eol (sym g.answer ∙ u))
 
-      pub next_on : (y : Bool) → q + 1 < length s → (get_or s (q + 1) 0 ≡ eol → ⊥) → Gives (opens (q + 1)) y → y ≡ false → NextTurned eol opens s x j (Go (q + 1))
-      unfolding paragraph_end NextTurned
-      next_on y l d g u = (
-        omega (arith, hq.low),
-        omega arith,
-        same eol opens s x j (q + 1) (first-over (ends_at eol opens s) j (q + 1) (length s) (omega (arith, hq.low)) (omega arith) miss)
-            (λ apart. find-over (is x) s j (q + 1) (omega (arith, hq.low)) (omega arith) (skipped apart)),
-      )
+      next_on : (y : Bool) → q + 1 < length s → (get_or s (q + 1) 0 ≡ eol → ⊥) → Gives (opens (q + 1)) y → y ≡ false → next_in eol opens s x j ≡ next_in eol opens s x (q + 1)
+      unfolding paragraph_end
+      next_on y l d g u =
+          same eol opens s x j (q + 1) (first-over (ends_at eol opens s) j (q + 1) (length s) (omega (arith, hq.low)) (omega arith) miss)
+          (λ apart. find-over (is x) s j (q + 1) (omega (arith, hq.low)) (omega arith) (skipped apart))
         where
           miss : (k : ℕ) → j ≤ k → k < q + 1 → ends_at eol opens s k ≡ false
           miss k a b =
@@ -151,21 +142,25 @@ pub record Nexts (eol : ℕ) (opens : ℕ → Bool) (s : List ℕ) (x from j : �
 pub nexts_first : (eol : ℕ) (opens : ℕ → Bool) (s : List ℕ) (x j : ℕ) → Nexts eol opens s x j j
 nexts_first eol opens s x j = record { same = refl }
 
-module _ (eol : ℕ) (opens : ℕ → Bool) (s : List ℕ) (x from j : ℕ) (d : NextTurn) (turned : NextTurned eol opens s x j d) where
-  pub nexts_less : (n : ℕ) → d ≡ Go n → length s - n < length s - j
-  unfolding NextTurned
-  nexts_less n e = let w = subst (NextTurned eol opens s x j) e turned in omega (arith, w)
+module _ (eol : ℕ) (opens : ℕ → Bool) (s : List ℕ) (x from j q : ℕ) (w : Nexts eol opens s x from j) (hq : Sought (either x eol) s j q) where
+  pub nexts_past : length s ≤ q → hit.End q ≡ next_in eol opens s x from
+  nexts_past l = sym (w.same ∙ next_past eol opens s x j q hq l)
 
-  pub nexts_again : (n : ℕ) → d ≡ Go n → Nexts eol opens s x from j → Nexts eol opens s x from n
-  unfolding NextTurned
-  nexts_again n e w = record { same = w.same ∙ (subst (NextTurned eol opens s x j) e turned).2 }
+  module _ (inside : q < length s) where
+    pub nexts_at : (get_or s q 0 ≡ eol → ⊥) → hit.At q ≡ next_in eol opens s x from
+    nexts_at d = sym (w.same ∙ next-at eol opens s x j q hq inside d)
 
-  pub nexts_at : (q : ℕ) → d ≡ At q → Nexts eol opens s x from j → hit.At q ≡ next_in eol opens s x from
-  unfolding NextTurned
-  nexts_at q e w = sym (w.same ∙ subst (NextTurned eol opens s x j) e turned)
+    module _ (e : get_or s q 0 ≡ eol) where
+      pub nexts_last : length s ≤ q + 1 → hit.End q ≡ next_in eol opens s x from
+      nexts_last l = sym (w.same ∙ next_last eol opens s x j q hq inside e l)
 
-  pub nexts_end : (u : ℕ) → d ≡ End u → Nexts eol opens s x from j → hit.End u ≡ next_in eol opens s x from
-  unfolding NextTurned
-  nexts_end u e w = sym (w.same ∙ subst (NextTurned eol opens s x j) e turned)
+      pub nexts_empty : q + 1 < length s → get_or s (q + 1) 0 ≡ eol → hit.End q ≡ next_in eol opens s x from
+      nexts_empty l f = sym (w.same ∙ next_empty eol opens s x j q hq inside e l f)
 
-pub ruleset next_rules = (nexts_first, nexts_less, nexts_again, nexts_at, nexts_end)
+      pub nexts_fence : (y : Bool) → y ≡ true → Gives (opens (q + 1)) y → hit.End q ≡ next_in eol opens s x from
+      nexts_fence y u g = sym (w.same ∙ next_fence_lem eol opens s x j q hq inside e y u g)
+
+      pub nexts_again : (y : Bool) → q + 1 < length s → (get_or s (q + 1) 0 ≡ eol → ⊥) → Gives (opens (q + 1)) y → y ≡ false → Nexts eol opens s x from (q + 1)
+      nexts_again y l d g u = record { same = w.same ∙ next_on eol opens s x j q hq inside e y l d g u }
+
+pub ruleset next_rules = (nexts_first, nexts_past, nexts_at, nexts_last, nexts_empty, nexts_fence, nexts_again)

@@ -44,12 +44,12 @@ module _ (bytes mins : List ℕ) where
     inside : ltb (i - 1) (length bytes) ≡ true
     inside = lt-ltb (i - 1) (length bytes) (omega (arith, w.within))
 
-    pub filled_again : (x n v : ℕ) → Index (get_or bytes (i - 1) 0) x → Gives (get_or mins (i - 1) 0) n → Gives (n + 1) v → TableFilled bytes mins (set fences x v) (i - 1)
+    pub filled_again : (x n : ℕ) → Index (get_or bytes (i - 1) 0) x → Gives (get_or mins (i - 1) 0) n → TableFilled bytes mins (set fences x (n + 1)) (i - 1)
     unfolding cell_from
-    filled_again x n v d g e = rw d.same (record {
+    filled_again x n d g = rw d.same (record {
       within = omega (arith, w.within);
       cells =
-          table_set 0 fences (cell_from bytes mins i) (cell_from bytes mins (i - 1)) (get_or bytes (i - 1) 0) v (omega (arith, d.same, d.below)) (simp (here, inside, ← g.answer, e.answer))
+          table_set 0 fences (cell_from bytes mins i) (cell_from bytes mins (i - 1)) (get_or bytes (i - 1) 0) (n + 1) (omega (arith, d.same, d.below)) (simp (here, inside, ← g.answer))
           (λ k e. rw (there k e)) w.cells;
     })
 

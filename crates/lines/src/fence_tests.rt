@@ -1,30 +1,21 @@
 // What a line says of fences, after context.rs: whether it opens one, whether it closes one, and the search for the close. The
 // rules come as one table over the byte: 0 where no rule has it, else one more than the minimum of the first that has.
-ghost use Rattle.std.specs.Prelude.{◌+◌};
 ghost use Rattle.search.specs.Promise.{Gives};
 ghost use Rattle.common.specs.Rules.{entry};
 ghost use Rattle.lines.specs.Fences.{fence_table, has_in, least_in, run_count, opening_of, opening, closes_to};
 ghost use Rattle.lines.specs.Reader.{shuts, reader_in, opening_at, close_scan};
 ghost use Rattle.lines.specs.Paragraph.{next_in};
-ghost use Rattle.lines.specs.Steps.{CloseTurned, NextTurned};
 
 use common::grammar::Grammar;
 use common::sets::index;
 use find::{find_byte, find_either};
-use search::{blank_within, byte_at, is_at, lesser, line_start, next_line, run_end, run_within};
+use search::{blank_within, byte_at, is_at, line_start, next_line, run_end, run_within};
 
-// A byte sought in a paragraph, or where the paragraph ends.
-#[derive(Clone, Copy)]
+// A byte sought in a paragraph, or where the paragraph ends. Either is a place to go on from, so neither is a failure or nothing.
+#[derive(Clone, Copy, PartialEq, Eq, Debug)]
 pub enum Hit {
     At(usize),
     End(usize),
-}
-
-// A minimum's entry in the table.
-fn one_more(least: u8) -> u16
-    ensures { Gives (least + 1) result }
-{
-    least as u16 + 1
 }
 
 // The table of fence rules given as columns. Filled from the last rule to the first, so that the first rule with a byte decides.
@@ -32,36 +23,24 @@ pub fn fence_table(bytes: &[u8], mins: &[u8]) -> [u16; 256]
     ensures { Gives (fence_table bytes.now mins.now) result }
 {
     let mut fences = [0u16; 256];
-    let mut i = bytes.len();
-    while i > 0 {
-        i -= 1;
-        fences[index(bytes[i])] = one_more(byte_at(mins, i));
+    for i in (0..bytes.len()).rev() {
+        fences[index(bytes[i])] = byte_at(mins, i) as u16 + 1;
     }
     fences
-}
-
-// A table's cell as a number.
-fn number(cell: u16) -> usize
-    ensures { Gives cell result }
-{
-    cell as usize
 }
 
 // The table's entry for a byte.
 fn fence_of(fences: &[u16; 256], b: u8) -> usize
     ensures { Gives (entry 0 fences.now b) result }
 {
-    number(fences[b as usize])
+    fences[b as usize] as usize
 }
 
 // The length of a run from `p` up to `j`, counted to 255.
 pub fn run_count(p: usize, j: usize) -> usize
     ensures { Gives (run_count p j) result }
 {
-    if j <= p {
-        return 0;
-    }
-    lesser(j - p, 255)
+    j.saturating_sub(p).min(255)
 }
 
 // Does the line that begins at `pos` open a fence of `byte`? It has a run of at least `least` and at least 1, and no further
@@ -94,11 +73,8 @@ pub fn fence_opens(src: &[u8], pos: usize, eol: u8, fences: &[u16; 256]) -> Opti
     ensures { Gives (opening eol (has_in fences.now) (least_in fences.now) src.now pos) result }
 {
     let b = byte_at(src, pos);
-    let f = fence_of(fences, b);
-    if f == 0 {
-        return None;
-    }
-    opens_with(src, pos, eol, b, f - 1)
+    let least = fence_of(fences, b).checked_sub(1)?;
+    opens_with(src, pos, eol, b, least)
 }
 
 // Does a fence's run begin at `p`? It begins its line, and the line opens a fence.
@@ -106,19 +82,17 @@ pub fn opens_at(src: &[u8], p: usize, g: Grammar, fences: &[u16; 256]) -> Option
     ensures { Gives (opening_at (reader_in g fences.now) g.eol src.now p) result }
 {
     if line_start(src, p, g.eol) {
-        return fence_opens(src, p, g.eol, fences);
+        fence_opens(src, p, g.eol, fences)
+    } else {
+        None
     }
-    None
 }
 
 // Would the line that begins at `ls` end a paragraph by opening a fence?
 pub fn fence_opens_line(src: &[u8], ls: usize, g: Grammar, fences: &[u16; 256]) -> bool
     ensures { Gives ((reader_in g fences.now).enters src.now ls) result }
 {
-    match fence_opens(src, ls, g.eol, fences) {
-        Some((_, _)) => true,
-        None => false,
-    }
+    fence_opens(src, ls, g.eol, fences).is_some()
 }
 
 // Does the line from `pos` up to `end` close a fence of `byte` whose opening run was `count`? Its run is as long or
@@ -127,40 +101,11 @@ pub fn fence_closes(src: &[u8], pos: usize, end: usize, byte: u8, count: usize, 
     ensures { Gives (closes_to g byte count src.now pos end) result }
 {
     let i = run_within(src, pos, end, byte);
-    if run_count(pos, i) < count {
-        return false;
-    }
-    blank_within(src, i, end, g.sep, g.tab)
+    run_count(pos, i) >= count && blank_within(src, i, end, g.sep, g.tab)
 }
 
-// One step of the search for a close.
-#[derive(Clone, Copy)]
-enum CloseTurn {
-    Go(usize),
-    Closed(usize, usize),
-    Unclosed,
-}
-
-// The next fence byte at or after `search`, and whether the line that begins there closes. Lines that don't begin with the fence
-// byte are never walked.
-fn close_turn(src: &[u8], search: usize, byte: u8, count: usize, g: Grammar) -> CloseTurn
-    ensures { CloseTurned (shuts g byte count src.now) g.eol src.now search result }
-{
-    let q = find_byte(src, search, byte);
-    if q >= src.len() {
-        return CloseTurn::Unclosed;
-    }
-    if line_start(src, q, g.eol) {
-        let e = find_byte(src, q, g.eol);
-        if fence_closes(src, q, e, byte, count, g) {
-            return CloseTurn::Closed(q, e);
-        }
-        return CloseTurn::Go(next_line(src.len(), e));
-    }
-    CloseTurn::Go(q + 1)
-}
-
-// The first line at or after `from` that closes a fence of `byte` and `count`.
+// The first line at or after `from` that closes a fence of `byte` and `count`. Lines that don't begin with the fence byte are never
+// walked.
 pub fn fence_close_scan(
     src: &[u8],
     from: usize,
@@ -172,68 +117,40 @@ pub fn fence_close_scan(
 {
     let mut search = from;
     loop {
-        match close_turn(src, search, byte, count, g) {
-            CloseTurn::Go(n) => {
-                search = n;
-            }
-            CloseTurn::Closed(q, e) => {
-                return Some((q, e));
-            }
-            CloseTurn::Unclosed => {
-                return None;
-            }
+        let q = find_byte(src, search, byte);
+        if q >= src.len() {
+            return None;
         }
+        if !line_start(src, q, g.eol) {
+            search = q + 1;
+            continue;
+        }
+        let e = find_byte(src, q, g.eol);
+        if fence_closes(src, q, e, byte, count, g) {
+            return Some((q, e));
+        }
+        search = next_line(src.len(), e);
     }
 }
 
-// One step of the search in a paragraph.
-#[derive(Clone, Copy)]
-enum NextTurn {
-    Go(usize),
-    At(usize),
-    End(usize),
-}
-
-// The next needle or line end at or after `j`: the needle is found; a line end is crossed, unless the paragraph ends there.
-fn next_turn(src: &[u8], j: usize, needle: u8, g: Grammar, fences: &[u16; 256]) -> NextTurn
-    ensures { NextTurned g.eol ((reader_in g fences.now).enters src.now) src.now needle j result }
-{
-    let q = find_either(src, j, needle, g.eol);
-    if q >= src.len() {
-        return NextTurn::End(q);
-    }
-    if src[q] != g.eol {
-        return NextTurn::At(q);
-    }
-    let n = q + 1;
-    if n >= src.len() {
-        return NextTurn::End(q);
-    }
-    if src[n] == g.eol {
-        return NextTurn::End(q);
-    }
-    if fence_opens_line(src, n, g, fences) {
-        return NextTurn::End(q);
-    }
-    NextTurn::Go(n)
-}
-
-// The next `needle` at or after `from` in the paragraph, else where the paragraph ends.
+// The next `needle` at or after `from` in the paragraph, else where the paragraph ends: a line end is crossed, unless the text ends
+// there, or an empty line or a fence follows.
 pub fn next_in(src: &[u8], from: usize, needle: u8, g: Grammar, fences: &[u16; 256]) -> Hit
     ensures { Gives (next_in g.eol ((reader_in g fences.now).enters src.now) src.now needle from) result }
 {
     let mut j = from;
     loop {
-        match next_turn(src, j, needle, g, fences) {
-            NextTurn::Go(n) => {
-                j = n;
-            }
-            NextTurn::At(q) => {
-                return Hit::At(q);
-            }
-            NextTurn::End(u) => {
-                return Hit::End(u);
-            }
+        let q = find_either(src, j, needle, g.eol);
+        if q >= src.len() {
+            return Hit::End(q);
         }
+        if src[q] != g.eol {
+            return Hit::At(q);
+        }
+        let n = q + 1;
+        if n >= src.len() || src[n] == g.eol || fence_opens_line(src, n, g, fences) {
+            return Hit::End(q);
+        }
+        j = n;
     }
 }

@@ -1,4 +1,6 @@
 -- `leads_from` meets its contract: a loop that runs back by a test, down to a place. Assumes nothing.
+use Rattle.std.proofs.Common.{◌≡◌, arith}
+use borrow.Author.Rules.{rules}
 use Rattle.common.specs.LaterLaws.{look_rules}
 use Rattle.common.proofs.items.leads_from.Goals as goal
 
@@ -9,13 +11,15 @@ pub loop-at-init : goal.loop-at-init
 loop-at-init c = search look_rules
 
 pub returns-then-at-k : goal.returns-then-at-k
-returns-then-at-k c = search look_rules
+returns-then-at-k c = search (look_rules, rules)
 
 pub loop-at-preserved : goal.loop-at-preserved
-loop-at-preserved c = search look_rules
+loop-at-preserved c =
+    let off : ◌≡◌ c.loop-at.at c.args.k → ⊥ = λ e. c.if-at-k.false (omega (arith, e)) in
+    search look_rules
 
-pub returns-else-is_blank : goal.returns-else-is_blank
-returns-else-is_blank c = search look_rules
+pub returns-then-not-is_blank : goal.returns-then-not-is_blank
+returns-then-not-is_blank c = search (look_rules, rules)
 
 pub returns : goal.returns
 returns c = search look_rules

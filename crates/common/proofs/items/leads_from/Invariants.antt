@@ -4,6 +4,3 @@ use Rattle.common.proofs.items.leads_from.Given as goal
 
 abbrev pub invariant-loop-at : goal.invariant-loop-at
 invariant-loop-at l = Looks l.eol l.sep l.tab l.src l.p l.k l.at
-
-abbrev pub decreases-loop-at : goal.decreases-loop-at
-decreases-loop-at l = l.at

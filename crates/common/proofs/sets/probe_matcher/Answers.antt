@@ -5,14 +5,14 @@ use Rattle.common.proofs.sets.probe_matcher.Goals as goal
 pub loop-b-init : goal.loop-b-init
 loop-b-init c = search probing_first
 
+pub loop-b-preserved-then-not-accepted : goal.loop-b-preserved-then-not-accepted
+loop-b-preserved-then-not-accepted c = search probing_no
+
 pub returns-then-n-eq3 : goal.returns-then-n-eq3
 returns-then-n-eq3 c = search probing_many
 
-pub loop-b-preserved-then-matches-b : goal.loop-b-preserved-then-matches-b
-loop-b-preserved-then-matches-b c = search probing_yes
-
 pub loop-b-preserved : goal.loop-b-preserved
-loop-b-preserved c = search probing_no
+loop-b-preserved c = search probing_yes
 
 pub returns : goal.returns
 returns c = search probing_all

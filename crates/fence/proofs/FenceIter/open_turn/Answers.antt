@@ -12,5 +12,5 @@ open_at-requires c = search (turn_byte, rules)
 pub returns-then-line_start : goal.returns-then-line_start
 returns-then-line_start c = search turn_rules
 
-pub returns : goal.returns
-returns c = search turn_rules
+pub returns-else-line_start : goal.returns-else-line_start
+returns-else-line_start c = search turn_rules

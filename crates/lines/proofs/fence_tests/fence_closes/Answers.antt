@@ -3,7 +3,7 @@ use Rattle.lines.specs.FenceLaws.{closes-short, closes-rest}
 use Rattle.lines.proofs.fence_tests.fence_closes.Goals as goal
 
 pub returns-then-run_count-count : goal.returns-then-run_count-count
-returns-then-run_count-count c = search closes-short
+returns-then-run_count-count c = search closes-rest
 
-pub returns : goal.returns
-returns c = search closes-rest
+pub returns-else-run_count-count : goal.returns-else-run_count-count
+returns-else-run_count-count c = search closes-short

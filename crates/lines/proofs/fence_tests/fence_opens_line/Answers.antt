@@ -1,9 +1,7 @@
 -- `fence_opens_line` meets its contract. Assumes nothing.
-use Rattle.lines.specs.FenceLaws.{enters_yes, enters_no}
+use Rattle.std.proofs.Common.{◌∙◌}
+use Rattle.lines.specs.FenceLaws.{enters_told}
 use Rattle.lines.proofs.fence_tests.fence_opens_line.Goals as goal
 
-pub returns-in-Some : goal.returns-in-Some
-returns-in-Some c = search enters_yes
-
-pub returns-in-None : goal.returns-in-None
-returns-in-None c = search enters_no
+pub returns : goal.returns
+returns c = record { answer = c.is_some.ensures ∙ enters_told _ _ _ _ _ c.fence_opens.ensures }

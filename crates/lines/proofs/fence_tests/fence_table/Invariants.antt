@@ -4,6 +4,3 @@ use Rattle.lines.proofs.fence_tests.fence_table.Given as goal
 
 abbrev pub invariant-loop-i : goal.invariant-loop-i
 invariant-loop-i l = TableFilled l.bytes l.mins l.fences l.i
-
-abbrev pub decreases-loop-i : goal.decreases-loop-i
-decreases-loop-i l = l.i

@@ -1,18 +1,20 @@
--- `next_in` meets its contract: a loop of turns. Assumes nothing.
+-- `next_in` meets its contract. Assumes nothing.
 use Rattle.lines.specs.ParagraphLaws.{next_rules}
 use Rattle.lines.proofs.fence_tests.next_in.Goals as goal
+use Rattle.lines.proofs.fence_tests.next_in.Goals.{then-n-src-via-then-n-src, then-n-src-via-else-n-src+then-src-n, then-n-src-via-else-n-src+else-src-n+then-fence_opens_line}
 
-pub loop-n-init : goal.loop-n-init
-loop-n-init c = search next_rules
+pub returns-then-q-src : goal.returns-then-q-src
+returns-then-q-src c = search next_rules
 
-pub loop-n-smaller : goal.loop-n-smaller
-loop-n-smaller c = search next_rules
+pub returns-then-src-q : goal.returns-then-src-q
+returns-then-src-q c = search next_rules
 
-pub loop-n-preserved : goal.loop-n-preserved
-loop-n-preserved c = search next_rules
+pub returns-then-n-src : goal.returns-then-n-src
+returns-then-n-src c = elim c.then-n-src.branch [
+  | then-n-src-via-then-n-src w ↦ search next_rules
+  | then-n-src-via-else-n-src+then-src-n w ↦ search next_rules
+  | then-n-src-via-else-n-src+else-src-n+then-fence_opens_line w ↦ search next_rules
+]
 
-pub returns-in-At : goal.returns-in-At
-returns-in-At c = search next_rules
-
-pub returns-in-End : goal.returns-in-End
-returns-in-End c = search next_rules
+pub loop-g-preserved : goal.loop-g-preserved
+loop-g-preserved c = search next_rules
