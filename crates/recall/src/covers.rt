@@ -1,13 +1,14 @@
 // Section 7: the cursor, as a number and as a record that is lent.
 use cover::cursor::{Cover, covering_end, covers_both};
+use stored::asked::Asked;
 use stored::numbers::Numbers;
-use stored::parts::number_at;
 
-pub(crate) fn ask(letter: u8, asked: &[u32], list: &[u32], reply: Numbers) -> Numbers {
-    let count = number_at(asked, 0) as usize;
-    let index = number_at(asked, 1) as usize;
-    let place = number_at(asked, 2) as usize;
-    match letter {
+pub(crate) fn ask(asked: Asked<'_>, reply: Numbers) -> Numbers {
+    let list = asked.list(0);
+    let count = asked.number(0) as usize;
+    let index = asked.number(1) as usize;
+    let place = asked.number(2) as usize;
+    match asked.letter() {
         b'v' => told(covering_end(list, count, index, place), reply),
         _ => lent(list, count, index, place, reply),
     }

@@ -3,29 +3,18 @@ use crate::lists;
 use common::grammar::Grammar;
 use common::refusal::Refusal;
 use explain::{Explained, Reason, explain};
-use stored::form::Question;
+use stored::asked::Asked;
 use stored::numbers::Numbers;
-use stored::parts::number_at;
 
 // By a list that is given, with its stated count, or by the one that is built of the text.
-pub(crate) fn ask(
-    question: Question,
-    asked: &[u32],
-    text: &[u8],
-    line: usize,
-    reply: Numbers,
-) -> Numbers {
-    let letter = question.letter;
-    match letter {
-        b'w' => told(
-            explain(
-                text,
-                question.list(asked, 0),
-                number_at(asked, 0) as usize,
-                line,
-            ),
-            reply,
-        ),
+pub(crate) fn ask(asked: Asked<'_>, reply: Numbers) -> Numbers {
+    let text = asked.text;
+    let line = asked.place;
+    match asked.letter() {
+        b'w' => {
+            let count = asked.number(0) as usize;
+            told(explain(text, asked.list(0), count, line), reply)
+        }
         _ => by_house(text, line, reply),
     }
 }

@@ -1,5 +1,6 @@
 // Lists that something is written into, and what they hold then.
 use common::refusal::Refusal;
+use std::array;
 use stored::numbers::Numbers;
 use stored::parts::part;
 
@@ -11,27 +12,46 @@ pub(crate) const ROOM: usize = 500;
 
 // So many cells, and further ones behind them, each with a number of its own.
 pub(crate) fn marked(size: usize) -> [u32; MOST] {
-    let mut cells = [0u32; MOST];
-    let mut i = 0;
-    while i < MOST {
-        cells[i] = mark(size, i);
-        i += 1;
-    }
-    cells
+    array::from_fn(|i| mark(size, i))
 }
 
 fn mark(size: usize, i: usize) -> u32 {
-    if size > MOST {
-        return 0;
+    if i < size && size <= MOST {
+        (size - i) as u32 + 1000
+    } else {
+        0
     }
-    if i < size {
-        return (size - i) as u32 + 1000;
+}
+
+// What writing into so many cells of a list answers.
+pub(crate) fn into_cells<F: FnOnce(&mut [u32]) -> Result<usize, Refusal>>(
+    size: usize,
+    reply: Numbers,
+    write: F,
+) -> Numbers
+    requires { F.IsAlwaysCallable write }
+{
+    let mut space = marked(size);
+    let list: &mut [u32] = &mut space;
+    let answer = first(size, list, write);
+    told(answer, part(&list[..], 0, size), reply)
+}
+
+fn first<F: FnOnce(&mut [u32]) -> Result<usize, Refusal>>(
+    size: usize,
+    list: &mut [u32],
+    write: F,
+) -> Result<usize, Refusal>
+    requires { F.IsAlwaysCallable write }
+{
+    if size <= list.len() {
+        return write(&mut list[0..size]);
     }
-    0
+    Ok(0)
 }
 
 // What writing into cells answered: 1, the count or 0, the refusal's number or 0, how many cells there are, and these.
-pub(crate) fn told(answer: Result<usize, Refusal>, cells: &[u32], reply: Numbers) -> Numbers {
+fn told(answer: Result<usize, Refusal>, cells: &[u32], reply: Numbers) -> Numbers {
     match answer {
         Ok(count) => reply.value(count).and(0).list(cells),
         Err(r) => reply.and(1).and(0).and(r.number()).list(cells),
@@ -54,10 +74,10 @@ pub(crate) fn entries(
 // Where so many entries of two or five numbers end; past every list where they are more than any stored answer has.
 fn end_of(count: usize, width: usize) -> usize {
     if count > 400 {
-        return ROOM + 1;
+        ROOM + 1
+    } else if width == 2 {
+        count * 2
+    } else {
+        count * 5
     }
-    if width == 2 {
-        return count * 2;
-    }
-    count * 5
 }

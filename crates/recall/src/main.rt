@@ -6,30 +6,13 @@ mod lists; // lists of so many cells
 mod covers; // section 7: the cursor
 mod explains; // section 10: why a line is not on the work sheet
 mod files; // section 11: records for other tools
-mod judge; // the lines of a list
 mod page; // section 0: what the page says by itself
-mod question; // a question, asked of its texts
 mod regions; // section 6: regions, and the bytes that are searched for
-mod report; // what is printed
 mod sections; // which section asks what
 mod sheets; // section 8: the work sheet
 
-use stored::parts::bytes_part;
+use sections::Recall;
 
-// The descriptor that the program reads.
-const STDIN: i32 = 0;
-
-// The room for all lists. What stands behind it in a longer input isn't read, and then the counts fall short.
-const ROOM: usize = 2000001;
-
-// A function makes it, since a proof takes the length of what a call answers from its type, and counts no zeros.
-fn room() -> [u8; ROOM] {
-    [0; ROOM]
-}
-
-fn main() {
-    let mut space = room();
-    let buffer: &mut [u8] = &mut space;
-    let n = io::read_full(STDIN, buffer);
-    judge::judge(bytes_part(&buffer[..], 0, n));
+fn main(rt: HostRuntime) {
+    replaying::replay::<Recall>(&rt);
 }

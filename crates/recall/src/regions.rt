@@ -8,181 +8,108 @@ use rules::records::FenceRule;
 use rules::rows::{Rows, rule_rows};
 use rules::search_bytes::{Alphabet, search_bytes};
 use search::byte_at;
+use std::array;
 use stored::answers::STEPS;
-use stored::form::Question;
+use stored::asked::Asked;
 use stored::numbers::Numbers;
-use stored::parts::{number_at, part};
 
 // All regions as they are built, by columns or by records; or as steps give them with what made them; a list built into so many
 // cells; or the bytes that are searched for.
-pub(crate) fn ask(
-    question: Question,
-    asked: &[u32],
-    bytes: &[u8],
-    text: &[u8],
-    reply: Numbers,
-) -> Numbers {
-    let letter = question.letter;
-    match letter {
-        b'r' | b'd' => built(question, asked, bytes, text, reply),
-        b'c' => built_into(
-            number_at(asked, 0) as usize,
-            question,
-            asked,
-            bytes,
-            text,
-            reply,
-        ),
-        b'n' => stepped(question, asked, bytes, text, reply),
-        _ => searched(question, bytes, reply),
+pub(crate) fn ask(asked: Asked<'_>, reply: Numbers) -> Numbers {
+    match asked.letter() {
+        b'r' | b'd' => built(asked, reply),
+        b'c' => {
+            let size = asked.number(0) as usize;
+            lists::into_cells(size, reply, |list| build(asked, grammar_of(asked, 1), list))
+        }
+        b'n' => stepped(asked, reply),
+        _ => searched(asked, reply),
     }
 }
 
 // The grammar whose bytes begin at place `i`.
-fn grammar_of(bytes: &[u8], i: usize) -> Grammar {
+fn grammar_of(asked: Asked<'_>, i: usize) -> Grammar {
     if i > 1 {
         return Grammar::house();
     }
     Grammar {
-        eol: byte_at(bytes, i),
-        escape: byte_at(bytes, i + 1),
-        sep: byte_at(bytes, i + 2),
-        tab: byte_at(bytes, i + 3),
+        eol: asked.byte(i),
+        escape: asked.byte(i + 1),
+        sep: asked.byte(i + 2),
+        tab: asked.byte(i + 3),
     }
 }
 
-fn built(question: Question, asked: &[u32], bytes: &[u8], text: &[u8], reply: Numbers) -> Numbers {
+fn built(asked: Asked<'_>, reply: Numbers) -> Numbers {
     let mut space = [0u32; lists::ROOM];
     let list: &mut [u32] = &mut space;
-    let answer = build(question, asked, bytes, grammar_of(bytes, 0), text, list);
+    let answer = build(asked, grammar_of(asked, 0), list);
     lists::entries(answer, &list[..], 2, reply)
 }
 
-fn built_into(
-    size: usize,
-    question: Question,
-    asked: &[u32],
-    bytes: &[u8],
-    text: &[u8],
-    reply: Numbers,
-) -> Numbers {
-    let mut space = lists::marked(size);
-    let list: &mut [u32] = &mut space;
-    let answer = build_first(size, question, asked, bytes, text, list);
-    lists::told(answer, part(&list[..], 0, size), reply)
-}
-
-// Builds into so many cells of a list.
-fn build_first(
-    size: usize,
-    question: Question,
-    asked: &[u32],
-    bytes: &[u8],
-    text: &[u8],
-    list: &mut [u32],
-) -> Result<usize, Refusal> {
-    let g = grammar_of(bytes, 1);
-    if size <= list.len() {
-        return build(question, asked, bytes, g, text, &mut list[0..size]);
-    }
-    Ok(0)
-}
-
-fn build(
-    question: Question,
-    asked: &[u32],
-    bytes: &[u8],
-    g: Grammar,
-    text: &[u8],
-    list: &mut [u32],
-) -> Result<usize, Refusal> {
-    if question.letter == b'd' {
-        return build_recorded(question, asked, bytes, g, text, list);
+fn build(asked: Asked<'_>, g: Grammar, list: &mut [u32]) -> Result<usize, Refusal> {
+    if asked.letter() == b'd' {
+        return build_recorded(asked, g, list);
     }
     context::build(
-        text,
+        asked.text,
         g,
-        question.bytes(bytes, 0),
-        question.bytes(bytes, 1),
-        question.bytes(bytes, 2),
-        question.list(asked, 3),
-        question.bytes(bytes, 4),
-        question.bytes(bytes, 5),
-        question.list(asked, 6),
+        asked.bytes(0),
+        asked.bytes(1),
+        asked.bytes(2),
+        asked.list(3),
+        asked.bytes(4),
+        asked.bytes(5),
+        asked.list(6),
         list,
     )
 }
 
-fn build_recorded(
-    question: Question,
-    asked: &[u32],
-    bytes: &[u8],
-    g: Grammar,
-    text: &[u8],
-    list: &mut [u32],
-) -> Result<usize, Refusal> {
-    let fences = question.bytes(bytes, 0);
+fn build_recorded(asked: Asked<'_>, g: Grammar, list: &mut [u32]) -> Result<usize, Refusal> {
+    let fences = asked.bytes(0);
     context::records::build_few(
-        text,
+        asked.text,
         g,
-        records_of(fences, question.bytes(bytes, 1)),
+        records_of(fences, asked.bytes(1)),
         fences.len(),
-        question.bytes(bytes, 2),
-        question.list(asked, 3),
-        question.bytes(bytes, 4),
-        question.bytes(bytes, 5),
-        question.list(asked, 6),
+        asked.bytes(2),
+        asked.list(3),
+        asked.bytes(4),
+        asked.bytes(5),
+        asked.list(6),
         list,
     )
 }
 
 // The fence rules as records.
 fn records_of(bytes: &[u8], mins: &[u8]) -> [FenceRule; 16] {
-    let mut rules = [FenceRule { byte: 0, min: 0 }; 16];
-    let mut i = 0;
-    while i < 16 {
-        rules[i] = FenceRule {
-            byte: byte_at(bytes, i),
-            min: byte_at(mins, i),
-        };
-        i += 1;
-    }
-    rules
+    array::from_fn(|i| FenceRule {
+        byte: byte_at(bytes, i),
+        min: byte_at(mins, i),
+    })
 }
 
-fn searched(question: Question, bytes: &[u8], reply: Numbers) -> Numbers {
-    let searched = search_bytes(
-        question.bytes(bytes, 0),
-        question.bytes(bytes, 2),
-        question.bytes(bytes, 4),
-    );
-    let needles = searched.bytes;
-    reply.value(searched.count).bytes(&needles)
+fn searched(asked: Asked<'_>, reply: Numbers) -> Numbers {
+    let searched = search_bytes(asked.bytes(0), asked.bytes(2), asked.bytes(4));
+    reply.value(searched.count).bytes(&searched.bytes)
 }
 
 // The rules by byte that a step takes, and all steps from place 0 on.
-fn stepped(
-    question: Question,
-    asked: &[u32],
-    bytes: &[u8],
-    text: &[u8],
-    reply: Numbers,
-) -> Numbers {
-    let begun = reply.entries();
-    let fences = question.bytes(bytes, 0);
-    let symmetric = question.bytes(bytes, 2);
-    let openers = question.bytes(bytes, 4);
-    let alphabet = Alphabet::of(grammar_of(bytes, 0), fences, symmetric, openers);
-    let table = fence_table(fences, question.bytes(bytes, 1));
+fn stepped(asked: Asked<'_>, reply: Numbers) -> Numbers {
+    let fences = asked.bytes(0);
+    let symmetric = asked.bytes(2);
+    let openers = asked.bytes(4);
+    let alphabet = Alphabet::of(grammar_of(asked, 0), fences, symmetric, openers);
+    let table = fence_table(fences, asked.bytes(1));
     let rows = rule_rows(
         fences,
         symmetric,
-        question.list(asked, 3),
+        asked.list(3),
         openers,
-        question.bytes(bytes, 5),
-        question.list(asked, 6),
+        asked.bytes(5),
+        asked.list(6),
     );
-    run(text, alphabet, &table, &rows, begun)
+    run(asked.text, alphabet, &table, &rows, reply.entries())
 }
 
 fn run(
@@ -195,26 +122,23 @@ fn run(
     let mut dead = [0usize; 256];
     let mut from = 0;
     let mut reply = begun;
-    let mut steps = 0;
-    while steps < STEPS {
+    for steps in 0..STEPS {
         let next = next_region(text, from, alphabet, fences, rows, &mut dead);
         let Some((r, after)) = next else {
             return reply.counted(steps);
         };
         reply = region(r, reply);
         from = after;
-        steps += 1;
     }
-    reply.counted(steps)
+    reply.counted(STEPS)
 }
 
 // Start and end, the kind of the rule and its index, and whether a line closed it.
 fn region(r: Region, reply: Numbers) -> Numbers {
-    let cause = r.cause;
     reply
         .size(r.start)
         .size(r.end)
-        .and(kind_of(cause))
+        .and(kind_of(r.cause))
         .size(r.index)
         .flag(r.closed)
 }

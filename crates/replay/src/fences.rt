@@ -2,23 +2,25 @@
 use crate::answers;
 use common::span::Span;
 use fence::FenceIter;
-use search::byte_at;
-use stored::answers::STEPS;
+use stored::asked::Asked;
 use stored::numbers::Numbers;
 
 // A fresh state, all spans that it yields, or a step of the state at a place.
-pub(crate) fn ask(letter: u8, bytes: &[u8], text: &[u8], place: usize, reply: Numbers) -> Numbers {
+pub(crate) fn ask(asked: Asked<'_>, reply: Numbers) -> Numbers {
     let fresh = FenceIter::new(
-        byte_at(bytes, 0),
-        byte_at(bytes, 1),
-        byte_at(bytes, 2),
-        byte_at(bytes, 3),
-        byte_at(bytes, 4),
+        asked.byte(0),
+        asked.byte(1),
+        asked.byte(2),
+        asked.byte(3),
+        asked.byte(4),
     );
-    match letter {
+    match asked.letter() {
         b'f' => state(fresh, reply.and(1)),
-        b'r' => run(fresh, text, reply.entries()),
-        _ => step(fresh, place, text, reply),
+        b'r' => run(fresh, asked.text, reply),
+        _ => {
+            let pos = asked.place;
+            step(FenceIter { pos, ..fresh }, asked.text, reply)
+        }
     }
 }
 
@@ -32,27 +34,19 @@ fn state(state: FenceIter, reply: Numbers) -> Numbers {
         .size(state.pos)
 }
 
-fn step(fresh: FenceIter, place: usize, text: &[u8], reply: Numbers) -> Numbers {
-    let mut at = fresh;
-    at.pos = place;
-    let step = at.next(text);
+fn step(from: FenceIter, text: &[u8], reply: Numbers) -> Numbers {
+    let step = from.next(text);
     let found = step.found;
     state(step.next, answers::span_found(found, reply))
 }
 
-fn run(fresh: FenceIter, text: &[u8], begun: Numbers) -> Numbers {
-    let mut state = fresh;
-    let mut reply = begun;
-    let mut count = 0;
-    while count < STEPS {
+fn run(fresh: FenceIter, text: &[u8], reply: Numbers) -> Numbers {
+    answers::entries(fresh, reply, |state, reply| {
         let step = state.next(text);
         let found = step.found;
         let Ok(Some(span)) = found else {
-            return reply.counted(count);
+            return None;
         };
-        reply = answers::span(span, reply);
-        state = step.next;
-        count += 1;
-    }
-    reply.counted(count)
+        Some((step.next, answers::span(span, reply)))
+    })
 }

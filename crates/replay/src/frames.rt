@@ -2,93 +2,61 @@
 use crate::answers;
 use common::span::Span;
 use cont::ContIter;
-use search::byte_at;
-use stored::answers::STEPS;
-use stored::form::Question;
+use std::array;
+use stored::asked::Asked;
 use stored::numbers::Numbers;
 use stored::parts::{number_at, part};
 
 const DEPTH: usize = ContIter::MAX_DEPTH;
 
 // A fresh state, all frames that it yields, or a step of a handmade state at a place.
-pub(crate) fn ask(
-    question: Question,
-    asked: &[u32],
-    bytes: &[u8],
-    text: &[u8],
-    place: usize,
-    reply: Numbers,
-) -> Numbers {
-    let letter = question.letter;
-    match letter {
-        b'f' => state(fresh(asked, bytes), reply.and(1)),
-        b'r' => run(fresh(asked, bytes), text, reply.entries()),
-        _ => {
-            let open = open_of(question.list(asked, 0));
-            let pending = pending_of(question.list(asked, 1));
-            step(handmade(asked, bytes, place, open, pending), text, reply)
-        }
+pub(crate) fn ask(asked: Asked<'_>, reply: Numbers) -> Numbers {
+    match asked.letter() {
+        b'f' => state(fresh(asked), reply.and(1)),
+        b'r' => run(fresh(asked), asked.text, reply),
+        _ => step(handmade(asked), asked.text, reply),
     }
 }
 
-fn fresh(asked: &[u32], bytes: &[u8]) -> ContIter {
+fn fresh(asked: Asked<'_>) -> ContIter {
     ContIter::new(
-        byte_at(bytes, 1),
-        byte_at(bytes, 2),
-        byte_at(bytes, 3),
-        byte_at(bytes, 4),
-        number_at(asked, 0) as usize,
+        asked.byte(1),
+        asked.byte(2),
+        asked.byte(3),
+        asked.byte(4),
+        asked.number(0) as usize,
     )
 }
 
-fn handmade(
-    asked: &[u32],
-    bytes: &[u8],
-    pos: usize,
-    open: [u32; DEPTH],
-    pending: [Span; DEPTH],
-) -> ContIter {
+fn handmade(asked: Asked<'_>) -> ContIter {
     ContIter {
-        byte: byte_at(bytes, 4),
-        eol: byte_at(bytes, 5),
-        sep: byte_at(bytes, 6),
-        tab: byte_at(bytes, 7),
-        cap: number_at(asked, 0) as usize,
-        pos,
-        open,
-        open_len: number_at(asked, 1) as usize,
-        pending,
-        pending_len: number_at(asked, 2) as usize,
-        pending_idx: number_at(asked, 3) as usize,
+        byte: asked.byte(4),
+        eol: asked.byte(5),
+        sep: asked.byte(6),
+        tab: asked.byte(7),
+        cap: asked.number(0) as usize,
+        pos: asked.place,
+        open: open_of(asked.list(0)),
+        open_len: asked.number(1) as usize,
+        pending: pending_of(asked.list(1)),
+        pending_len: asked.number(2) as usize,
+        pending_idx: asked.number(3) as usize,
     }
 }
 
 // The cells of a list; those that it doesn't have are 0.
 fn open_of(list: &[u32]) -> [u32; DEPTH] {
-    let mut open = [0u32; DEPTH];
-    let mut i = 0;
-    while i < DEPTH {
-        open[i] = number_at(list, i);
-        i += 1;
-    }
-    open
+    array::from_fn(|i| number_at(list, i))
 }
 
 fn pending_of(list: &[u32]) -> [Span; DEPTH] {
-    let mut pending = [Span { start: 0, end: 0 }; DEPTH];
-    let mut i = 0;
-    while i < DEPTH {
-        pending[i] = Span {
-            start: number_at(list, i * 2),
-            end: number_at(list, i * 2 + 1),
-        };
-        i += 1;
-    }
-    pending
+    array::from_fn(|i| Span {
+        start: number_at(list, i * 2),
+        end: number_at(list, i * 2 + 1),
+    })
 }
 
 fn state(state: ContIter, reply: Numbers) -> Numbers {
-    let open = state.open;
     let opened = reply
         .byte(state.byte)
         .byte(state.eol)
@@ -96,58 +64,25 @@ fn state(state: ContIter, reply: Numbers) -> Numbers {
         .byte(state.tab)
         .size(state.cap)
         .size(state.open_len)
-        .list(used(&open));
-    let pending = state.pending;
+        .list(used(&state.open));
     let counted = opened.size(state.pending_len).size(state.pending_idx);
-    waiting(pending, counted).size(state.pos)
+    waiting(&state.pending, counted).size(state.pos)
 }
 
 // The cells up to the last that isn't 0.
-fn used(cells: &[u32; DEPTH]) -> &[u32] {
-    let mut end = 0;
-    let mut i = 0;
-    while i < DEPTH {
-        end = used_end(end, i, cells[i]);
-        i += 1;
-    }
+fn used(cells: &[u32]) -> &[u32] {
+    let end = cells.iter().rev().skip_while(|x| **x == 0).count();
     part(cells, 0, end)
 }
 
-// The end of the used cells, where cell `i` holds a number.
-fn used_end(end: usize, i: usize, x: u32) -> usize {
-    if i < DEPTH {
-        if x > 0 {
-            return i + 1;
-        }
-    }
-    end
-}
-
 // The spans up to the last that isn't 0, as a list.
-fn waiting(pending: [Span; DEPTH], before: Numbers) -> Numbers {
-    let end = waiting_end(pending);
-    let mut reply = before.size(end);
-    let mut i = 0;
-    while i < DEPTH {
-        if i >= end {
-            return reply;
-        }
-        reply = answers::span(pending[i], reply);
-        i += 1;
-    }
-    reply
-}
-
-fn waiting_end(pending: [Span; DEPTH]) -> usize {
-    let mut end = 0;
-    let mut i = 0;
-    while i < DEPTH {
-        let span = pending[i];
-        end = used_end(end, i, span.start);
-        end = used_end(end, i, span.end);
-        i += 1;
-    }
-    end
+fn waiting(pending: &[Span], before: Numbers) -> Numbers {
+    let end = pending
+        .iter()
+        .rev()
+        .skip_while(|span| span.start == 0 && span.end == 0)
+        .count();
+    part(pending, 0, end).iter().fold(before.size(end), |reply, span| answers::span(*span, reply))
 }
 
 fn step(from: ContIter, text: &[u8], reply: Numbers) -> Numbers {
@@ -156,19 +91,13 @@ fn step(from: ContIter, text: &[u8], reply: Numbers) -> Numbers {
     state(step.next, answers::span_found(found, reply))
 }
 
-fn run(fresh: ContIter, text: &[u8], begun: Numbers) -> Numbers {
-    let mut state = fresh;
-    let mut reply = begun;
-    let mut count = 0;
-    while count < STEPS {
+fn run(fresh: ContIter, text: &[u8], reply: Numbers) -> Numbers {
+    answers::entries(fresh, reply, |state, reply| {
         let step = state.next(text);
         let found = step.found;
         let Ok(Some(span)) = found else {
-            return reply.counted(count);
+            return None;
         };
-        reply = answers::span(span, reply);
-        state = step.next;
-        count += 1;
-    }
-    reply.counted(count)
+        Some((step.next, answers::span(span, reply)))
+    })
 }

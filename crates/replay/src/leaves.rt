@@ -3,94 +3,51 @@ use crate::answers;
 use common::grammar::Grammar;
 use common::sets;
 use lines::fence_tests;
-use search::byte_at;
-use stored::form::Question;
+use stored::asked::Asked;
 use stored::numbers::Numbers;
-use stored::parts::number_at;
 
-pub(crate) fn ask(
-    question: Question,
-    asked: &[u32],
-    bytes: &[u8],
-    text: &[u8],
-    place: usize,
-    reply: Numbers,
-) -> Numbers {
-    let first = byte_at(bytes, 0);
-    let letter = question.letter;
-    match letter {
+pub(crate) fn ask(asked: Asked<'_>, reply: Numbers) -> Numbers {
+    let first = asked.byte(0);
+    let text = asked.text;
+    let place = asked.place;
+    match asked.letter() {
         b'e' => answers::answer(lines::find_line_end(text, place, first), reply),
         b'c' => answers::answer(lines::count_escape(text, place, first), reply),
-        b'a' => any_of(number_at(asked, 0) as usize, bytes, text, place, reply),
+        b'a' => any_of(asked, reply),
         b'b' => probe(text, reply),
-        b'p' | b'o' => ruled(
-            letter,
-            bytes,
-            question.bytes(bytes, 0),
-            question.bytes(bytes, 1),
-            text,
-            place,
-            reply,
-        ),
-        _ => fenced(
-            letter,
-            first,
-            byte_at(bytes, 1),
-            grammar_of(bytes),
-            text,
-            place,
-            reply,
-        ),
+        b'p' => in_paragraph(asked, reply),
+        b'o' => rule_opens(asked, reply),
+        b'k' => reply.and(1).flag(closes(asked)),
+        b's' => reply.value(closed_at(asked, place, asked.byte(1) as usize)),
+        _ => opened(asked, reply),
     }
 }
 
-// A question with rules, whose bytes and minimums are two lists.
-fn ruled(
-    letter: u8,
-    bytes: &[u8],
-    rules: &[u8],
-    mins: &[u8],
-    text: &[u8],
-    place: usize,
-    reply: Numbers,
-) -> Numbers {
-    let first = byte_at(bytes, 0);
-    if letter == b'p' {
-        let second = byte_at(bytes, 1);
-        return reply.found(lines::next_in_paragraph(text, place, first, second, rules, mins));
-    }
-    match opening(text, place, first, rules, mins) {
+fn any_of(asked: Asked<'_>, reply: Numbers) -> Numbers {
+    let needles = [asked.byte(1), asked.byte(2), asked.byte(3)];
+    let count = asked.number(0) as usize;
+    let place = find::find_any_of(&needles, count, asked.text, asked.place);
+    answers::sought(place, asked.text.len(), reply)
+}
+
+// Questions with rules, whose bytes and minimums are two lists.
+fn in_paragraph(asked: Asked<'_>, reply: Numbers) -> Numbers {
+    reply.found(lines::next_in_paragraph(
+        asked.text,
+        asked.place,
+        asked.byte(0),
+        asked.byte(1),
+        asked.bytes(0),
+        asked.bytes(1),
+    ))
+}
+
+fn rule_opens(asked: Asked<'_>, reply: Numbers) -> Numbers {
+    let eol = asked.byte(0);
+    match opening(asked.text, asked.place, eol, asked.bytes(0), asked.bytes(1)) {
         Some((count, _)) => reply.and(1).size(count),
         None => reply.and(2),
     }
-}
-
-// A question of a fence of so many bytes.
-fn fenced(
-    letter: u8,
-    byte: u8,
-    count: u8,
-    g: Grammar,
-    text: &[u8],
-    place: usize,
-    reply: Numbers,
-) -> Numbers {
-    match letter {
-        b'k' => reply
-            .and(1)
-            .flag(closes(text, place, byte, count as usize, g)),
-        b's' => reply.value(closed_at(text, place, byte, count as usize, g)),
-        _ => opened(text, byte, count, g, reply),
-    }
-}
-
-fn any_of(count: usize, bytes: &[u8], text: &[u8], place: usize, reply: Numbers) -> Numbers {
-    let needles = [byte_at(bytes, 1), byte_at(bytes, 2), byte_at(bytes, 3)];
-    answers::sought(
-        find::find_any_of(&needles, count, text, place),
-        text.len(),
-        reply,
-    )
 }
 
 fn opening(
@@ -105,37 +62,39 @@ fn opening(
 }
 
 // Line end, separator and tab follow a fence's byte and count. The escape plays no part.
-fn grammar_of(bytes: &[u8]) -> Grammar {
+fn grammar_of(asked: Asked<'_>) -> Grammar {
     Grammar {
-        eol: byte_at(bytes, 2),
+        eol: asked.byte(2),
         escape: 0,
-        sep: byte_at(bytes, 3),
-        tab: byte_at(bytes, 4),
+        sep: asked.byte(3),
+        tab: asked.byte(4),
     }
 }
 
-fn closes(text: &[u8], place: usize, byte: u8, count: usize, g: Grammar) -> bool {
-    let end = find::find_byte(text, place, g.eol);
-    fence_tests::fence_closes(text, place, end, byte, count, g)
+fn closes(asked: Asked<'_>) -> bool {
+    let g = grammar_of(asked);
+    let end = find::find_byte(asked.text, asked.place, g.eol);
+    let count = asked.byte(1) as usize;
+    fence_tests::fence_closes(asked.text, asked.place, end, asked.byte(0), count, g)
 }
 
-// Where the line ends that closes a fence, else where the text does.
-fn closed_at(text: &[u8], from: usize, byte: u8, count: usize, g: Grammar) -> usize {
-    match fence_tests::fence_close_scan(text, from, byte, count, g) {
+// Where the line ends that closes a fence of so many bytes, else where the text does.
+fn closed_at(asked: Asked<'_>, from: usize, count: usize) -> usize {
+    let text = asked.text;
+    match fence_tests::fence_close_scan(text, from, asked.byte(0), count, grammar_of(asked)) {
         Some((_, end)) => end,
         None => text.len(),
     }
 }
 
 // Whether the first line opens a fence; then its count, and where the fence is closed.
-fn opened(text: &[u8], byte: u8, least: u8, g: Grammar, reply: Numbers) -> Numbers {
-    match opening(text, 0, g.eol, &[byte], &[least]) {
+fn opened(asked: Asked<'_>, reply: Numbers) -> Numbers {
+    let text = asked.text;
+    let eol = asked.byte(2);
+    match opening(text, 0, eol, &[asked.byte(0)], &[asked.byte(1)]) {
         Some((count, end)) => {
             let from = search::next_line(text.len(), end);
-            reply
-                .and(1)
-                .size(count)
-                .size(closed_at(text, from, byte, count, g))
+            reply.and(1).size(count).size(closed_at(asked, from, count))
         }
         None => reply.and(2),
     }
@@ -145,9 +104,10 @@ fn opened(text: &[u8], byte: u8, least: u8, g: Grammar, reply: Numbers) -> Numbe
 fn probe(accepted: &[u8], reply: Numbers) -> Numbers {
     let set = sets::byte_set(accepted);
     let probe = sets::probe_matcher(&set);
-    let needles = probe.needles;
-    if probe.streaming {
-        return reply.value(probe.nn).bytes(&needles);
-    }
-    reply.and(2).bytes(&needles)
+    let count = if probe.streaming {
+        reply.value(probe.nn)
+    } else {
+        reply.and(2)
+    };
+    count.bytes(&probe.needles)
 }

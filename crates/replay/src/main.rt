@@ -6,32 +6,15 @@ mod answers; // an answer in a list's terms
 mod fences; // section 2: the fence scanner
 mod frames; // section 5: continuation frames
 mod items; // what the item scanners share
-mod judge; // the lines of a list
 mod leaves; // section 1: the leaves of common.rs, and the fence tests
 mod listings; // section 9: what `spans` prints
 mod markers; // section 3: the marker scanner
 mod numbered; // section 4: the scanner of numbered items
 mod page; // section 0: what the page says of refusals
-mod question; // a question, asked of its texts
-mod report; // what is printed
 mod sections; // which section asks what
 
-use stored::parts::bytes_part;
+use sections::Replay;
 
-// The descriptor that the program reads.
-const STDIN: i32 = 0;
-
-// The room for all lists. What stands behind it in a longer input isn't read, and then the counts fall short.
-const ROOM: usize = 2000001;
-
-// A function makes it, since a proof takes the length of what a call answers from its type, and counts no zeros.
-fn room() -> [u8; ROOM] {
-    [0; ROOM]
-}
-
-fn main() {
-    let mut space = room();
-    let buffer: &mut [u8] = &mut space;
-    let n = io::read_full(STDIN, buffer);
-    judge::judge(bytes_part(&buffer[..], 0, n));
+fn main(rt: HostRuntime) {
+    replaying::replay::<Replay>(&rt);
 }

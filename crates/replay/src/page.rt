@@ -1,28 +1,31 @@
 // Section 0: what the page says by itself, here of refusals by leaves and scanners.
-use crate::question;
+use crate::sections::Replay;
+use replaying::question;
+use replaying::sections::Page;
 use stored::numbers::Numbers;
 use stored::parts::part;
 
-// What ours answer; no number where that is no question of this section.
-pub(crate) fn reply(letter: u8, asked: &[u32]) -> Numbers {
-    match letter {
-        b'e' | b'c' | b'p' => refusal(question::reply(1, letter, false, asked)),
-        b'f' => refusal(question::reply(2, b's', false, asked)),
-        b'k' => refusal(question::reply(3, b's', false, asked)),
-        b'd' => refusal(question::reply(4, b's', false, asked)),
-        b'q' => refusal(question::reply(5, b's', false, asked)),
-        _ => Numbers::none(),
+impl Page for Replay {
+    fn reply(letter: u8, numbers: &[u32]) -> Numbers {
+        match letter {
+            b'e' | b'c' | b'p' => refusal(1, letter, numbers),
+            b'f' => refusal(2, b's', numbers),
+            b'k' => refusal(3, b's', numbers),
+            b'd' => refusal(4, b's', numbers),
+            b'q' => refusal(5, b's', numbers),
+            _ => Numbers::none(),
+        }
     }
 }
 
 // What a question of another section says of a refusal: its number and, from a scanner, the state; 0 where nothing is refused.
-fn refusal(reply: Numbers) -> Numbers {
+fn refusal(section: u32, letter: u8, numbers: &[u32]) -> Numbers {
+    let reply = question::reply::<Replay>(section, letter, false, numbers);
     if reply.count == 0 {
-        return reply;
+        reply
+    } else if reply.cut {
+        Numbers::none().all(part(&reply.cells, 1, reply.count))
+    } else {
+        Numbers::none().and(0)
     }
-    if !reply.cut {
-        return Numbers::none().and(0);
-    }
-    let cells = reply.cells;
-    Numbers::none().all(part(&cells, 1, reply.count))
 }

@@ -1,5 +1,3 @@
-pub mod Fold
-pub mod FoldLaws
 pub mod Sums
 pub mod SumLaws
 pub mod Numbers
@@ -11,8 +9,6 @@ pub mod TextLaws
 pub mod Long
 pub mod LongLaws
 pub mod Line
-pub mod LineLaws
 pub mod Form
 pub mod FormLaws
 pub mod Tally
-pub mod TallyLaws

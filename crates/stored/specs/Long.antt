@@ -13,7 +13,7 @@ abbrev pub no_text : Long
 no_text = record { bytes = replicate 8200 0; size = 0 }
 
 -- one byte more, where there is room for it
-unfoldable pub long_with_byte : Long → ℕ → Long
+abbrev pub long_with_byte : Long → ℕ → Long
 long_with_byte t b = cond (leb 8200 t.size) t (record { bytes = set t.bytes t.size b; size = t.size + 1 })
 
 -- "a byte and how often it stands there"
@@ -29,7 +29,7 @@ in_runs t (b ∷ n ∷ l) = in_runs (with_run t (b % 256) n) l
 
 -- ---- drawn
 -- "d = (d * 1103515245 + 12345) % 2^31"
-unfoldable pub next_draw : ℕ → ℕ
+abbrev pub next_draw : ℕ → ℕ
 next_draw d = (d * 1103515245 + 12345) % 2147483648
 
 -- d after so many bytes
@@ -46,5 +46,5 @@ unfoldable pub drawn_at : List ℕ → ℕ → ℕ → ℕ
 drawn_at alphabet d i = drawn_byte alphabet (draw_after d (suc i))
 
 -- a text of a length, of which as much is kept as there is room for, and the d that the next begins with
-unfoldable pub drawn_text : ℕ → List ℕ → ℕ → Drawn
+abbrev pub drawn_text : ℕ → List ℕ → ℕ → Drawn
 drawn_text d alphabet len = record { bytes = front (drawn_at alphabet d) (min len 8200) 8200; last = draw_after d (min len 8200) }

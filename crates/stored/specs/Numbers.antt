@@ -3,7 +3,7 @@
 -- or 0 where the Rust panicked."
 use Rattle.std.specs.Prelude.{true, false, cond, List, ℕ, ◌+◌, leb, length, set, replicate, Err, None, Ok, Option, Result, Some}
 use Rattle.common.specs.Refusals.{number_of}
-use Rattle.stored.specs.Fold.{fold}
+use Rattle.std.specs.List.{fold}
 use Rattle.stored.specs.Sums.{clipped, no_sums, fed_answer, counting, counted_sums}
 use Rattle.stored.specs.declared.sums.Sums.{Sums}
 use Rattle.stored.specs.declared.numbers.Numbers.{Numbers}
@@ -23,11 +23,11 @@ with_number n x = cond (leb 128 n.count)
     (record { cells = set n.cells n.count x; count = n.count + 1; over = n.over; cut = n.cut; sums = fed_answer n.sums x n.cut })
 
 -- "A text, and any other list, is its length and its numbers."
-unfoldable pub said_list : Numbers → List ℕ → Numbers
+abbrev pub said_list : Numbers → List ℕ → Numbers
 said_list n l = fold with_number (with_number n (clipped (length l))) l
 
 -- the numbers of a block's answer: "how many questions were asked, and two sums"
-unfoldable pub said_sums : Sums → Numbers
+abbrev pub said_sums : Sums → Numbers
 said_sums s = with_number (with_number (with_number no_numbers s.asked) s.first) s.second
 
 -- ---- a run of entries, whose count is known only behind them
@@ -35,23 +35,23 @@ abbrev pub summed : Numbers → Sums → Numbers
 summed n s = record { cells = n.cells; count = n.count; over = n.over; cut = n.cut; sums = s }
 
 -- 1 and a count of 0
-unfoldable pub entries_begun : Numbers → Numbers
+abbrev pub entries_begun : Numbers → Numbers
 entries_begun n = summed (with_number (with_number n 1) 0) (counting (with_number (with_number n 1) 0).sums)
 
 -- the second number is the count, and the sums are as if it had been fed
-unfoldable pub entries_ended : Numbers → ℕ → Numbers
+abbrev pub entries_ended : Numbers → ℕ → Numbers
 entries_ended n k = record { cells = set n.cells 1 k; count = n.count; over = n.over; cut = n.cut; sums = counted_sums n.sums k }
 
 -- ---- answers
 -- "1 and the value"
-unfoldable pub said_value : Numbers → ℕ → Numbers
+abbrev pub said_value : Numbers → ℕ → Numbers
 said_value n v = with_number (with_number n 1) (clipped v)
 
 abbrev pub cut_off : Numbers → Numbers
 cut_off n = record { cells = n.cells; count = n.count; over = n.over; cut = true; sums = n.sums }
 
 -- "0 where the Rust panicked", and the refusal's number
-unfoldable pub said_refusal : Numbers → ℕ → Numbers
+abbrev pub said_refusal : Numbers → ℕ → Numbers
 said_refusal n k = with_number (cut_off (with_number n 0)) k
 
 -- "1 and the value, or 2 for None, or 0"
@@ -61,5 +61,5 @@ said_found n (Ok None) = with_number n 2
 said_found n (Err r) = said_refusal n (number_of r)
 
 -- the 0 alone where a refusal came
-unfoldable pub up_to_refusal : Numbers → Numbers
+abbrev pub up_to_refusal : Numbers → Numbers
 up_to_refusal n = record { cells = n.cells; count = cond n.cut 1 n.count; over = n.over; cut = n.cut; sums = n.sums }

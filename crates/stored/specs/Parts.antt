@@ -1,18 +1,20 @@
 -- Parts of a run: a stretch of it, a list in it, its numbers as bytes; and what is asked of all its numbers. Assumes nothing.
 -- The head of the first list: "A text, and any other list, is its length and its numbers."
-use Rattle.std.specs.Prelude.{Bool, true, cond, ◌&&◌, ◌||◌, List, [], ℕ, zero, suc, ◌+◌, ◌-◌, ◌%◌, eqb, ltb, leb, length, get_or, take, drop}
+use Rattle.std.specs.Prelude.{Bool, cond, ◌&&◌, ◌||◌, nat_eq, List, [], ℕ, ◌+◌, ◌-◌, ◌%◌, eqb, ltb, leb, length, get_or, take, drop}
+use Rattle.std.specs.List.{list_all, range_with_len}
+use Rattle.std.specs.Cmp.Lexicographic.{pointwise}
 use Rattle.common.specs.Rules.{tabulate}
 
--- the numbers from place a up to, not including, place e; none where these aren't bounds
-unfoldable pub numbers_between : List ℕ → ℕ → ℕ → List ℕ
+-- the elements from place a up to, not including, place e; none where these aren't bounds
+abbrev pub numbers_between : {A : Type 0} → List A → ℕ → ℕ → List A
 numbers_between s a e = cond (leb a e && leb e (length s)) (take (e - a) (drop a s)) []
 
 -- where the list ends whose count stands at a: behind so many numbers, or at the run's end
-unfoldable pub after_list : List ℕ → ℕ → ℕ
+abbrev pub after_list : List ℕ → ℕ → ℕ
 after_list s a = cond (ltb a (length s) && ltb (get_or s a 0) (length s - a)) (a + 1 + get_or s a 0) (length s)
 
--- the numbers of the list whose count stands at a and which ends at e
-abbrev pub list_in : List ℕ → ℕ → ℕ → List ℕ
+-- the elements of the list whose count stands at a and which ends at e
+abbrev pub list_in : {A : Type 0} → List A → ℕ → ℕ → List A
 list_in s a e = numbers_between s (a + 1) e
 
 -- a number as a byte
@@ -28,24 +30,20 @@ abbrev pub bytes_of : List ℕ → List ℕ
 bytes_of s = front (byte_at s) 128 128
 
 -- whether a test holds for all numbers below n
-unfoldable pub every : (ℕ → Bool) → ℕ → Bool
-every t zero = true
-every t (suc n) = every t n && t n
+abbrev pub every : (ℕ → Bool) → ℕ → Bool
+every t n = list_all t (range_with_len 0 n)
 
 -- whether place k is the second of a pair
-unfoldable pub is_second : Bool → ℕ → Bool
+abbrev pub is_second : Bool → ℕ → Bool
 is_second pairs k = pairs && eqb (k % 2) 1
 
 -- whether a number is a byte; of pairs only the first is asked
-unfoldable pub is_byte : List ℕ → Bool → ℕ → Bool
+abbrev pub is_byte : List ℕ → Bool → ℕ → Bool
 is_byte s pairs k = is_second pairs k || ltb (get_or s k 0) 256
 
 abbrev pub are_bytes : List ℕ → Bool → Bool
 are_bytes s pairs = every (is_byte s pairs) (length s)
 
--- whether two runs are the same: at a place, and at all
-unfoldable pub equal_at : List ℕ → List ℕ → ℕ → Bool
-equal_at a b k = eqb (get_or a k 0) (get_or b k 0)
-
-unfoldable pub same : List ℕ → List ℕ → Bool
-same a b = eqb (length a) (length b) && every (equal_at a b) (length a)
+-- whether two runs are the same
+abbrev pub same : List ℕ → List ℕ → Bool
+same a b = pointwise nat_eq a b

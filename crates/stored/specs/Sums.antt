@@ -1,8 +1,10 @@
 -- The checksums of a block. Assumes nothing.
 -- The head of the first list: "Both sums begin at 0. To feed x: h = (h * 65599 + x + 1) % 4294967291 for the first, h = (h * 69069 + x + 1)
 -- % 4294967279 for the second. Each question feeds n, the bytes, the place where it has one, and the numbers of the answer."
-use Rattle.std.specs.Prelude.{Bool, cond, List, ℕ, ◌+◌, ◌*◌, ◌%◌, min, eqb, length}
-use Rattle.stored.specs.Fold.{fold}
+use Rattle.std.specs.Prelude.{Bool, cond, List, ℕ, ◌+◌, ◌*◌, ◌%◌, min, length}
+use Rattle.std.specs.List.{fold}
+use Rattle.stored.specs.declared.texts.Places.{Places}
+use Rattle.stored.specs.declared.texts.Places.TheVariants.{Whole, FromStart, FromSecond, Beyond, Nowhere}
 use Rattle.stored.specs.declared.sums.Sums.{Sums}
 
 -- a length or a place as a number of a list: one that is too large is cut
@@ -13,7 +15,7 @@ abbrev pub no_sums : Sums
 no_sums = record { asked = 0; first = 0; second = 0; lift = 0; raise = 0 }
 
 -- "To feed x"
-unfoldable pub fed : Sums → ℕ → Sums
+abbrev pub fed : Sums → ℕ → Sums
 fed s x = record {
   asked = s.asked;
   first = (s.first * 65599 + x + 1) % 4294967291;
@@ -23,14 +25,18 @@ fed s x = record {
 }
 
 -- "Each question feeds n, the bytes, the place where it has one"
-unfoldable pub fed_text : Sums → List ℕ → Sums
+abbrev pub fed_text : Sums → List ℕ → Sums
 fed_text s t = fold fed (fed s (clipped (length t))) t
 
-unfoldable pub fed_question : Sums → List ℕ → ℕ → ℕ → Sums
-fed_question s t places p = cond (eqb places 0) (fed_text s t) (fed (fed_text s t) (clipped p))
+abbrev pub fed_question : Sums → List ℕ → Places → ℕ → Sums
+fed_question s t Whole p = fed_text s t
+fed_question s t FromStart p = fed (fed_text s t) (clipped p)
+fed_question s t FromSecond p = fed (fed_text s t) (clipped p)
+fed_question s t Beyond p = fed (fed_text s t) (clipped p)
+fed_question s t Nowhere p = fed (fed_text s t) (clipped p)
 
 -- a number of an answer, unless a refusal came before it; what one more in an earlier count adds moves on with it
-unfoldable pub fed_answer : Sums → ℕ → Bool → Sums
+abbrev pub fed_answer : Sums → ℕ → Bool → Sums
 fed_answer s x cut = cond cut s (record {
   asked = s.asked;
   first = (fed s x).first;
@@ -44,7 +50,7 @@ abbrev pub counting : Sums → Sums
 counting s = record { asked = s.asked; first = s.first; second = s.second; lift = 1; raise = 1 }
 
 -- that count was fed as 0, and is so many
-unfoldable pub counted_sums : Sums → ℕ → Sums
+abbrev pub counted_sums : Sums → ℕ → Sums
 counted_sums s n = record {
   asked = s.asked;
   first = (n * s.lift % 4294967291 + s.first) % 4294967291;

@@ -13,19 +13,19 @@ plus a b = min (a + b) 18446744073709551615
 abbrev pub new_tally : ℕ → ℕ → ℕ → Tally
 new_tally line section head = record { line = line; section = section; head = head; full = 0; blocks = 0; inside = 0; differ = 0 }
 
-unfoldable pub on_next_line : Tally → Tally
+abbrev pub on_next_line : Tally → Tally
 on_next_line t = record { line = plus t.line 1; section = t.section; head = t.head; full = t.full; blocks = t.blocks; inside = t.inside; differ = t.differ }
 
 -- one more line that differs
-unfoldable pub differing : Tally → Tally
+abbrev pub differing : Tally → Tally
 differing t = record { line = t.line; section = t.section; head = t.head; full = t.full; blocks = t.blocks; inside = t.inside; differ = plus t.differ 1 }
 
 -- one more answer in full; a capital's is a block, whose first number says how many answers it holds
-unfoldable pub one_answered : Tally → ℕ → ℕ → Tally
+abbrev pub one_answered : Tally → ℕ → ℕ → Tally
 one_answered t letter x = cond (is_capital letter)
     (record { line = t.line; section = t.section; head = t.head; full = t.full; blocks = plus t.blocks 1; inside = plus t.inside x; differ = t.differ })
     (record { line = t.line; section = t.section; head = t.head; full = plus t.full 1; blocks = t.blocks; inside = t.inside; differ = t.differ })
 
 -- a line, and what was found
-unfoldable pub judged_by : Tally → Line → Numbers → Tally
+abbrev pub judged_by : Tally → Line → Numbers → Tally
 judged_by t l n = cond (eqb n.count 0) (differing t) (cond (is_stored l n) (one_answered t l.letter (get_or n.cells 0 0)) (differing (one_answered t l.letter (get_or n.cells 0 0))))

@@ -38,11 +38,10 @@ impl Numbers {
     pub fn up_to_refusal(self) -> Self
         ensures { Gives (up_to_refusal self) result }
     {
-        let mut all = self;
         if self.cut {
-            all.count = 1;
-            return all;
+            Numbers { count: 1, ..self }
+        } else {
+            self
         }
-        all
     }
 }

@@ -1,19 +1,16 @@
 // The form of a question: single numbers, lists, a text, and what follows it; and at which places a block asks.
 ghost use Rattle.std.specs.Prelude.{◌&&◌, not, get_or};
 ghost use Rattle.search.specs.Promise.{Gives};
-ghost use Rattle.stored.specs.Form.{form_of, unknown_form, freed, next_end, ends_of, question_of, part_of, rest_of, list_sound, lists_sound, is_sound, behind_text, is_capital, small_of, way_by, way_of};
+ghost use Rattle.stored.specs.Form.{form_of, unknown_form, freed, next_end, ends_of, question_of, part_of, rest_of, list_sound, lists_sound, is_sound, behind_text, is_capital, small_of, way_by, fits, way_of};
 
-use crate::parts::{after_list, are_bytes, bytes_list, list, number_at, part};
-use crate::texts::WHOLE;
+use crate::parts::{after_list, are_bytes, list, number_at, part};
+use crate::texts::Places;
 
 // The most lists that stand before a text.
 pub const LISTS: usize = 7;
 
 // The text is taken as one more list.
 pub const TEXT: usize = LISTS;
-
-// The places of a letter that asks nothing.
-const UNKNOWN: u8 = 4;
 
 #[derive(Clone, Copy)]
 pub struct Form {
@@ -23,7 +20,7 @@ pub struct Form {
     // How many lists follow, and which of them may hold any numbers; the others hold bytes.
     pub lists: usize,
     pub free: [bool; LISTS],
-    pub places: u8,
+    pub places: Places,
 }
 
 // A question of a section. The numbers that ask stand beside it.
@@ -32,7 +29,7 @@ pub struct Question {
     pub section: u32,
     // The letter that asks of one text.
     pub letter: u8,
-    pub places: u8,
+    pub places: Places,
     // Where its parts end: at place 0 the single numbers, then each list, and last the text. A list that the form doesn't have ends where
     // it begins.
     pub at: [usize; LISTS + 2],
@@ -52,23 +49,14 @@ pub enum Way {
 pub(crate) fn is_capital(letter: u8) -> bool
     ensures { Gives (is_capital letter) result }
 {
-    if letter < b'A' {
-        return false;
-    }
-    letter <= b'Z'
+    letter.is_ascii_uppercase()
 }
 
 // The letter that asks the same of one text.
 pub fn small(letter: u8) -> u8
     ensures { Gives (small_of letter) result }
 {
-    if letter < b'A' {
-        return letter;
-    }
-    if letter > b'Z' {
-        return letter;
-    }
-    letter + 32
+    letter.to_ascii_lowercase()
 }
 
 // A small letter asks of one text, which has a star where it stands there in runs; a capital asks of all texts of a length, with a star
@@ -76,16 +64,12 @@ pub fn small(letter: u8) -> u8
 fn way_by(capital: bool, starred: bool) -> Way
     ensures { Gives (way_by capital starred) result }
 {
-    if capital {
-        if starred {
-            return Way::Drawn;
-        }
-        return Way::All;
+    match (capital, starred) {
+        (true, true) => Way::Drawn,
+        (true, false) => Way::All,
+        (false, true) => Way::Runs,
+        (false, false) => Way::One,
     }
-    if starred {
-        return Way::Runs;
-    }
-    Way::One
 }
 
 impl Question {
@@ -93,20 +77,24 @@ impl Question {
     pub fn list(self, asked: &[u32], i: usize) -> &[u32]
         ensures { Gives (part_of self asked.now i) result.now }
     {
-        if i <= TEXT {
-            return list(asked, self.at[i], self.at[i + 1]);
-        }
-        &asked[0..0]
+        self.part_in(asked, i)
     }
 
     // The same where all numbers of the question are given as bytes.
     pub fn bytes(self, cells: &[u8], i: usize) -> &[u8]
         ensures { Gives (part_of self cells.now i) result.now }
     {
+        self.part_in(cells, i)
+    }
+
+    fn part_in<T>(self, run: &[T], i: usize) -> &[T]
+        ensures { Gives (part_of self run.now i) result.now }
+    {
         if i <= TEXT {
-            return bytes_list(cells, self.at[i], self.at[i + 1]);
+            list(run, self.at[i], self.at[i + 1])
+        } else {
+            &run[..0]
         }
-        &cells[0..0]
     }
 
     fn rest(self, asked: &[u32]) -> &[u32]
@@ -123,8 +111,15 @@ impl Question {
     }
 }
 
+// Whether the text is given in runs.
+fn is_in_runs(capital: bool, starred: bool) -> bool
+    ensures { Gives (not capital && starred) result }
+{
+    !capital && starred
+}
+
 impl Form {
-    pub fn new(wide: usize, singles: usize, lists: usize, places: u8) -> Self
+    pub fn new(wide: usize, singles: usize, lists: usize, places: Places) -> Self
         ensures { Gives (form_of wide singles lists places) result }
     {
         Form {
@@ -140,18 +135,17 @@ impl Form {
     pub fn unknown() -> Self
         ensures { Gives unknown_form result }
     {
-        Form::new(0, 0, 0, UNKNOWN)
+        Form::new(0, 0, 0, Places::Nowhere)
     }
 
     // List `i` may hold any numbers.
     pub fn free(self, i: usize) -> Self
         ensures { Gives (freed self i) result }
     {
-        if i >= LISTS {
-            return self;
-        }
         let mut form = self;
-        form.free[i] = true;
+        if i < LISTS {
+            form.free[i] = true;
+        }
         form
     }
 
@@ -159,13 +153,11 @@ impl Form {
     fn next_end(self, asked: &[u32], at: usize, i: usize) -> usize
         ensures { Gives (next_end self asked.now at i) result }
     {
-        if i < self.lists {
-            return after_list(asked, at);
+        if i < self.lists || i == TEXT {
+            after_list(asked, at)
+        } else {
+            at
         }
-        if i == TEXT {
-            return after_list(asked, at);
-        }
-        at
     }
 
     // Where the parts of a question of this form end.
@@ -174,11 +166,9 @@ impl Form {
     {
         let mut at = [0usize; LISTS + 2];
         let mut end = self.singles;
-        let mut i = 0;
-        while i < LISTS + 2 {
-            at[i] = end;
+        for (i, place) in at.iter_mut().enumerate() {
+            *place = end;
             end = self.next_end(asked, end, i);
-            i += 1;
         }
         at
     }
@@ -186,56 +176,34 @@ impl Form {
     pub fn question(self, section: u32, letter: u8, asked: &[u32]) -> Question
         ensures { Gives (question_of self section letter asked.now) result }
     {
-        let letter = small(letter);
-        let at = self.ends(asked);
         Question {
             section,
-            letter,
+            letter: small(letter),
             places: self.places,
-            at,
+            at: self.ends(asked),
         }
     }
 
     fn list_is_sound(self, asked: &[u32], question: Question, i: usize) -> bool
         ensures { Gives (list_sound self asked.now question i) result }
     {
-        if i >= LISTS {
-            return true;
-        }
-        if self.free[i] {
-            return true;
-        }
-        are_bytes(question.list(asked, i), false)
+        i >= LISTS || self.free[i] || are_bytes(question.list(asked, i), false)
     }
 
     fn lists_are_sound(self, asked: &[u32], question: Question) -> bool
         ensures { Gives (lists_sound self asked.now question) result }
     {
-        let mut i = 0;
-        while i < LISTS {
-            if self.list_is_sound(asked, question, i) {
-                i += 1;
-            } else {
-                return false;
-            }
-        }
-        true
+        (0..LISTS).all(|i| self.list_is_sound(asked, question, i))
     }
 
     // Whether a question's numbers are bytes wherever bytes are meant. The text may be in runs.
     fn is_sound(self, asked: &[u32], question: Question, runs: bool) -> bool
         ensures { Gives (is_sound self asked.now question runs) result }
     {
-        if self.places == UNKNOWN {
-            return false;
-        }
-        if are_bytes(part(asked, self.wide, self.singles), false) {
-            if are_bytes(question.list(asked, TEXT), runs) {
-                return self.lists_are_sound(asked, question);
-            }
-            return false;
-        }
-        false
+        !matches!(self.places, Places::Nowhere)
+            && are_bytes(part(asked, self.wide, self.singles), false)
+            && are_bytes(question.list(asked, TEXT), runs)
+            && self.lists_are_sound(asked, question)
     }
 
     // How many numbers stand behind the text: a place where the question has one. A block has an alphabet where the text stands otherwise,
@@ -243,16 +211,11 @@ impl Form {
     fn behind_text(self, capital: bool, starred: bool) -> usize
         ensures { Gives (behind_text self capital starred) result }
     {
-        if capital {
-            if starred {
-                return 3;
-            }
-            return 1;
+        match self.places {
+            _ if capital && starred => 3,
+            Places::Whole if !capital => 0,
+            _ => 1,
         }
-        if self.places == WHOLE {
-            return 0;
-        }
-        1
     }
 
     // How the texts of a question are given that has this form, if it has it.
@@ -260,22 +223,18 @@ impl Form {
         ensures { Gives (way_of self letter starred asked.now question) result }
     {
         let capital = is_capital(letter);
-        if question.rest(asked).len() != self.behind_text(capital, starred) {
-            return Way::Unknown;
+        if self.fits(capital, starred, asked, question) {
+            way_by(capital, starred)
+        } else {
+            Way::Unknown
         }
-        if self.is_sound(asked, question, is_in_runs(capital, starred)) {
-            return way_by(capital, starred);
-        }
-        Way::Unknown
     }
-}
 
-// Whether the text is given in runs.
-fn is_in_runs(capital: bool, starred: bool) -> bool
-    ensures { Gives (not capital && starred) result }
-{
-    if capital {
-        return false;
+    // Whether a question has this form.
+    fn fits(self, capital: bool, starred: bool, asked: &[u32], question: Question) -> bool
+        ensures { Gives (fits self capital starred asked.now question) result }
+    {
+        question.rest(asked).len() == self.behind_text(capital, starred)
+            && self.is_sound(asked, question, is_in_runs(capital, starred))
     }
-    starred
 }

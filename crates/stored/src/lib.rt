@@ -3,6 +3,7 @@
 #![tactic(auto)]
 
 pub mod answers; // an answer in a list's terms
+pub mod asked; // a question with what asks it
 pub mod form; // what stands before a question's text, and behind it
 pub mod line; // the numbers of a line
 pub mod long; // texts that are too long for a line

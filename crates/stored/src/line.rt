@@ -2,10 +2,10 @@
 // them.
 ghost use Rattle.std.specs.Prelude.{◌-◌};
 ghost use Rattle.search.specs.Promise.{Gives};
-ghost use Rattle.stored.specs.Line.{nothing_read, with_digit, parted_off, with_equals, after_byte, line_of, head_of, kind_of, is_stored};
+ghost use Rattle.stored.specs.Line.{nothing_read, with_digit, kept_in, parted_off, with_equals, after_byte, line_of, head_of, kind_of, is_stored};
 
 use crate::numbers::Numbers;
-use crate::parts::{part, same};
+use crate::parts::part;
 use search::{byte_at, is_at};
 
 // Numbers are below this.
@@ -38,9 +38,8 @@ pub(crate) struct Reading {
     pub(crate) numbers: Numbers,
     pub(crate) asked: usize,
     pub(crate) equals: u8,
-    // The number that is being read, and whether one is.
-    pub(crate) value: u64,
-    pub(crate) inside: bool,
+    // The number that is being read, if one is.
+    pub(crate) number: Option<u64>,
 }
 
 impl Reading {
@@ -51,92 +50,92 @@ impl Reading {
             numbers: Numbers::none(),
             asked: 0,
             equals: 0,
-            value: 0,
-            inside: false,
+            number: None,
         }
     }
 
     fn digit(self, d: u8) -> Self
         ensures { Gives (with_digit self d) result }
     {
-        let mut reading = self;
-        reading.inside = true;
+        let before = self.number.unwrap_or(0);
         // One that is too large already stays so.
-        if self.value >= TOO_LARGE {
-            return reading;
+        let number = if before >= TOO_LARGE {
+            before
+        } else {
+            before * 10 + d as u64
+        };
+        Reading {
+            number: Some(number),
+            ..self
         }
-        reading.value = self.value * 10 + d as u64;
-        reading
     }
 
     // Keeps the number that ends here, if one does.
     fn parted(self) -> Self
         ensures { Gives (parted_off self) result }
     {
-        if self.inside {
-            let mut reading = self;
-            reading.value = 0;
-            reading.inside = false;
-            let mut numbers = self.numbers;
-            if self.value >= TOO_LARGE {
-                numbers.over = true;
-                reading.numbers = numbers;
-                return reading;
-            }
-            reading.numbers = numbers.and(self.value as u32);
-            return reading;
+        let Some(number) = self.number else {
+            return self;
+        };
+        Reading {
+            numbers: kept(self.numbers, number),
+            number: None,
+            ..self
         }
-        self
     }
 
     fn equals_sign(self) -> Self
         ensures { Gives (with_equals self) result }
     {
-        let mut reading = self;
-        let numbers = self.numbers;
-        reading.asked = numbers.count;
-        if self.equals >= 2 {
-            return reading;
+        Reading {
+            asked: self.numbers.count,
+            equals: if self.equals < 2 {
+                self.equals + 1
+            } else {
+                self.equals
+            },
+            ..self
         }
-        reading.equals = self.equals + 1;
-        reading
     }
 
     // Takes in the next byte.
+    #[tactic(auto, unfolding(search::specs::Search::digit))]
     fn byte(self, b: u8) -> Self
         ensures { Gives (after_byte self b) result }
     {
-        if b < b'0' {
-            return self.parted();
+        match b {
+            b'0'..=b'9' => self.digit(b - b'0'),
+            b'=' => self.parted().equals_sign(),
+            _ => self.parted(),
         }
-        if b <= b'9' {
-            return self.digit(b - b'0');
+    }
+}
+
+// A number that is too large finds no room.
+fn kept(numbers: Numbers, number: u64) -> Numbers
+    ensures { Gives (kept_in numbers number) result }
+{
+    if number >= TOO_LARGE {
+        Numbers {
+            over: true,
+            ..numbers
         }
-        let reading = self.parted();
-        if b == b'=' {
-            return reading.equals_sign();
-        }
-        reading
+    } else {
+        numbers.and(number as u32)
     }
 }
 
 pub fn read(text: &[u8]) -> Line
     ensures { Gives (line_of text.now) result }
 {
-    let mut reading = Reading::new();
-    let mut i = 0;
-    while i < text.len() {
-        reading = reading.byte(text[i]);
-        i += 1;
-    }
+    let reading = text
+        .iter()
+        .fold(Reading::new(), |reading, b| reading.byte(*b));
     let all = reading.parted();
-    let letter = byte_at(text, 0);
-    let starred = is_at(text, 1, b'*');
-    let numbers = all.numbers;
     Line {
-        letter,
-        starred,
-        numbers,
+        letter: byte_at(text, 0),
+        starred: is_at(text, 1, b'*'),
+        numbers: all.numbers,
         asked: all.asked,
         equals: all.equals,
     }
@@ -147,49 +146,32 @@ impl Line {
     fn head(self) -> Kind
         ensures { Gives (head_of self) result }
     {
-        let numbers = self.numbers;
-        if self.equals != 0 {
-            return Kind::Broken;
+        if self.equals == 0 && self.numbers.count == 1 {
+            Kind::Section(self.numbers.cells[0])
+        } else {
+            Kind::Broken
         }
-        if numbers.count == 1 {
-            return Kind::Section(numbers.cells[0]);
-        }
-        Kind::Broken
     }
 
     // A question has one equals sign.
     pub fn kind(self) -> Kind
         ensures { Gives (kind_of self) result }
     {
-        if self.letter == b'#' {
-            return Kind::Comment;
+        match self.letter {
+            b'#' => Kind::Comment,
+            _ if self.numbers.over => Kind::Broken,
+            b'@' => self.head(),
+            _ if self.equals == 1 => Kind::Question,
+            _ => Kind::Broken,
         }
-        let numbers = self.numbers;
-        if numbers.over {
-            return Kind::Broken;
-        }
-        if self.letter == b'@' {
-            return self.head();
-        }
-        if self.equals == 1 {
-            return Kind::Question;
-        }
-        Kind::Broken
     }
 
     // Whether the numbers after the equals sign are those of an answer.
     pub(crate) fn stores(self, reply: Numbers) -> bool
         ensures { Gives (is_stored self reply) result }
     {
-        if reply.over {
-            return false;
-        }
-        let numbers = self.numbers;
-        let stored = numbers.cells;
-        let found = reply.cells;
-        same(
-            part(&found, 0, reply.count),
-            part(&stored, self.asked, numbers.count),
-        )
+        let found = part(&reply.cells, 0, reply.count);
+        let stored = part(&self.numbers.cells, self.asked, self.numbers.count);
+        !reply.over && found == stored
     }
 }

@@ -2,11 +2,9 @@
 ghost use Rattle.search.specs.Promise.{Gives};
 ghost use Rattle.stored.specs.Long.{no_text, long_with_byte, with_run, in_runs, next_draw, drawn_byte, drawn_text};
 
-use crate::parts::{byte_at, number_at};
 use crate::texts::named;
-use search::lesser;
 
-// The room for a text.
+// The room for a text, fixed, since there is no heap.
 pub const ROOM: usize = 8200;
 
 #[derive(Clone, Copy)]
@@ -36,13 +34,11 @@ impl Long {
     fn with_byte(self, byte: u8) -> Self
         ensures { Gives (long_with_byte self byte) result }
     {
-        let n = self.size;
-        if n >= ROOM {
-            return self;
-        }
         let mut text = self;
-        text.bytes[n] = byte;
-        text.size = n + 1;
+        if text.size < ROOM {
+            text.bytes[text.size] = byte;
+            text.size += 1;
+        }
         text
     }
 
@@ -50,10 +46,8 @@ impl Long {
         ensures { Gives (with_run self byte times) result }
     {
         let mut text = self;
-        let mut left = times;
-        while left > 0 {
+        for _ in 0..times {
             text = text.with_byte(byte);
-            left -= 1;
         }
         text
     }
@@ -64,10 +58,10 @@ pub fn in_runs(runs: &[u32]) -> Long
     ensures { Gives (in_runs no_text runs.now) result }
 {
     let mut text = Long::new();
-    let mut i = 0;
-    while i < runs.len() {
-        text = text.with_run(byte_at(runs, i), number_at(runs, i + 1));
-        i += 2;
+    let mut left = runs;
+    while let [byte, times, rest @ ..] = left {
+        text = text.with_run((*byte % 256) as u8, *times);
+        left = rest;
     }
     text
 }
@@ -91,12 +85,9 @@ pub fn draw_text(first: u32, alphabet: &[u8], length: usize) -> Drawn
 {
     let mut bytes = [0u8; ROOM];
     let mut last = first;
-    let end = lesser(length, ROOM);
-    let mut i = 0;
-    while i < end {
+    for i in 0..length.min(ROOM) {
         last = next_draw(last);
         bytes[i] = drawn_byte(last, alphabet);
-        i += 1;
     }
     Drawn { bytes, last }
 }

@@ -1,7 +1,7 @@
 // Runs of numbers: those of a line, and answers. They are handed on by value: that is proved far faster than a lent list.
 ghost use Rattle.common.specs.Sets.{as_flag};
 ghost use Rattle.search.specs.Promise.{Gives};
-ghost use Rattle.stored.specs.Fold.{fold};
+ghost use Rattle.std.specs.List.{fold};
 ghost use Rattle.stored.specs.Sums.{clipped};
 ghost use Rattle.stored.specs.Numbers.{after_sums, no_numbers, with_number, said_list, said_sums, entries_begun, entries_ended};
 
@@ -12,7 +12,7 @@ pub const MOST: usize = 128;
 
 #[derive(Clone, Copy)]
 pub struct Numbers {
-    // The first of them. An answer that is stored has no more.
+    // The first of them, in a fixed room, since there is no heap. An answer that is stored has no more.
     pub cells: [u32; MOST],
     pub count: usize,
     // Whether more came than there is room for.
@@ -54,21 +54,18 @@ impl Numbers {
     }
 
     // One function does it all: a large struct that goes through several calls is copied at each, and takes its time.
+    #[tactic(auto, unfolding(crate::specs::Numbers::with_number))]
     pub fn and(self, x: u32) -> Self
         ensures { Gives (with_number self x) result }
     {
         let mut all = self;
-        let n = all.count;
-        if n >= MOST {
+        all.sums = self.sums.answer(x, self.cut);
+        if all.count < MOST {
+            all.cells[all.count] = x;
+            all.count += 1;
+        } else {
             all.over = true;
-            let sums = all.sums;
-            all.sums = sums.answer(x, all.cut);
-            return all;
         }
-        all.cells[n] = x;
-        all.count = n + 1;
-        let sums = all.sums;
-        all.sums = sums.answer(x, all.cut);
         all
     }
 
@@ -87,20 +84,16 @@ impl Numbers {
     pub fn flag(self, on: bool) -> Self
         ensures { Gives (with_number self (as_flag on)) result }
     {
-        if on {
-            return self.and(1);
-        }
-        self.and(0)
+        self.and(u32::from(on))
     }
 
     pub fn all(self, run: &[u32]) -> Self
         ensures { Gives (fold with_number self run.now) result }
     {
+        // A fold copies the struct once more for each number.
         let mut all = self;
-        let mut i = 0;
-        while i < run.len() {
-            all = all.and(run[i]);
-            i += 1;
+        for x in run {
+            all = all.and(*x);
         }
         all
     }
@@ -117,10 +110,8 @@ impl Numbers {
         ensures { Gives (said_list self bytes.now) result }
     {
         let mut all = self.size(bytes.len());
-        let mut i = 0;
-        while i < bytes.len() {
-            all = all.byte(bytes[i]);
-            i += 1;
+        for b in bytes {
+            all = all.and(*b as u32);
         }
         all
     }

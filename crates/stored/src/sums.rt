@@ -4,8 +4,7 @@ ghost use Rattle.std.specs.Prelude.{◌*◌};
 ghost use Rattle.search.specs.Promise.{Gives};
 ghost use Rattle.stored.specs.Sums.{clipped, no_sums, fed, fed_text, fed_question, fed_answer, counting, counted_sums, one_more};
 
-use crate::texts::WHOLE;
-use search::lesser;
+use crate::texts::Places;
 
 #[derive(Clone, Copy)]
 pub struct Sums {
@@ -21,7 +20,7 @@ pub struct Sums {
 pub(crate) fn number_of(n: usize) -> u32
     ensures { Gives (clipped n) result }
 {
-    lesser(n, 4294967295) as u32
+    n.min(4294967295) as u32
 }
 
 // The product, for which 64 bits are enough.
@@ -47,10 +46,11 @@ impl Sums {
     fn feed(self, x: u32) -> Self
         ensures { Gives (fed self x) result }
     {
-        let mut sums = self;
-        sums.first = ((sums.first as u64 * 65599 + x as u64 + 1) % 4294967291) as u32;
-        sums.second = ((sums.second as u64 * 69069 + x as u64 + 1) % 4294967279) as u32;
-        sums
+        Sums {
+            first: ((self.first as u64 * 65599 + x as u64 + 1) % 4294967291) as u32,
+            second: ((self.second as u64 * 69069 + x as u64 + 1) % 4294967279) as u32,
+            ..self
+        }
     }
 
     fn byte(self, b: u8) -> Self
@@ -62,24 +62,19 @@ impl Sums {
     fn text(self, text: &[u8]) -> Self
         ensures { Gives (fed_text self text.now) result }
     {
-        let mut sums = self.feed(number_of(text.len()));
-        let mut i = 0;
-        while i < text.len() {
-            sums = sums.byte(text[i]);
-            i += 1;
-        }
-        sums
+        let sums = self.feed(number_of(text.len()));
+        text.iter().fold(sums, |sums, b| sums.byte(*b))
     }
 
     // A question: its text, and the place where it has one.
-    pub fn question(self, text: &[u8], places: u8, place: usize) -> Self
+    pub fn question(self, text: &[u8], places: Places, place: usize) -> Self
         ensures { Gives (fed_question self text.now places place) result }
     {
         let sums = self.text(text);
-        if places == WHOLE {
-            return sums;
+        match places {
+            Places::Whole => sums,
+            _ => sums.feed(number_of(place)),
         }
-        sums.feed(number_of(place))
     }
 
     // A number of an answer; what stands behind a refusal isn't fed.
@@ -89,39 +84,44 @@ impl Sums {
         if cut {
             return self;
         }
-        let mut sums = self.feed(x);
-        sums.lift = (sums.lift as u64 * 65599 % 4294967291) as u32;
-        sums.raise = (sums.raise as u64 * 69069 % 4294967279) as u32;
-        sums
+        let sums = self.feed(x);
+        Sums {
+            lift: (sums.lift as u64 * 65599 % 4294967291) as u32,
+            raise: (sums.raise as u64 * 69069 % 4294967279) as u32,
+            ..sums
+        }
     }
 
     // The number fed last is a count that is known only behind what it counts: 0 at first, and `counted` makes it so many.
     pub(crate) fn count(self) -> Self
         ensures { Gives (counting self) result }
     {
-        let mut sums = self;
-        sums.lift = 1;
-        sums.raise = 1;
-        sums
+        Sums {
+            lift: 1,
+            raise: 1,
+            ..self
+        }
     }
 
     pub(crate) fn counted(self, count: u32) -> Self
         ensures { Gives (counted_sums self count) result }
     {
-        let mut sums = self;
-        sums.first = ((times(count, sums.lift) % 4294967291 + sums.first as u64)
-            % 4294967291) as u32;
-        sums.second = ((times(count, sums.raise) % 4294967279 + sums.second as u64)
-            % 4294967279) as u32;
-        sums
+        let first = times(count, self.lift) % 4294967291 + self.first as u64;
+        let second = times(count, self.raise) % 4294967279 + self.second as u64;
+        Sums {
+            first: (first % 4294967291) as u32,
+            second: (second % 4294967279) as u32,
+            ..self
+        }
     }
 
     // One more question was asked.
     pub fn asked(self) -> Self
         ensures { Gives (one_more self) result }
     {
-        let mut sums = self;
-        sums.asked = number_of(sums.asked as usize + 1);
-        sums
+        Sums {
+            asked: self.asked.saturating_add(1),
+            ..self
+        }
     }
 }

@@ -1,12 +1,12 @@
 // What is counted: lines, and for a section how many answers were compared and how many lines differ.
 ghost use Rattle.search.specs.Promise.{Gives};
-ghost use Rattle.stored.specs.Tally.{plus, new_tally, on_next_line, differing, one_answered, judged_by};
+ghost use Rattle.stored.specs.Tally.{new_tally, on_next_line, differing, one_answered, judged_by};
 
 use crate::form::is_capital;
 use crate::line::Line;
 use crate::numbers::Numbers;
 
-// Where no section has begun.
+// Where no section has begun. It is no `Option`, since a list can name a section of this number too, and that is told as none.
 pub const NO_SECTION: u32 = 4294967295;
 
 #[derive(Clone, Copy)]
@@ -21,16 +21,6 @@ pub struct Tally {
     pub blocks: u64,
     pub inside: u64,
     pub differ: u64,
-}
-
-// The sum of two counts; none comes near the bound.
-fn sum(a: u64, b: u64) -> u64
-    ensures { Gives (plus a b) result }
-{
-    if a <= u64::MAX - b {
-        return a + b;
-    }
-    u64::MAX
 }
 
 impl Tally {
@@ -51,31 +41,37 @@ impl Tally {
     pub fn next_line(self) -> Self
         ensures { Gives (on_next_line self) result }
     {
-        let mut tally = self;
-        tally.line = sum(self.line, 1);
-        tally
+        Tally {
+            line: self.line.saturating_add(1),
+            ..self
+        }
     }
 
     fn differs(self) -> Self
         ensures { Gives (differing self) result }
     {
-        let mut tally = self;
-        tally.differ = sum(self.differ, 1);
-        tally
+        Tally {
+            differ: self.differ.saturating_add(1),
+            ..self
+        }
     }
 
     // A block's first number says how many answers it holds.
     fn answers(self, letter: u8, first: u32) -> Self
         ensures { Gives (one_answered self letter first) result }
     {
-        let mut tally = self;
         if is_capital(letter) {
-            tally.blocks = sum(self.blocks, 1);
-            tally.inside = sum(self.inside, first as u64);
-            return tally;
+            Tally {
+                blocks: self.blocks.saturating_add(1),
+                inside: self.inside.saturating_add(first as u64),
+                ..self
+            }
+        } else {
+            Tally {
+                full: self.full.saturating_add(1),
+                ..self
+            }
         }
-        tally.full = sum(self.full, 1);
-        tally
     }
 
     // A line, and what was found. Nothing is passed over in silence: where nothing was found the line counts as one that differs.
@@ -87,8 +83,9 @@ impl Tally {
         }
         let tally = self.answers(line.letter, reply.cells[0]);
         if line.stores(reply) {
-            return tally;
+            tally
+        } else {
+            tally.differs()
         }
-        tally.differs()
     }
 }

@@ -1,4 +1,4 @@
--- `draw_text` meets its contract: a loop that writes the bytes. Assumes nothing.
+-- `draw_text` meets its contract. Assumes nothing.
 use Rattle.stored.specs.LongLaws.{draws_first, draws_again, draws_all}
 use Rattle.stored.proofs.long.draw_text.Goals as goal
 

@@ -1,10 +1,6 @@
--- `draw_text` meets its contract: a loop that writes the bytes. Assumes nothing.
-use Prim.Native.Nat.{◌-◌}
+-- `draw_text` meets its contract: a loop that draws the bytes. Assumes nothing.
 use Rattle.stored.specs.LongLaws.{Draws}
 use Rattle.stored.proofs.long.draw_text.Given as goal
 
 abbrev pub invariant-loop-i : goal.invariant-loop-i
-invariant-loop-i l = Draws l.alphabet l.initial.last l.end l.bytes l.last l.i
-
-abbrev pub decreases-loop-i : goal.decreases-loop-i
-decreases-loop-i l = l.end - l.i
+invariant-loop-i l = Draws l.alphabet l.fn.first l.i-end l.bytes l.last l.i

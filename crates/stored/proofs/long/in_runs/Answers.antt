@@ -1,12 +1,10 @@
--- `in_runs` meets its contract: a loop over the runs. Assumes nothing.
-use Rattle.stored.specs.LongLaws.{strings_first, strings_again, strings_all}
+-- `in_runs` meets its contract. Assumes nothing.
+use Rattle.std.proofs.Common.{◌∙◌, sym}
+use Rattle.stored.specs.LongLaws.{runs_again, runs_over}
 use Rattle.stored.proofs.long.in_runs.Goals as goal
 
-pub loop-i-init : goal.loop-i-init
-loop-i-init c = search strings_first
-
-pub loop-i-preserved : goal.loop-i-preserved
-loop-i-preserved c = search strings_again
+pub loop-left-preserved : goal.loop-left-preserved
+loop-left-preserved c = c.loop-left.invariant ∙ runs_again _ _ _ c.in-len2-up.len_at_least c.with_run-text.ensures
 
 pub returns : goal.returns
-returns c = search strings_all
+returns c = record { answer = runs_over _ _ c.in_default.len_below ∙ sym c.loop-left.invariant }

@@ -1,5 +1,5 @@
 -- `nth` meets its contract: a loop that writes the bytes. Assumes nothing.
-use Rattle.stored.specs.TextLaws.{spells_first, spells_again, spells_all}
+use Rattle.stored.specs.TextLaws.{spells_first, spells_again, text_none, text_some}
 use Rattle.stored.proofs.texts.nth.Goals as goal
 
 pub loop-i-init : goal.loop-i-init
@@ -8,5 +8,8 @@ loop-i-init c = search spells_first
 pub loop-i-preserved : goal.loop-i-preserved
 loop-i-preserved c = search spells_again
 
-pub returns : goal.returns
-returns c = search spells_all
+pub returns-then-is_over : goal.returns-then-is_over
+returns-then-is_over c = search text_none
+
+pub returns-else-is_over : goal.returns-else-is_over
+returns-else-is_over c = search text_some

@@ -1,4 +1,4 @@
--- `Form::ends` meets its contract: a loop that fills an array. Assumes nothing.
+-- `Form::ends` meets its contract: a loop that finds one end after the other. Assumes nothing.
 use Rattle.stored.specs.FormLaws.{parting_first, parting_again, parting_all}
 use Rattle.stored.proofs.form.Form.ends.Goals as goal
 

@@ -1,12 +1,10 @@
--- `Long::with_run` meets its contract: a loop that counts down. Assumes nothing.
-use Rattle.stored.specs.LongLaws.{runs_first, runs_again, runs_all}
+-- `Long::with_run` meets its contract. Assumes nothing.
+use Rattle.std.proofs.Common.{◌∙◌, sym}
+use Rattle.stored.specs.LongLaws.{run_again, run_over}
 use Rattle.stored.proofs.long.Long.with_run.Goals as goal
 
-pub loop-left-init : goal.loop-left-init
-loop-left-init c = search runs_first
-
-pub loop-left-preserved : goal.loop-left-preserved
-loop-left-preserved c = search runs_again
+pub loop-preserved : goal.loop-preserved
+loop-preserved c = c.loop.invariant ∙ run_again _ _ _ _ _ c.loop-test.true c.with_byte-text.ensures
 
 pub returns : goal.returns
-returns c = search runs_all
+returns c = record { answer = run_over _ _ _ _ c.loop-test.false ∙ sym c.loop.invariant }

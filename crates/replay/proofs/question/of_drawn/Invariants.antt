@@ -1,8 +1,0 @@
--- `of_drawn` is safe and ends: the texts are counted down. Assumes nothing.
-use Rattle.replay.proofs.question.of_drawn.Given as goal
-
-abbrev pub invariant-loop-left : goal.invariant-loop-left
-invariant-loop-left l = Unit {0}
-
-abbrev pub decreases-loop-left : goal.decreases-loop-left
-decreases-loop-left l = l.left

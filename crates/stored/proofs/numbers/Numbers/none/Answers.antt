@@ -1,5 +1,0 @@
--- `Numbers::none` meets its contract. Assumes nothing.
-use Rattle.stored.proofs.numbers.Numbers.none.Goals as goal
-
-pub returns : goal.returns
-returns c = record { answer = cc }
