@@ -81,11 +81,8 @@ pub fn cells_fit(run: &[u8], limits: &[u32]) -> bool
         return false;
     }
     let mut fit = true;
-    let mut k = 0;
-    while k < limits.len() {
-        let x = cell(run, k);
-        fit = fit & (x <= limits[k]);
-        k += 1;
+    for k in 0..limits.len() {
+        fit = fit & (cell(run, k) <= limits[k]);
     }
     fit
 }

@@ -30,10 +30,8 @@ fn lay_numbers(out: &mut [u8], from: usize, all: &[usize])
     requires { from + length all.now * 4 ≤ length out.old }
     ensures { LaidAt from (flatten four all.now) out.old out.new }
 {
-    let mut i = 0;
-    while i < all.len() {
+    for i in 0..all.len() {
         lay_number(out, from + i * 4, all[i]);
-        i += 1;
     }
 }
 
@@ -42,10 +40,8 @@ fn lay_bytes(out: &mut [u8], from: usize, all: &[u8])
     requires { from + length all.now * 4 ≤ length out.old }
     ensures { LaidAt from (flatten four all.now) out.old out.new }
 {
-    let mut i = 0;
-    while i < all.len() {
+    for i in 0..all.len() {
         lay_number(out, from + i * 4, index(all[i]));
-        i += 1;
     }
 }
 
@@ -63,20 +59,16 @@ fn lacks_room(len: usize, from: usize, n: usize) -> bool
 pub fn put_numbers(out: &mut [u8], from: usize, all: &[usize])
     ensures { LaidIf from (flatten four all.now) out.old out.new }
 {
-    if lacks_room(out.len(), from, all.len()) {
-        return;
+    if !lacks_room(out.len(), from, all.len()) {
+        lay_numbers(out, from, all);
     }
-    lay_numbers(out, from, all);
 }
 
 // A flag as a number.
 pub fn flag(on: bool) -> usize
     ensures { Gives (as_flag on) result }
 {
-    if on {
-        return 1;
-    }
-    0
+    on as usize
 }
 
 // How many numbers a run of `len` bytes has room for.
