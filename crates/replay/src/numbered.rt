@@ -8,6 +8,7 @@ use stored::answers::STEPS;
 use stored::form::Question;
 use stored::numbers::Numbers;
 use stored::parts::number_at;
+use std::marker::PhantomData;
 
 // A fresh state, all items that it yields, or a step of a handmade state at a place.
 pub(crate) fn ask(
@@ -46,6 +47,7 @@ fn handmade(nn: usize, bytes: &[u8], place: usize) -> BlockNumberedIter {
         needles: items::needles_of(bytes),
         nn,
         streaming: byte_at(bytes, 1) > 0,
+        kind: PhantomData,
     }
 }
 
