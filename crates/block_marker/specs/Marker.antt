@@ -1,21 +1,20 @@
 -- What the marker scanner finds. Assumes nothing.
 -- The page: "Optional separators and tabs, one accepted byte, one separator or tab; the span is the rest of the line."
-use Rattle.std.specs.Prelude.{Bool, cond, ◌&&◌, List, [], ◌∷◌, ℕ, ◌+◌, ltb, length, get_or, take, Err, None, Ok, Option, Result, Some}
+use Rattle.std.specs.Prelude.{Bool, cond, ◌&&◌, List, [], ◌∷◌, ℕ, ◌+◌, ltb, length, get_or, take, Option, Result}
 use Rattle.std.proofs.Math.Seq.{slice}
 use Rattle.search.specs.Promise.{Gives}
 use Rattle.search.specs.Search.{either, one_of, holds, find, line_end, after_line}
-use Rattle.common.specs.Refusals.{Outcome, given, refused, too_long, past, number_of}
-use Rattle.common.specs.Turn.{Turn, go, stop, found, Step}
+use Rattle.common.specs.Refusals.{Outcome, given, refused, too_long, past}
+use Rattle.common.specs.Turn.{Turn, go, found, Step}
 use Rattle.common.specs.Items.{ItemGrammar, grammar, blank, has, leading, beyond, leads, item_from, items_of, read_turn, hit_turn, step_for}
 use Rattle.common.specs.Scanning.{Scanner, Keeps, KeepsFrom, on_from, of_line}
 use Rattle.common.specs.Scanning as scanning
-use Rattle.block_marker.specs.declared.BlockMarkerIter.{BlockMarkerIter}
+use Rattle.common.specs.Kinds.{Reading, scanner_of, told_by}
+use Rattle.common.specs.declared.scan.ItemIter.{ItemIter}
+use Rattle.common.specs.declared.scan.Step as code
+use Rattle.common.specs.declared.span.Span.{Span}
+use Rattle.block_marker.specs.declared.Marker.{Marker}
 use Rattle.block_marker.specs.declared.MarkerItem.{MarkerItem}
-use Rattle.block_marker.specs.declared.MarkerStep.{MarkerStep}
-use Rattle.block_marker.specs.declared.MarkerTurn.{MarkerTurn}
-use Rattle.block_marker.specs.declared.MarkerTurn.TheVariants.{Go, Stop, Found}
-use Rattle.block_marker.specs.declared.MarkerFirst.{MarkerFirst}
-use Rattle.block_marker.specs.declared.MarkerFirst.TheVariants as first
 use Rattle.common.specs.declared.refusal.Refusal.{Refusal}
 
 -- the item of a marker, with the span of its content
@@ -58,16 +57,16 @@ line_turn g s q = read_turn g (mark_line g) s q
 abbrev pub values : MarkerItem → List ℕ
 values i = i.span.start ∷ i.span.end ∷ i.marker ∷ []
 
--- the scanner, by the fields of its state, its two scans and its items' values
+-- how its items are read
+abbrev pub reading : Reading MarkerItem
+reading = record { streams = stream_turn; lines = line_turn; values = values; back = λ l. mark (get_or l 2 0) (get_or l 0 0) (get_or l 1 0) }
+
+-- a state, and the scanner
+abbrev pub BlockMarkerIter : Type 0
+BlockMarkerIter = ItemIter Marker
+
 abbrev pub scanner : Scanner BlockMarkerIter MarkerItem
-scanner = record {
-  fields = λ g. record { eol = g.eol; sep = g.sep; tab = g.tab; pos = g.pos; needles = g.needles; nn = g.nn; streaming = g.streaming };
-  made = λ f. record { eol = f.eol; sep = f.sep; tab = f.tab; pos = f.pos; needles = f.needles; nn = f.nn; streaming = f.streaming };
-  streams = stream_turn;
-  lines = line_turn;
-  values = values;
-  back = λ l. mark (get_or l 2 0) (get_or l 0 0) (get_or l 1 0);
-}
+scanner = scanner_of Marker reading
 
 -- a fresh state
 abbrev pub fresh : ℕ → ℕ → ℕ → List Bool → BlockMarkerIter
@@ -111,22 +110,18 @@ unfolded g set s =
     (given [], g))))
 
 -- ---- what the code's values stand for
-abbrev pub view : MarkerTurn → Turn MarkerItem
-view (Go n) = go n
-view (Stop v) = stop v
-view (Found m a e n) = found (mark m a e) n
-
--- of a whole scan, which comes to something
-abbrev pub rests : MarkerFirst → Turn MarkerItem
-rests (first.Found m a e n) = found (mark m a e) n
-rests (first.Stopped v) = stop v
+-- the item of what leads its line, and of its span
+abbrev pub make : ℕ → Span → MarkerItem
+make marker span = record { marker = marker; span = span }
 
 abbrev pub told : Result (Option MarkerItem) Refusal → Outcome
-told (Ok (Some i)) = given (values i)
-told (Ok None) = given []
-told (Err r) = refused (number_of r)
+told = told_by values
 
 -- ---- the run
+-- what a step answers, and the state after it
+abbrev pub MarkerStep : Type 0
+MarkerStep = code.Step MarkerItem BlockMarkerIter
+
 -- the promise of `next` for its result
 abbrev pub Kept : BlockMarkerIter → List Bool → List ℕ → MarkerStep → Type 0
 Kept g set s r = Keeps scanner g set s (told r.found) r.next

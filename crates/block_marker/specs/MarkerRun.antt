@@ -13,15 +13,19 @@ use Rattle.common.specs.ItemLaws.{of_cond}
 use Rattle.common.specs.Scanning.{by_needles, by_set, flag_off, found_by, turn, result, of_turn}
 use Rattle.common.specs.ScanningLaws.{Lawful}
 use Rattle.common.specs.ScanningLaws as scanning
-use Rattle.block_marker.specs.Marker.{mark_line, markers, stream_hit, stream_turn, scanner, fresh, unfolded, told, Kept, KeptFrom, told_step, items}
+use Rattle.block_marker.specs.Marker.{BlockMarkerIter, MarkerStep, make, mark_line, markers, stream_hit, stream_turn, scanner, fresh, unfolded, told, Kept, KeptFrom, told_step, items}
 use Rattle.block_marker.specs.MarkerLaws.{Marks, stream_heads, line_heads, Lies, stream_adv, line_adv, lined_items, streamed_items}
-use Rattle.block_marker.specs.declared.BlockMarkerIter.{BlockMarkerIter}
-use Rattle.block_marker.specs.declared.MarkerStep.{MarkerStep}
 use Rattle.block_marker.specs.declared.MarkerItem.{MarkerItem}
+use Rattle.common.specs.declared.span.Span.{Span}
+use native.Mathlib.Omega.{arith}
 use Rattle.common.specs.declared.refusal.Refusal.{Refusal}
 
 pub lawful : Lawful scanner Lies
 lawful = record { of_made = λ f. refl; made_of = λ g. refl; reads = λ a n. refl; streams_on = stream_adv; lines_on = line_adv }
+
+-- and the span of an item that lies before a place ends before it
+pub fits : (q n : ℕ) (marker : ℕ) (span : Span) → Lies q n (make marker span) → (span.start ≤ n) × (span.end ≤ n)
+fits q n marker span l = (omega arith, omega arith)
 
 -- what a state's turns find is headed by its marker
 pub turn_heads : (g : BlockMarkerIter) (set : List Bool) (s : List ℕ) (q : ℕ) → OnFound (Marks s) (turn scanner g set s q)

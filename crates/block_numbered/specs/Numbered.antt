@@ -1,21 +1,21 @@
 -- What the numbered scanner finds. Assumes nothing.
 -- The page: "As above with 1 to 9 ASCII digits and an accepted delimiter; ten digits reject."
-use Rattle.std.specs.Prelude.{Bool, true, false, cond, ◌&&◌, List, [], ◌∷◌, ◌≡◌, ℕ, ◌+◌, ◌-◌, ltb, leb, length, get_or, take, drop, Err, None, Ok, Option, Result, Some}
+use Rattle.std.specs.Prelude.{Bool, true, false, cond, ◌&&◌, List, [], ◌∷◌, ◌≡◌, ℕ, ◌+◌, ◌-◌, ltb, leb, length, get_or, take, drop, Option, Result}
 use Rattle.std.proofs.Math.Seq.{slice}
 use Rattle.search.specs.Search.{either, one_of, holds, find, back, line_end, after_line, digit}
 use Rattle.decimal.specs.Decimal.{valued}
-use Rattle.common.specs.Refusals.{Outcome, given, refused, too_long, past, number_of}
-use Rattle.common.specs.Turn.{Turn, go, stop, found, Step}
+use Rattle.common.specs.Refusals.{Outcome, given, refused, too_long, past}
+use Rattle.common.specs.Turn.{Turn, go, found, Step}
 use Rattle.common.specs.Items.{ItemGrammar, grammar, blank, has, Apart, leading, beyond, leads, item_from, items_of, read_turn, hit_turn, step_for}
 use Rattle.common.specs.Scanning.{Scanner, Keeps, KeepsFrom, on_from, of_line}
 use Rattle.common.specs.Scanning as scanning
-use Rattle.block_numbered.specs.declared.BlockNumberedIter.{BlockNumberedIter}
+use Rattle.common.specs.Kinds.{Reading, scanner_of, told_by}
+use Rattle.common.specs.declared.scan.ItemIter.{ItemIter}
+use Rattle.common.specs.declared.scan.Step as code
+use Rattle.common.specs.declared.span.Span.{Span}
+use Rattle.block_numbered.specs.declared.Head.{Head}
+use Rattle.block_numbered.specs.declared.Numbered.{Numbered}
 use Rattle.block_numbered.specs.declared.NumberedItem.{NumberedItem}
-use Rattle.block_numbered.specs.declared.NumberedStep.{NumberedStep}
-use Rattle.block_numbered.specs.declared.NumberedTurn.{NumberedTurn}
-use Rattle.block_numbered.specs.declared.NumberedTurn.TheVariants.{Go, Stop, Found}
-use Rattle.block_numbered.specs.declared.NumberedFirst.{NumberedFirst}
-use Rattle.block_numbered.specs.declared.NumberedFirst.TheVariants as first
 use Rattle.block_numbered.specs.declared.DigitRun.{DigitRun}
 use Rattle.block_numbered.specs.declared.Trail.{Trail}
 use Rattle.common.specs.declared.refusal.Refusal.{Refusal}
@@ -101,16 +101,16 @@ line_turn g s q = read_turn g (read_line g) s q
 abbrev pub values : NumberedItem → List ℕ
 values i = i.span.start ∷ i.span.end ∷ i.delimiter ∷ i.number ∷ []
 
--- the scanner, by the fields of its state, its two scans and its items' values
+-- how its items are read
+abbrev pub reading : Reading NumberedItem
+reading = record { streams = stream_turn; lines = line_turn; values = values; back = λ l. item (get_or l 3 0) (get_or l 2 0) (get_or l 0 0) (get_or l 1 0) }
+
+-- a state, and the scanner
+abbrev pub BlockNumberedIter : Type 0
+BlockNumberedIter = ItemIter Numbered
+
 abbrev pub scanner : Scanner BlockNumberedIter NumberedItem
-scanner = record {
-  fields = λ g. record { eol = g.eol; sep = g.sep; tab = g.tab; pos = g.pos; needles = g.needles; nn = g.nn; streaming = g.streaming };
-  made = λ f. record { eol = f.eol; sep = f.sep; tab = f.tab; pos = f.pos; needles = f.needles; nn = f.nn; streaming = f.streaming };
-  streams = stream_turn;
-  lines = line_turn;
-  values = values;
-  back = λ l. item (get_or l 3 0) (get_or l 2 0) (get_or l 0 0) (get_or l 1 0);
-}
+scanner = scanner_of Numbered reading
 
 -- a fresh state
 abbrev pub fresh : ℕ → ℕ → ℕ → List Bool → BlockNumberedIter
@@ -157,20 +157,12 @@ unfolded g set s =
     (given [], g))))
 
 -- ---- what the code's values stand for
-abbrev pub view : NumberedTurn → Turn NumberedItem
-view (Go n) = go n
-view (Stop v) = stop v
-view (Found v d a e n) = found (item v d a e) n
-
--- of a whole scan, which comes to something
-abbrev pub rests : NumberedFirst → Turn NumberedItem
-rests (first.Found v d a e n) = found (item v d a e) n
-rests (first.Stopped v) = stop v
+-- the item of what leads its line, and of its span
+abbrev pub make : Head → Span → NumberedItem
+make head span = record { number = head.number; delimiter = head.delimiter; span = span }
 
 abbrev pub told : Result (Option NumberedItem) Refusal → Outcome
-told (Ok (Some i)) = given (values i)
-told (Ok None) = given []
-told (Err r) = refused (number_of r)
+told = told_by values
 
 -- digits read from a place: their number, and where they end
 abbrev pub digits_at : ℕ → List ℕ → DigitRun
@@ -181,6 +173,10 @@ abbrev pub trail_at : List ℕ → ℕ → ℕ → Trail
 trail_at s p n = record { count = n; number = valued (slice (p - n) p s) }
 
 -- ---- the run
+-- what a step answers, and the state after it
+abbrev pub NumberedStep : Type 0
+NumberedStep = code.Step NumberedItem BlockNumberedIter
+
 -- the promise of `next` for its result
 abbrev pub Kept : BlockNumberedIter → List Bool → List ℕ → NumberedStep → Type 0
 Kept g set s r = Keeps scanner g set s (told r.found) r.next

@@ -14,15 +14,20 @@ use Rattle.common.specs.ItemLaws.{of_cond}
 use Rattle.common.specs.Scanning.{by_needles, by_set, flag_off, found_by, turn, result, of_turn}
 use Rattle.common.specs.ScanningLaws.{Lawful}
 use Rattle.common.specs.ScanningLaws as scanning
-use Rattle.block_numbered.specs.Numbered.{one_to_nine, numbers, NoDigit, DigitsApart, stream_hit, stream_turn, read_line, scanner, fresh, unfolded, told, Kept, KeptFrom, told_step, items}
+use Rattle.block_numbered.specs.Numbered.{BlockNumberedIter, NumberedStep, make, one_to_nine, numbers, NoDigit, DigitsApart, stream_hit, stream_turn, read_line, scanner, fresh, unfolded, told, Kept, KeptFrom, told_step, items}
 use Rattle.block_numbered.specs.NumberedLaws.{Delimits, stream_heads, line_heads, Lies, stream_adv, line_adv, lined_items, streamed_items}
-use Rattle.block_numbered.specs.declared.BlockNumberedIter.{BlockNumberedIter}
-use Rattle.block_numbered.specs.declared.NumberedStep.{NumberedStep}
 use Rattle.block_numbered.specs.declared.NumberedItem.{NumberedItem}
+use Rattle.common.specs.declared.span.Span.{Span}
+use Rattle.block_numbered.specs.declared.Head.{Head}
+use native.Mathlib.Omega.{arith}
 use Rattle.common.specs.declared.refusal.Refusal.{Refusal}
 
 pub lawful : Lawful scanner Lies
 lawful = record { of_made = λ f. refl; made_of = λ g. refl; reads = λ a n. refl; streams_on = stream_adv; lines_on = line_adv }
+
+-- and the span of an item that lies before a place ends before it
+pub fits : (q n : ℕ) (head : Head) (span : Span) → Lies q n (make head span) → (span.start ≤ n) × (span.end ≤ n)
+fits q n head span l = (omega arith, omega arith)
 
 -- what a state's turns find is headed by its delimiter
 pub turn_heads : (g : BlockNumberedIter) (set : List Bool) (s : List ℕ) (q : ℕ) → OnFound (Delimits s) (turn scanner g set s q)

@@ -9,33 +9,27 @@
 // by one, their digits forward.
 #![tactic(auto)]
 
-ghost use Rattle.std.specs.Prelude.{◌≤◌, ◌<◌, ◌-◌, ◌^◌, min, length, take, drop};
-ghost use Rattle.search.specs.Promise.{Gives, Steps};
-ghost use Rattle.search.specs.Search.{one_of, back, digit};
-ghost use Rattle.common.specs.Items.{grammar, has};
-ghost use Rattle.common.specs.Later.{Unled, Looked};
-ghost use Rattle.common.specs.Scanning.{at, first};
-ghost use Rattle.common.specs.Turn.{first_turn};
-ghost use Rattle.block_numbered.specs.Numbered.{few, trail_at, read_digits, digits_at, stream_turn, line_turn, scanner, fresh, view, rests, told, answer, state};
+ghost use Rattle.std.specs.Prelude.{◌<◌, ◌-◌, ◌^◌, min, drop};
+ghost use Rattle.search.specs.Promise.{Gives};
+ghost use Rattle.search.specs.Search.{back, digit};
+ghost use Rattle.block_numbered.specs.Numbered.{few, trail_at, read_digits, digits_at, reading, make};
+ghost use Rattle.block_numbered.specs.NumberedLaws.{Lies};
+ghost use Rattle.block_numbered.specs.NumberedRun.{lawful, fits};
 
 use common::items::{blank_at, leads_later};
-use common::refusal::Refusal;
-use common::sets::{accepts, probe_matcher};
-use common::span::{MAX_INPUT_LEN, Span};
+use common::scan::{ItemIter, Kind, Lead, Step};
+use common::sets::accepts;
+use common::span::{Bounds, Span};
+use common::turn::Turn;
 use find::{find_any_of, find_byte};
 use search::{blank_end, byte_at, is_digit, next_line};
 
-// The fields of the Rust's iterator; the text and the set of accepted delimiters are lent beside it.
+// The kind of the numbered items.
 #[derive(Clone, Copy)]
-pub struct BlockNumberedIter {
-    pub eol: u8,
-    pub sep: u8,
-    pub tab: u8,
-    pub pos: usize,
-    pub needles: [u8; 3],
-    pub nn: usize,
-    pub streaming: bool,
-}
+pub struct Numbered;
+
+// The scanner's state, by the Rust's name.
+pub type BlockNumberedIter = ItemIter<Numbered>;
 
 // A number, its delimiter byte, and the span of its content.
 #[derive(Clone, Copy)]
@@ -46,27 +40,13 @@ pub struct NumberedItem {
 }
 
 // What a step answers, and the state after it.
-#[derive(Clone, Copy)]
-pub struct NumberedStep {
-    pub found: Result<Option<NumberedItem>, Refusal>,
-    pub next: BlockNumberedIter,
-}
+pub type NumberedStep = Step<NumberedItem, BlockNumberedIter>;
 
-// One turn of a scan: on from a later place; nothing left; or a number, its delimiter, the content from where to where, and the next
-// line.
+// What leads an item's line.
 #[derive(Clone, Copy)]
-enum NumberedTurn {
-    Go(usize),
-    Stop(usize),
-    Found(u32, u8, usize, usize, usize),
-}
-
-// What a scan comes to: a number, its delimiter, the content from where to where, and the next line; or nothing, and the place where
-// it stops.
-#[derive(Clone, Copy)]
-enum NumberedFirst {
-    Found(u32, u8, usize, usize, usize),
-    Stopped(usize),
+pub struct Head {
+    pub number: u32,
+    pub delimiter: u8,
 }
 
 // Digits that were read: their number, and where they end.
@@ -177,207 +157,88 @@ pub fn read_digits(line: &[u8], from: usize) -> DigitRun
     DigitRun { number, end: i }
 }
 
-// One turn of the streaming scan. A failed hit is rejected in place, and the scan goes on from the next byte: delimiters in prose are
-// few on a line, so that one look back at each is cheaper than a search for every line's end.
-fn stream_turn(
-    src: &[u8],
-    q: usize,
-    eol: u8,
-    sep: u8,
-    tab: u8,
-    needles: &[u8; 3],
-    nn: usize,
-    lost: &mut usize,
-) -> NumberedTurn
-    requires { Unled eol sep tab src.now lost.old }
-    ensures { Looked eol sep tab src.now
-        (stream_turn (grammar eol sep tab (one_of (take nn needles.now))) src.now q) (view result) lost.new }
-{
-    let len = src.len();
-    let p = find_any_of(needles, nn, src, q);
-    if p >= len {
-        return NumberedTurn::Stop(q);
-    }
-    let nxt = p + 1;
-    let digits = digits_before(src, p);
-    let n = digits.count;
-    if n == 0 {
-        return NumberedTurn::Go(nxt);
-    }
-    let k = p - n;
-    if leads_later(src, k, eol, sep, tab, lost) {
-        if blank_at(src, nxt, sep, tab) {
-            let start = p + 2;
-            let e = find_byte(src, start, eol);
-            return NumberedTurn::Found(digits.number, byte_at(src, p), start, e, next_line(len, e));
-        }
-        return NumberedTurn::Go(nxt);
-    }
-    NumberedTurn::Go(nxt) // in place
-}
+impl Kind for Numbered {
+    type Value = Head;
 
-// The first item of the streaming scan at or after `from`, or where the scan stays when there is none.
-fn first_streamed(
-    src: &[u8],
-    from: usize,
-    eol: u8,
-    sep: u8,
-    tab: u8,
-    needles: &[u8; 3],
-    nn: usize,
-) -> NumberedFirst
-    requires { from ≤ length src.now }
-    ensures { Gives (first_turn (stream_turn (grammar eol sep tab (one_of (take nn needles.now))) src.now)
-        (length src.now) from) (rests result) }
-{
-    let mut lost = 0;
-    let mut q = from;
-    loop {
-        match stream_turn(src, q, eol, sep, tab, needles, nn, &mut lost) {
-            NumberedTurn::Go(n) => {
-                q = n;
-            }
-            NumberedTurn::Stop(v) => {
-                return NumberedFirst::Stopped(v);
-            }
-            NumberedTurn::Found(v, d, a, e, n) => {
-                return NumberedFirst::Found(v, d, a, e, n);
-            }
-        }
-    }
-}
+    type Item = NumberedItem;
 
-// One turn of the line scan: the line that begins at `q`.
-fn line_turn(src: &[u8], q: usize, eol: u8, sep: u8, tab: u8, matches: &[bool; 256]) -> NumberedTurn
-    ensures { Gives (line_turn (grammar eol sep tab (has matches.now)) src.now q) (view result) }
-{
-    if q >= src.len() {
-        return NumberedTurn::Stop(q);
-    }
-    let e = find_byte(src, q, eol);
-    let n = next_line(src.len(), e);
-    let line = &src[..e];
-    let p = blank_end(line, q, sep, tab);
-    let digits = read_digits(line, p);
-    let j = digits.end;
-    if j <= p {
-        return NumberedTurn::Go(n);
-    }
-    if j >= e {
-        return NumberedTurn::Go(n);
-    }
-    let delimiter = byte_at(line, j);
-    if accepts(matches, delimiter) {
-        if blank_at(line, j + 1, sep, tab) {
-            return NumberedTurn::Found(digits.number, delimiter, j + 2, e, n);
-        }
-        return NumberedTurn::Go(n);
-    }
-    NumberedTurn::Go(n)
-}
+    ghost reading = { reading };
 
-// The first item of the line scan at or after `from`.
-fn first_lined(
-    src: &[u8],
-    from: usize,
-    eol: u8,
-    sep: u8,
-    tab: u8,
-    matches: &[bool; 256],
-) -> NumberedFirst
-    requires { from ≤ length src.now }
-    ensures { Gives (first_turn (line_turn (grammar eol sep tab (has matches.now)) src.now)
-        (length src.now) from) (rests result) }
-{
-    let mut q = from;
-    loop {
-        match line_turn(src, q, eol, sep, tab, matches) {
-            NumberedTurn::Go(n) => {
-                q = n;
-            }
-            NumberedTurn::Stop(v) => {
-                return NumberedFirst::Stopped(v);
-            }
-            NumberedTurn::Found(v, d, a, e, n) => {
-                return NumberedFirst::Found(v, d, a, e, n);
-            }
-        }
-    }
-}
+    ghost make = { make };
 
-impl BlockNumberedIter {
-    pub fn new(eol: u8, sep: u8, tab: u8, matches: &[bool; 256]) -> Self
-        ensures { Gives (fresh eol sep tab matches.now) result }
-    {
-        let probe = probe_matcher(matches);
-        let needles = probe.needles;
-        BlockNumberedIter {
-            eol,
-            sep,
-            tab,
-            pos: 0,
-            needles,
-            nn: probe.nn,
-            streaming: probe.streaming,
+    ghost lies = { Lies };
+
+    fn item(head: Head, span: Span) -> NumberedItem {
+        NumberedItem {
+            number: head.number,
+            delimiter: head.delimiter,
+            span,
         }
     }
 
-    fn at(self, pos: usize) -> Self
-        ensures { Gives (at scanner self pos) result }
-    {
-        let mut moved = self;
-        moved.pos = pos;
-        moved
-    }
-
-    // The first item at or after the state's place, by the scan that its flag says.
-    fn first(self, src: &[u8], matches: &[bool; 256]) -> NumberedFirst
-        requires { self.pos ≤ length src.now }
-        ensures { Gives (first scanner self matches.now src.now) (rests result) }
-    {
-        if self.streaming {
-            let needles = self.needles;
-            return first_streamed(
-                src, self.pos, self.eol, self.sep, self.tab, &needles, self.nn,
-            );
-        }
-        first_lined(src, self.pos, self.eol, self.sep, self.tab, matches)
-    }
-
-    pub fn next(self, src: &[u8], matches: &[bool; 256]) -> NumberedStep
-        ensures { Steps (answer self matches.now src.now) (state self matches.now src.now)
-            (told result.found) result.next }
-    {
-        let pos = self.pos;
+    // A failed hit is rejected in place, and the scan goes on from the next byte: delimiters in prose are few on a line, so that one look
+    // back at each is cheaper than a search for every line's end.
+    fn streamed(g: &BlockNumberedIter, src: &[u8], q: usize, lost: &mut usize) -> Turn<Lead<Head>> {
         let len = src.len();
-        if len > MAX_INPUT_LEN {
-            return NumberedStep {
-                found: Err(Refusal::TextTooLong),
-                next: self,
+        let needles = g.needles;
+        let p = find_any_of(&needles, g.nn, src, q);
+        if p >= len {
+            return Turn::Stop(q);
+        }
+        let nxt = p + 1;
+        let digits = digits_before(src, p);
+        let n = digits.count;
+        if n == 0 {
+            return Turn::Go(nxt);
+        }
+        let k = p - n;
+        if leads_later(src, k, g.eol, g.sep, g.tab, lost) && blank_at(src, nxt, g.sep, g.tab) {
+            let start = p + 2;
+            let end = find_byte(src, start, g.eol);
+            let value = Head {
+                number: digits.number,
+                delimiter: byte_at(src, p),
             };
+            let content = Bounds { start, end };
+            return Turn::Found(Lead { value, content }, next_line(len, end));
         }
-        if pos > len {
-            return NumberedStep {
-                found: Err(Refusal::PlaceOutside),
-                next: self,
-            };
-        }
-        match self.first(src, matches) {
-            NumberedFirst::Found(number, delimiter, a, e, after) => NumberedStep {
-                found: Ok(Some(NumberedItem {
-                    number,
-                    delimiter,
-                    span: Span {
-                        start: a as u32,
-                        end: e as u32,
-                    },
-                })),
-                next: self.at(after),
-            },
-            NumberedFirst::Stopped(v) => NumberedStep {
-                found: Ok(None),
-                next: self.at(v),
-            },
-        }
+        Turn::Go(nxt) // in place
     }
+
+    fn lined(
+        g: &BlockNumberedIter,
+        src: &[u8],
+        q: usize,
+        matches: &[bool; 256],
+    ) -> Turn<Lead<Head>> {
+        if q >= src.len() {
+            return Turn::Stop(q);
+        }
+        let end = find_byte(src, q, g.eol);
+        let n = next_line(src.len(), end);
+        let line = &src[..end];
+        let p = blank_end(line, q, g.sep, g.tab);
+        let digits = read_digits(line, p);
+        let j = digits.end;
+        if j <= p {
+            return Turn::Go(n);
+        }
+        if j >= end {
+            return Turn::Go(n);
+        }
+        let delimiter = byte_at(line, j);
+        if accepts(matches, delimiter) && blank_at(line, j + 1, g.sep, g.tab) {
+            let value = Head {
+                number: digits.number,
+                delimiter,
+            };
+            let content = Bounds { start: j + 2, end };
+            return Turn::Found(Lead { value, content }, n);
+        }
+        Turn::Go(n)
+    }
+
+    ghost lawful = { lawful };
+
+    ghost fits = { fits };
 }

@@ -23,3 +23,4 @@ pub mod LineStarts
 pub mod LineStartLaws
 pub mod Scanning
 pub mod ScanningLaws
+pub mod Kinds

@@ -13,9 +13,10 @@ use Rattle.search.specs.SearchLaws.{decide}
 use Rattle.common.specs.Sets.{probe, accepted}
 use Rattle.common.specs.Refusals.{Outcome, given, refused, too_long, past}
 use Rattle.common.specs.RefusalLaws.{told_unique}
-use Rattle.common.specs.Turn.{Turn, then_scan, then_collect, first_turn, all_found, step_of, then_drain, drain, yields}
+use Rattle.common.specs.Turn.{Turn, stop, found, then_scan, then_collect, first_turn, all_found, step_of, then_drain, drain, yields}
 use Rattle.common.specs.Turning.{Adv, Leads, OnFound, Finds}
 use Rattle.common.specs.TurnLaws.{by_turn, by_last, last_fits, scan-turn, collect-scan, scan_ends, drain-answers, answers-take}
+use Rattle.common.specs.Later.{Unled, Looked}
 use Rattle.common.specs.Items.{ItemGrammar, grammar, has, line_bytes, line_found, read_turn, hit_turn, said, place_of, step_for}
 use Rattle.common.specs.ItemLaws.{both, of_cond, needle_set, step_long, step_past, step_served, step_seen, step_taken}
 use Rattle.common.specs.Scanning.{Fields, moved, unflagged, probed, by_needles, by_set, Scanner, fresh, at, flag_off, turn_by, turn, first, answer, state, Keeps, KeepsFrom, items, result, on_from, of_line, of_turn}
@@ -29,19 +30,20 @@ pub record Lawful {S A : Type 0} (c : Scanner S A) (Lies : ℕ → ℕ → A →
   pub streams_on : (g : ItemGrammar) (s : List ℕ) → Adv Lies (c.streams g s) (length s)
   pub lines_on : (g : ItemGrammar) (s : List ℕ) → Adv Lies (c.lines g s) (length s)
 
--- ---- the ways out of `new`, `first` and `next`
+-- ---- the ways out of `new`, `turn`, `first` and `next`
 module _ {S A : Type 0} (c : Scanner S A) where
   pub fresh-told : (eol sep tab : ℕ) (set : List Bool) (p : Probe) → Gives (probe set) p → Gives (fresh c eol sep tab set) (c.made (probed eol sep tab p))
   fresh-told eol sep tab set p g = record { answer = ap (λ (p : Probe). c.made (probed eol sep tab p)) g.answer }
 
   module _ (g : S) (set : List Bool) (s : List ℕ) where
-    pub first_stream : (t : Turn A) → (c.fields g).streaming ≡ true → Gives (first_turn (c.streams (by_needles (c.fields g)) s) (length s) (c.fields g).pos) t → Gives (first c g set s) t
-    unfolding first turn
-    first_stream t e w = record { answer = rw e w.answer }
+    module _ (q : ℕ) (t : Turn A) (eol sep tab : ℕ) (lost : List ℕ) where
+      pub turn_stream : (c.fields g).streaming ≡ true → Looked eol sep tab s (c.streams (by_needles (c.fields g)) s q) t lost → Looked eol sep tab s (turn c g set s q) t lost
+      unfolding turn
+      turn_stream e w = record { turn = record { answer = rw e w.turn.answer }; left = w.left }
 
-    pub first-line : (t : Turn A) → (c.fields g).streaming ≡ false → Gives (first_turn (c.lines (by_set (c.fields g) set) s) (length s) (c.fields g).pos) t → Gives (first c g set s) t
-    unfolding first turn
-    first-line t e w = record { answer = rw e w.answer }
+      pub turn-line : (c.fields g).streaming ≡ false → Unled eol sep tab s lost → Gives (c.lines (by_set (c.fields g) set) s q) t → Looked eol sep tab s (turn c g set s q) t lost
+      unfolding turn
+      turn-line e u w = record { turn = record { answer = rw e w.answer }; left = u }
 
     pub next_long : 4294967295 < length s → Keeps c g set s (refused 1) g
     unfolding answer state
@@ -51,11 +53,17 @@ module _ {S A : Type 0} (c : Scanner S A) where
     unfolding answer state
     next_past l h = step_past c.values (at c) g s (c.fields g).pos (first c g set s) l h
 
-  -- by what a `match` told of the code's value d of the scan's answer; `view` says which answer such a value stands for
-  pub next-told : {D : Type 0} (view : D → Turn A) (g : S) (set : List Bool) (s : List ℕ) → (c.fields g).pos ≤ length s → length s ≤ 4294967295
-      → (d e : D) (o : Outcome) (n : S) → d ≡ e → Gives (first c g set s) (view d) → o ≡ said c.values (view e) → Gives (at c g (place_of (view e))) n → Keeps c g set s o n
-  unfolding answer state
-  next-told view g set s l h = step_seen c.values (at c) g s (c.fields g).pos (first c g set s) l h view
+  -- by the first turn that does not only go on
+  module _ (g : S) (set : List Bool) (s : List ℕ) (l : (c.fields g).pos ≤ length s) (h : length s ≤ 4294967295) where
+    served_by : (t : Turn A) (n : S) → t ≡ first_turn (turn c g set s) (length s) (c.fields g).pos → Gives (at c g (place_of t)) n → Keeps c g set s (said c.values t) n
+    unfolding answer state first
+    served_by t n e = step_seen c.values (at c) g s (c.fields g).pos (first c g set s) l h (λ (t : Turn A). t) t t (said c.values t) n refl (record { answer = e }) refl
+
+    pub served_stop : (v : ℕ) (n : S) → stop v ≡ first_turn (turn c g set s) (length s) (c.fields g).pos → Gives (at c g v) n → Keeps c g set s (given []) n
+    served_stop v = served_by (stop v)
+
+    pub served_found : (a b : A) (m : ℕ) (n : S) → found a m ≡ first_turn (turn c g set s) (length s) (c.fields g).pos → b ≡ a → Gives (at c g m) n → Keeps c g set s (given (c.values b)) n
+    served_found a b m n e f = served_by (found b m) n (ap (λ (a : A). found a m) f ∙ e)
 
 -- ---- what a turn at q makes of a step: one that looks for the next accepted byte, and one that reads a line
 module _ {S A : Type 0} (c : Scanner S A) (g : S) (set : List Bool) (s : List ℕ) where

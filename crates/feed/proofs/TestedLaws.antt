@@ -11,11 +11,11 @@ use Rattle.common.specs.declared.grammar.Grammar.{Grammar}
 use Rattle.block_marker.specs.Marker as marker
 use Rattle.block_marker.specs.MarkerLaws.{Marks}
 use Rattle.block_marker.specs.MarkerRun as marker_run
-use Rattle.block_marker.specs.declared.BlockMarkerIter.{BlockMarkerIter}
+use Rattle.block_marker.specs.Marker.{BlockMarkerIter}
 use Rattle.block_numbered.specs.Numbered as numbered
 use Rattle.block_numbered.specs.NumberedLaws.{Delimits}
 use Rattle.block_numbered.specs.NumberedRun as numbered_run
-use Rattle.block_numbered.specs.declared.BlockNumberedIter.{BlockNumberedIter}
+use Rattle.block_numbered.specs.Numbered.{BlockNumberedIter}
 use Rattle.feed.specs.Items.{marked, counted, mark_items_from, numbered_items_from, mark_items, numbered_items, merge, two_before, tested_place}
 use Rattle.feed.specs.FeedLaws.{each_merge}
 use Rattle.feed.specs.declared.item.SheetItem.{SheetItem}

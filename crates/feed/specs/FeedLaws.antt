@@ -7,32 +7,34 @@ use mathlib.Core.List.{List, [], ◌∷◌, map}
 use Rattle.search.specs.Promise.{Gives, Steps}
 use Rattle.search.specs.SearchLaws.{decide}
 use Rattle.common.specs.Refusals.{Outcome}
-use Rattle.common.specs.Turn.{then_drain}
+use Rattle.common.specs.Turn.{Step, yields, ends, then_drain}
 use Rattle.common.specs.Turning.{Each}
 use Rattle.common.specs.Items.{step_for}
 use Rattle.common.specs.Scanning.{Scanner, answer, state, Keeps, items}
 use Rattle.common.specs.ScanningLaws.{Lawful, step_items, step_inside}
 use Rattle.common.specs.declared.grammar.Grammar.{Grammar}
+use Rattle.common.specs.Kinds.{Reading, scanner_of, told_by}
+use Rattle.common.specs.declared.scan.ItemIter.{ItemIter}
+use Rattle.common.specs.declared.scan.Step as code
+use Rattle.block_marker.specs.declared.Marker.{Marker}
+use Rattle.block_numbered.specs.declared.Numbered.{Numbered}
 use Rattle.block_marker.specs.Marker as marker
 use Rattle.block_marker.specs.MarkerRun as marker_run
-use Rattle.block_marker.specs.declared.BlockMarkerIter.{BlockMarkerIter}
-use Rattle.block_marker.specs.declared.MarkerStep.{MarkerStep}
+use Rattle.block_marker.specs.Marker.{BlockMarkerIter}
+use Rattle.block_marker.specs.Marker.{MarkerStep}
 use Rattle.block_numbered.specs.Numbered as numbered
 use Rattle.block_numbered.specs.NumberedRun as numbered_run
-use Rattle.block_numbered.specs.declared.BlockNumberedIter.{BlockNumberedIter}
-use Rattle.block_numbered.specs.declared.NumberedStep.{NumberedStep}
+use Rattle.block_numbered.specs.Numbered.{BlockNumberedIter}
+use Rattle.block_numbered.specs.Numbered.{NumberedStep}
 use Rattle.feed.specs.Items.{marked, counted, mark_items_from, numbered_items_from, mark_items, numbered_items, merge}
-use Rattle.feed.specs.Feeds.{head_by, mark_head, number_head, marks_after, numbers_after, fresh_feed, picked, taken_by, taken}
+use Rattle.feed.specs.Feeds.{head_by, shown_head, after, marks_after, numbers_after, fresh_feed, picked, taken_by, taken}
 use Rattle.feed.specs.Ahead.{headed, Within, ahead}
 use Rattle.feed.specs.declared.item.SheetItem.{SheetItem}
 use Rattle.feed.specs.declared.Pick.{Pick}
 use Rattle.feed.specs.declared.Pick.TheVariants as pick
-use Rattle.feed.specs.declared.MarksAhead.{MarksAhead}
-use Rattle.feed.specs.declared.NumbersAhead.{NumbersAhead}
+use Rattle.feed.specs.declared.Ahead.{Ahead}
 use Rattle.feed.specs.declared.Feed.{Feed}
 use Rattle.feed.specs.declared.Taken.{Taken}
-use Rattle.block_marker.specs.declared.MarkerItem.{MarkerItem}
-use Rattle.block_numbered.specs.declared.NumberedItem.{NumberedItem}
 use Rattle.common.specs.declared.refusal.Refusal.{Refusal}
 
 -- ---- one scanner's next item
@@ -63,33 +65,36 @@ module _ {S A : Type 0} {c : Scanner S A} {Lies : ℕ → ℕ → A → Type 0} 
       record { same = ap (map shown) (step_items w set s short g o n l kept) ∙ yields_head o.values n; inside = step_inside w set s short g o n l kept }
 
 -- what a step found, a refusal counted as nothing, makes the head that its values make
-pub mark_shown : (e : Result (Option MarkerItem) Refusal) (o : Option MarkerItem) → o ≡ result_unwrap_or e None → option_map marked o ≡ mark_head (marker.told e).values
-mark_shown (Ok (Some i)) o q = rw q
-mark_shown (Ok None) o q = rw q
-mark_shown (Err r) o q = rw q
+module _ (K : Type 0) {A : Type 0} (r : Reading A) (shown : A → SheetItem) (reads : (a : A) (n : ItemIter K) → step_for r.back (r.values a) n ≡ yields a n) (set : List Bool) (s : List ℕ) (g : ItemIter K) where
+  step_head : Step A (ItemIter K) → Option SheetItem
+  step_head (yields a n) = Some (shown a)
+  step_head (ends n) = None
 
-pub number_shown : (e : Result (Option NumberedItem) Refusal) (o : Option NumberedItem) → o ≡ result_unwrap_or e None → option_map counted o ≡ number_head (numbered.told e).values
-number_shown (Ok (Some i)) o q = rw q
-number_shown (Ok None) o q = rw q
-number_shown (Err r) o q = rw q
+  by_step : (v : List ℕ) → shown_head K r shown v ≡ step_head (step_for r.back v g)
+  unfolding step_head
+  by_step [] = refl
+  by_step (x ∷ l) = refl
+
+  shown_found : (e : Result (Option A) Refusal) (o : Option A) → o ≡ result_unwrap_or e None → option_map shown o ≡ shown_head K r shown (told_by r.values e).values
+  unfolding step_head
+  shown_found (Ok (Some i)) o q = rw q (sym (by_step (r.values i) ∙ ap step_head (reads i g)))
+  shown_found (Ok None) o q = rw q
+  shown_found (Err r) o q = rw q
+
+  pub item-moved : (t : code.Step A (ItemIter K)) (h : Option SheetItem) → Keeps (scanner_of K r) g set s (told_by r.values t.found) t.next → (o : Option A) → o ≡ result_unwrap_or t.found None → h ≡ option_map shown o
+      → Gives (after K r shown set s g) (record { head = h; rest = t.next })
+  unfolding after
+  item-moved t h kept o q x =
+      scanner-moved (told_by r.values) (shown_head K r shown) (λ h n. record { head = h; rest = n }) t.found t.found h t.next refl kept (x ∙ shown_found t.found o q)
 
 module _ (set : List Bool) (s : List ℕ) where
-  pub mark-moved : (g : BlockMarkerIter) (r : MarkerStep) (e : Result (Option MarkerItem) Refusal) (h : Option SheetItem) → r.found ≡ e → marker.Kept g set s r → h ≡ mark_head (marker.told e).values → Gives (marks_after set s g) (record { head = h; rest = r.next })
-  unfolding marks_after
-  mark-moved g r e h = scanner-moved marker.told mark_head (λ h n. record { head = h; rest = n }) r.found e h r.next
-
-  pub number_moved : (g : BlockNumberedIter) (r : NumberedStep) (e : Result (Option NumberedItem) Refusal) (h : Option SheetItem) → r.found ≡ e → numbered.Kept g set s r → h ≡ number_head (numbered.told e).values
-      → Gives (numbers_after set s g) (record { head = h; rest = r.next })
-  unfolding numbers_after
-  number_moved g r e h = scanner-moved numbered.told number_head (λ h n. record { head = h; rest = n }) r.found e h r.next
-
   mark-first : length s ≤ 4294967295 → (g : BlockMarkerIter) → g.pos ≤ length s → HeadFirst (mark_items_from g set s) (length s) (marks_after set s g).head (mark_items_from (marks_after set s g).rest set s) (marks_after set s g).rest.pos
-  unfolding mark_items_from marks_after
+  unfolding mark_items_from after
   mark-first = scanner-first marker_run.lawful marked set s
 
   number_first : length s ≤ 4294967295 → (g : BlockNumberedIter) → g.pos ≤ length s
       → HeadFirst (numbered_items_from g set s) (length s) (numbers_after set s g).head (numbered_items_from (numbers_after set s g).rest set s) (numbers_after set s g).rest.pos
-  unfolding numbered_items_from numbers_after
+  unfolding numbered_items_from after
   number_first = scanner-first numbered_run.lawful counted set s
 
 -- ---- which is next
@@ -162,14 +167,14 @@ pub record Took (markers delims : List Bool) (s : List ℕ) (f : Feed) (t : Take
 
 module _ (markers delims : List Bool) (s : List ℕ) (f : Feed) where
   -- the ways out of the function that takes it
-  pub take-mark : (p : Pick) (x : SheetItem) (m : MarksAhead) → p ≡ pick.Mark x → Gives (picked f.marks.head f.numbers.head) p → Gives (marks_after markers s f.marks.rest) m
+  pub take-mark : (p : Pick) (x : SheetItem) (m : Ahead Marker) → p ≡ pick.Mark x → Gives (picked f.marks.head f.numbers.head) p → Gives (marks_after markers s f.marks.rest) m
       → Gives (taken markers delims s f) (record { head = Some x; rest = record { marks = m; numbers = f.numbers } })
   unfolding taken
   take-mark p x m e g w =
       let u : picked f.marks.head f.numbers.head ≡ pick.Mark x = sym g.answer ∙ e in
       record { answer = rw (u, w.answer) }
 
-  pub take_number : (p : Pick) (y : SheetItem) (m : NumbersAhead) → p ≡ pick.Number y → Gives (picked f.marks.head f.numbers.head) p → Gives (numbers_after delims s f.numbers.rest) m
+  pub take_number : (p : Pick) (y : SheetItem) (m : Ahead Numbered) → p ≡ pick.Number y → Gives (picked f.marks.head f.numbers.head) p → Gives (numbers_after delims s f.numbers.rest) m
       → Gives (taken markers delims s f) (record { head = Some y; rest = record { marks = f.marks; numbers = m } })
   unfolding taken
   take_number p y m e g w =
@@ -213,7 +218,7 @@ module _ (markers delims : List Bool) (s : List ℕ) (f : Feed) where
   took t g w = subst (Took markers delims s f) (sym g.answer) (took_by (picked f.marks.head f.numbers.head) refl w)
 
 -- ---- the beginning
-pub start_told : (g : Grammar) (markers delims : List Bool) (s : List ℕ) (a : BlockMarkerIter) (b : BlockNumberedIter) (m : MarksAhead) (n : NumbersAhead) → Gives (marker.fresh g.eol g.sep g.tab markers) a
+pub start_told : (g : Grammar) (markers delims : List Bool) (s : List ℕ) (a : BlockMarkerIter) (b : BlockNumberedIter) (m : Ahead Marker) (n : Ahead Numbered) → Gives (marker.fresh g.eol g.sep g.tab markers) a
     → Gives (numbered.fresh g.eol g.sep g.tab delims) b → Gives (marks_after markers s a) m → Gives (numbers_after delims s b) n → Gives (fresh_feed g markers delims s) (record { marks = m; numbers = n })
 unfolding fresh_feed
 start_told g markers delims s a b m n ga gb gm gn = record { answer = rw (gm.answer, gn.answer, ga.answer, gb.answer) }

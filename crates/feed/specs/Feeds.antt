@@ -3,16 +3,20 @@
 use Rattle.std.specs.Prelude.{Bool, cond, List, ℕ, ltb, None, Option, Some}
 use Rattle.common.specs.Refusals.{unless_none}
 use Rattle.common.specs.declared.grammar.Grammar.{Grammar}
+use Rattle.common.specs.Kinds.{Reading, scanner_of}
+use Rattle.common.specs.Scanning.{answer, state}
+use Rattle.common.specs.declared.scan.ItemIter.{ItemIter}
+use Rattle.block_marker.specs.declared.Marker.{Marker}
+use Rattle.block_numbered.specs.declared.Numbered.{Numbered}
 use Rattle.block_marker.specs.Marker as marker
-use Rattle.block_marker.specs.declared.BlockMarkerIter.{BlockMarkerIter}
+use Rattle.block_marker.specs.Marker.{BlockMarkerIter}
 use Rattle.block_numbered.specs.Numbered as numbered
-use Rattle.block_numbered.specs.declared.BlockNumberedIter.{BlockNumberedIter}
+use Rattle.block_numbered.specs.Numbered.{BlockNumberedIter}
 use Rattle.feed.specs.Items.{marked, counted}
 use Rattle.feed.specs.declared.item.SheetItem.{SheetItem}
 use Rattle.feed.specs.declared.Pick.{Pick}
 use Rattle.feed.specs.declared.Pick.TheVariants as pick
-use Rattle.feed.specs.declared.MarksAhead.{MarksAhead}
-use Rattle.feed.specs.declared.NumbersAhead.{NumbersAhead}
+use Rattle.feed.specs.declared.Ahead.{Ahead}
 use Rattle.feed.specs.declared.Feed.{Feed}
 use Rattle.feed.specs.declared.Taken.{Taken}
 
@@ -21,18 +25,19 @@ use Rattle.feed.specs.declared.Taken.{Taken}
 abbrev pub head_by : (List ℕ → SheetItem) → List ℕ → Option SheetItem
 head_by shown = unless_none None (λ l. Some (shown l))
 
-abbrev pub mark_head : List ℕ → Option SheetItem
-mark_head = head_by (λ l. marked ((marker.scanner).back l))
+module _ (K : Type 0) {A : Type 0} (r : Reading A) (shown : A → SheetItem) where
+  abbrev pub shown_head : List ℕ → Option SheetItem
+  shown_head = head_by (λ l. shown (r.back l))
 
-abbrev pub number_head : List ℕ → Option SheetItem
-number_head = head_by (λ l. counted ((numbered.scanner).back l))
+  -- what a state's step answers as the head, and the state after it
+  unfoldable pub after : List Bool → List ℕ → ItemIter K → Ahead K
+  after set s g = record { head = shown_head (answer (scanner_of K r) g set s).values; rest = state (scanner_of K r) g set s }
 
--- what a state's step answers as the head, and the state after it
-unfoldable pub marks_after : List Bool → List ℕ → BlockMarkerIter → MarksAhead
-marks_after set s g = record { head = mark_head (marker.answer g set s).values; rest = marker.state g set s }
+abbrev pub marks_after : List Bool → List ℕ → BlockMarkerIter → Ahead Marker
+marks_after = after Marker marker.reading marked
 
-unfoldable pub numbers_after : List Bool → List ℕ → BlockNumberedIter → NumbersAhead
-numbers_after set s g = record { head = number_head (numbered.answer g set s).values; rest = numbered.state g set s }
+abbrev pub numbers_after : List Bool → List ℕ → BlockNumberedIter → Ahead Numbered
+numbers_after = after Numbered numbered.reading counted
 
 -- ---- both
 -- the beginning: "both scanned from place 0", by fresh states

@@ -2,9 +2,11 @@
 ghost use Rattle.std.specs.Prelude.{◌≡◌};
 ghost use Rattle.search.specs.Promise.{Gives};
 ghost use Rattle.feed.specs.Items.{marked, counted, tested_place};
+ghost use Rattle.feed.specs.declared.item.SheetItem.{SheetItem};
 
-use block_marker::MarkerItem;
-use block_numbered::NumberedItem;
+use block_marker::{Marker, MarkerItem};
+use block_numbered::{Numbered, NumberedItem};
+use common::scan::Kind;
 
 // Where the content starts and ends, the kind (0 marker, 1 numbered), the accepted byte, and the number (0 for a marker).
 #[derive(Clone, Copy)]
@@ -16,10 +18,19 @@ pub struct SheetItem {
     pub number: u32,
 }
 
-impl From<MarkerItem> for SheetItem {
-    ghost from_gives = { λ i r. r ≡ marked i };
+// A kind of items that a sheet has.
+pub trait Listed: Kind {
+    ghost shown: { Self.Item → SheetItem };
 
-    fn from(i: MarkerItem) -> SheetItem {
+    // The sheet's item.
+    fn shown(item: Self::Item) -> SheetItem
+        ensures { result ≡ shown item };
+}
+
+impl Listed for Marker {
+    ghost shown = { marked };
+
+    fn shown(i: MarkerItem) -> SheetItem {
         SheetItem {
             start: i.span.start,
             end: i.span.end,
@@ -30,10 +41,10 @@ impl From<MarkerItem> for SheetItem {
     }
 }
 
-impl From<NumberedItem> for SheetItem {
-    ghost from_gives = { λ i r. r ≡ counted i };
+impl Listed for Numbered {
+    ghost shown = { counted };
 
-    fn from(i: NumberedItem) -> SheetItem {
+    fn shown(i: NumberedItem) -> SheetItem {
         SheetItem {
             start: i.span.start,
             end: i.span.end,

@@ -5,32 +5,26 @@
 pub mod item; // the items
 
 ghost use Rattle.search.specs.Promise.{Gives};
-ghost use Rattle.feed.specs.Feeds.{marks_after, numbers_after, fresh_feed, picked, taken};
+ghost use Rattle.feed.specs.Feeds.{after, fresh_feed, picked, taken};
 
-use block_marker::BlockMarkerIter;
-use block_numbered::BlockNumberedIter;
+use block_marker::{BlockMarkerIter, Marker};
+use block_numbered::{BlockNumberedIter, Numbered};
 use common::grammar::Grammar;
-use item::SheetItem;
+use common::scan::ItemIter;
+use item::{Listed, SheetItem};
 
-// The marker scanner, one item ahead.
+// A scanner, one item ahead.
 #[derive(Clone, Copy)]
-pub struct MarksAhead {
+pub struct Ahead<K> {
     pub head: Option<SheetItem>,
-    pub rest: BlockMarkerIter,
-}
-
-// The numbered scanner, one item ahead.
-#[derive(Clone, Copy)]
-pub struct NumbersAhead {
-    pub head: Option<SheetItem>,
-    pub rest: BlockNumberedIter,
+    pub rest: ItemIter<K>,
 }
 
 // Both.
 #[derive(Clone, Copy)]
 pub struct Feed {
-    pub marks: MarksAhead,
-    pub numbers: NumbersAhead,
+    pub marks: Ahead<Marker>,
+    pub numbers: Ahead<Numbered>,
 }
 
 // The next item of both, and what comes after it.
@@ -48,33 +42,18 @@ enum Pick {
     Neither,
 }
 
-// The marker scanner's next item; its refusal counts as its end.
-fn next_mark(g: BlockMarkerIter, src: &[u8], set: &[bool; 256]) -> MarksAhead
-    ensures { Gives (marks_after set.now src.now g) result }
+// A scanner's next item; its refusal counts as its end.
+fn next_item<K: Listed>(g: ItemIter<K>, src: &[u8], set: &[bool; 256]) -> Ahead<K>
+    ensures { Gives (after K K.reading K.shown set.now src.now g) result }
 {
     let step = g.next(src, set);
     let rest = step.next;
     match step.found.unwrap_or(None) {
-        Some(i) => MarksAhead {
-            head: Some(SheetItem::from(i)),
+        Some(i) => Ahead {
+            head: Some(K::shown(i)),
             rest,
         },
-        None => MarksAhead { head: None, rest },
-    }
-}
-
-// The numbered scanner's next item, likewise.
-fn next_number(g: BlockNumberedIter, src: &[u8], set: &[bool; 256]) -> NumbersAhead
-    ensures { Gives (numbers_after set.now src.now g) result }
-{
-    let step = g.next(src, set);
-    let rest = step.next;
-    match step.found.unwrap_or(None) {
-        Some(i) => NumbersAhead {
-            head: Some(SheetItem::from(i)),
-            rest,
-        },
-        None => NumbersAhead { head: None, rest },
+        None => Ahead { head: None, rest },
     }
 }
 
@@ -82,12 +61,12 @@ fn next_number(g: BlockNumberedIter, src: &[u8], set: &[bool; 256]) -> NumbersAh
 pub fn start(g: Grammar, src: &[u8], markers: &[bool; 256], delims: &[bool; 256]) -> Feed
     ensures { Gives (fresh_feed g markers.now delims.now src.now) result }
 {
-    let marks = next_mark(
+    let marks = next_item(
         BlockMarkerIter::new(g.eol, g.sep, g.tab, markers),
         src,
         markers,
     );
-    let numbers = next_number(
+    let numbers = next_item(
         BlockNumberedIter::new(g.eol, g.sep, g.tab, delims),
         src,
         delims,
@@ -126,7 +105,7 @@ pub fn take(f: Feed, src: &[u8], markers: &[bool; 256], delims: &[bool; 256]) ->
     let number = numbers.head;
     match first_of(mark, number) {
         Pick::Mark(x) => {
-            let more = next_mark(marks.rest, src, markers);
+            let more = next_item(marks.rest, src, markers);
             Taken {
                 head: Some(x),
                 rest: Feed {
@@ -136,7 +115,7 @@ pub fn take(f: Feed, src: &[u8], markers: &[bool; 256], delims: &[bool; 256]) ->
             }
         }
         Pick::Number(y) => {
-            let more = next_number(numbers.rest, src, delims);
+            let more = next_item(numbers.rest, src, delims);
             Taken {
                 head: Some(y),
                 rest: Feed {

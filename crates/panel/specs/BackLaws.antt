@@ -21,10 +21,10 @@ use Rattle.common.specs.Sets.{accepted_from, accepted, padded, probe, as_flag}
 use Rattle.fence.specs.declared.FenceIter.{FenceIter}
 use Rattle.fence.specs.Fence as fence
 use Rattle.fence.specs.Laws.{turn_adv as fence-adv}
-use Rattle.block_marker.specs.declared.BlockMarkerIter.{BlockMarkerIter}
+use Rattle.block_marker.specs.Marker.{BlockMarkerIter}
 use Rattle.block_marker.specs.Marker as marker
 use Rattle.block_marker.specs.MarkerRun.{lawful as marker-lawful}
-use Rattle.block_numbered.specs.declared.BlockNumberedIter.{BlockNumberedIter}
+use Rattle.block_numbered.specs.Numbered.{BlockNumberedIter}
 use Rattle.block_numbered.specs.Numbered as numbered
 use Rattle.block_numbered.specs.NumberedRun.{lawful as numbered-lawful}
 use Rattle.cells.specs.Bytes.{four, cells, fourfold, within, readable}

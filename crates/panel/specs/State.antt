@@ -9,9 +9,9 @@ use Rattle.common.specs.Scanning as scanning
 use Rattle.common.specs.Scanning.{Fields, Scanner}
 use Rattle.fence.specs.declared.FenceIter.{FenceIter}
 use Rattle.fence.specs.Fence as fence
-use Rattle.block_marker.specs.declared.BlockMarkerIter.{BlockMarkerIter}
+use Rattle.block_marker.specs.Marker.{BlockMarkerIter}
 use Rattle.block_marker.specs.Marker as marker
-use Rattle.block_numbered.specs.declared.BlockNumberedIter.{BlockNumberedIter}
+use Rattle.block_numbered.specs.Numbered.{BlockNumberedIter}
 use Rattle.block_numbered.specs.Numbered as numbered
 use Rattle.cells.specs.Bytes.{four, cells, fourfold, readable}
 use Rattle.cells.specs.Reply.{fitted, Replied}

@@ -11,9 +11,9 @@ use Rattle.common.specs.Refusals.{Outcome, given, refused, number_of}
 use Rattle.common.specs.RefusalLaws.{number_some}
 use Rattle.common.specs.Sets.{Index, set_of, as_flag}
 use Rattle.common.specs.declared.refusal.Refusal.{Refusal}
-use Rattle.block_marker.specs.declared.BlockMarkerIter.{BlockMarkerIter}
+use Rattle.block_marker.specs.Marker.{BlockMarkerIter}
 use Rattle.block_marker.specs.Marker as marker
-use Rattle.block_numbered.specs.declared.BlockNumberedIter.{BlockNumberedIter}
+use Rattle.block_numbered.specs.Numbered.{BlockNumberedIter}
 use Rattle.block_numbered.specs.Numbered as numbered
 use Rattle.cells.specs.Bytes.{four, cells, fourfold, readable}
 use Rattle.cells.specs.Reply.{LaidIf, fitted, Replied}

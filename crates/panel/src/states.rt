@@ -16,6 +16,7 @@ use common::sets::index;
 use common::span::Span;
 use fence::FenceIter;
 use search::byte_at;
+use std::marker::PhantomData;
 
 // Writes a fresh state; 2 where the run is not one cell for each number.
 pub(crate) fn made(all: &[usize], state: &mut [u8]) -> u32
@@ -183,6 +184,7 @@ pub(crate) fn read_marker(run: &[u8]) -> BlockMarkerIter
         needles: [byte_at(run, 16), byte_at(run, 20), byte_at(run, 24)],
         nn: cell(run, 7) as usize,
         streaming: cell(run, 8) == 1,
+        kind: PhantomData,
     }
 }
 
@@ -216,5 +218,6 @@ pub(crate) fn read_numbered(run: &[u8]) -> BlockNumberedIter
         needles: [byte_at(run, 16), byte_at(run, 20), byte_at(run, 24)],
         nn: cell(run, 7) as usize,
         streaming: cell(run, 8) == 1,
+        kind: PhantomData,
     }
 }

@@ -3,6 +3,7 @@ use crate::answers;
 use crate::items::{Scanner, State};
 use block_marker::{BlockMarkerIter, MarkerItem};
 use common::refusal::Refusal;
+use std::marker::PhantomData;
 use stored::numbers::Numbers;
 
 impl Scanner for BlockMarkerIter {
@@ -20,6 +21,7 @@ impl Scanner for BlockMarkerIter {
             needles,
             nn: state.nn,
             streaming: state.streaming,
+            kind: PhantomData,
         }
     }
 

@@ -5,7 +5,7 @@ use Rattle.block_marker.specs.Marker.{told}
 use Rattle.block_marker.specs.MarkerRun.{lawful}
 use Rattle.common.specs.Sets.{house_markers}
 use Rattle.listing.specs.Listing.{marker_lines}
-use Rattle.block_marker.specs.declared.BlockMarkerIter.{BlockMarkerIter}
+use Rattle.block_marker.specs.Marker.{BlockMarkerIter}
 use Rattle.listing.specs.ScannerLines.{items-first}
 use Rattle.listing.specs.GoingLaws.{going_same, going_here, lines_less, lines_again, lines_end}
 use borrow.Author.Rules.{rules}

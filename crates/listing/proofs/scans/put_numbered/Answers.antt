@@ -5,7 +5,7 @@ use Rattle.block_numbered.specs.Numbered.{told}
 use Rattle.block_numbered.specs.NumberedRun.{lawful}
 use Rattle.common.specs.Sets.{house_delims}
 use Rattle.listing.specs.Listing.{numbered_lines}
-use Rattle.block_numbered.specs.declared.BlockNumberedIter.{BlockNumberedIter}
+use Rattle.block_numbered.specs.Numbered.{BlockNumberedIter}
 use Rattle.listing.specs.ScannerLines.{items-first}
 use Rattle.listing.specs.GoingLaws.{going_same, going_here, lines_less, lines_again, lines_end}
 use borrow.Author.Rules.{rules}
