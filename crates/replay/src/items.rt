@@ -1,55 +1,38 @@
 // What the two item scanners share, sections 3 and 4: their questions, and a state in a list's terms.
 use crate::answers;
+use common::refusal::Refusal;
+use common::scan::{ItemIter, Kind};
 use common::sets;
+use std::marker::PhantomData;
 use stored::asked::Asked;
 use stored::numbers::Numbers;
 
-pub(crate) trait Scanner: Copy + Drop {
-    fn fresh(eol: u8, sep: u8, tab: u8, set: &[bool; 256]) -> Self;
-
-    fn from_state(state: State) -> Self;
-
-    fn state(self) -> State;
-
-    // The state behind a step, and what that found.
-    fn step(self, text: &[u8], set: &[bool; 256], reply: Numbers) -> (Self, Numbers);
-
-    // The same where an item was found, without the 1 that says so.
-    fn entry(self, text: &[u8], set: &[bool; 256], reply: Numbers) -> Option<(Self, Numbers)>;
-}
-
-#[derive(Clone, Copy)]
-pub(crate) struct State {
-    pub(crate) eol: u8,
-    pub(crate) sep: u8,
-    pub(crate) tab: u8,
-    pub(crate) pos: usize,
-    pub(crate) needles: [u8; 3],
-    pub(crate) nn: usize,
-    pub(crate) streaming: bool,
+// A kind whose items can be told in a list's terms.
+pub(crate) trait Told: Kind {
+    fn told(item: Self::Item, reply: Numbers) -> Numbers;
 }
 
 // A fresh state, all items that it yields, or a step of a handmade state at a place.
-pub(crate) fn ask<S: Scanner>(asked: Asked<'_>, reply: Numbers) -> Numbers {
+pub(crate) fn ask<K: Told>(asked: Asked<'_>, reply: Numbers) -> Numbers {
     let set = sets::byte_set(asked.bytes(0));
     match asked.letter() {
-        b'f' => said(fresh::<S>(asked, &set), reply.and(1)),
-        b'r' => answers::entries(fresh::<S>(asked, &set), reply, |state, reply| {
-            state.entry(asked.text, &set, reply)
+        b'f' => said(fresh::<K>(asked, &set), reply.and(1)),
+        b'r' => answers::entries(fresh::<K>(asked, &set), reply, |state, reply| {
+            entry(state, asked.text, &set, reply)
         }),
         _ => {
-            let (next, found) = S::from_state(handmade(asked)).step(asked.text, &set, reply);
-            said(next, found)
+            let step = handmade::<K>(asked).next(asked.text, &set);
+            said(step.next, found::<K>(step.found, reply))
         }
     }
 }
 
-fn fresh<S: Scanner>(asked: Asked<'_>, set: &[bool; 256]) -> S {
-    S::fresh(asked.byte(0), asked.byte(1), asked.byte(2), set)
+fn fresh<K: Kind>(asked: Asked<'_>, set: &[bool; 256]) -> ItemIter<K> {
+    ItemIter::new(asked.byte(0), asked.byte(1), asked.byte(2), set)
 }
 
-fn handmade(asked: Asked<'_>) -> State {
-    State {
+fn handmade<K: Kind>(asked: Asked<'_>) -> ItemIter<K> {
+    ItemIter {
         eol: asked.byte(2),
         sep: asked.byte(3),
         tab: asked.byte(4),
@@ -57,11 +40,32 @@ fn handmade(asked: Asked<'_>) -> State {
         needles: [asked.byte(5), asked.byte(6), asked.byte(7)],
         nn: asked.number(0) as usize,
         streaming: asked.byte(1) > 0,
+        kind: PhantomData,
     }
 }
 
-fn said<S: Scanner>(scanner: S, reply: Numbers) -> Numbers {
-    let state = scanner.state();
+// The state behind a step that found an item, and that item; nothing at the end.
+fn entry<K: Told>(
+    state: ItemIter<K>,
+    text: &[u8],
+    set: &[bool; 256],
+    reply: Numbers,
+) -> Option<(ItemIter<K>, Numbers)> {
+    let step = state.next(text, set);
+    let item = step.found.unwrap_or(None)?;
+    Some((step.next, K::told(item, reply)))
+}
+
+// What a step found.
+fn found<K: Told>(found: Result<Option<K::Item>, Refusal>, reply: Numbers) -> Numbers {
+    match found {
+        Ok(Some(item)) => K::told(item, reply.and(1)),
+        Ok(None) => reply.and(2),
+        Err(r) => reply.refused(r),
+    }
+}
+
+fn said<K: Kind>(state: ItemIter<K>, reply: Numbers) -> Numbers {
     reply
         .byte(state.eol)
         .byte(state.sep)

@@ -1,7 +1,7 @@
 // The sections whose questions have a text: the forms of these, and which section asks what.
 use crate::{fences, frames, items, leaves, listings};
-use block_marker::BlockMarkerIter;
-use block_numbered::BlockNumberedIter;
+use block_marker::Marker;
+use block_numbered::Numbered;
 use replaying::sections::Sections;
 use stored::asked::Asked;
 use stored::form::Form;
@@ -42,8 +42,8 @@ impl Sections for Replay {
         match asked.question.section {
             1 => leaves::ask(asked, reply),
             2 => fences::ask(asked, reply),
-            3 => items::ask::<BlockMarkerIter>(asked, reply),
-            4 => items::ask::<BlockNumberedIter>(asked, reply),
+            3 => items::ask::<Marker>(asked, reply),
+            4 => items::ask::<Numbered>(asked, reply),
             5 => frames::ask(asked, reply),
             9 => listings::ask(asked.text, reply),
             _ => reply,
