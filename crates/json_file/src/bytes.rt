@@ -9,7 +9,7 @@ ghost use Rattle.json_file.specs.ByteRecords.{span_bytes, WroteBytes, ReadBytes}
 use crate::check::{Checked, check};
 use crate::layout::{cell_layout_fits, put_cells};
 use crate::rows::pour_rows;
-use byte_list::is_misshapen;
+use cover::shape::is_misshapen;
 use cells::{ROW, reply};
 use common::refusal::Refusal;
 use common::span::MAX_INPUT_LEN;
