@@ -19,7 +19,7 @@ ghost use Rattle.amending.specs.ByteParts.{Planned, SettledBytes};
 
 use amend::own::survey;
 use amend::{Cuts, Flaws, Split, judge_edit};
-use byte_list::is_misshapen;
+use cover::shape::is_misshapen;
 use rules::runs::{columns_differ, rule_rows};
 use cells::{ROW, reply};
 use common::grammar::Grammar;

@@ -11,7 +11,7 @@ ghost use Rattle.amend.specs.Parts.{Orderly, regions_between, Moves, Copies, Put
 ghost use Rattle.amending.specs.Amending.{listed_bytes};
 ghost use Rattle.amending.specs.ByteParts.{RowBytesFit};
 
-use byte_list::place_in;
+use cover::shape;
 use cells::ROW;
 use cells::reply::put_numbers;
 use common::list::{END, START, WIDE};
@@ -21,7 +21,7 @@ pub(crate) fn number(list: &[u8], i: usize, j: usize) -> usize
     requires { i * wide + j < length (cells list.now) }
     ensures { Gives (get_or (cells list.now) (i * wide + j) 0) result }
 {
-    place_in(list, i * WIDE + j)
+    shape::number(list, i * WIDE + j)
 }
 
 // How many regions start before `k`. They are sorted, so that halving finds it.

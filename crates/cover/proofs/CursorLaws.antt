@@ -4,9 +4,10 @@ use Rattle.std.proofs.Math.Path.{refl, sym, ap}
 use Rattle.std.proofs.Common.{◌∙◌, inl, inr, arith, drop_of_length-le, drop-cons}
 use Rattle.std.proofs.Math.Bool.{and-false}
 use mathlib.Core.List.{List, [], ◌∷◌, map}
-use Prim.Native.Nat.{ℕ, zero, suc, ◌+◌, ◌*◌, ◌≤◌, ◌<◌}
-use borrow.Author.Tests.{lt-ltb, le-ltb, ltb-true, ltb-false, le-leb, lt-leb, leb-false}
+use Prim.Native.Nat.{ℕ, zero, suc, ◌+◌, ◌*◌, ◌/◌, ◌≤◌, ◌<◌, max}
+use borrow.Author.Tests.{lt-ltb, le-ltb, ltb-true, ltb-false, le-leb, lt-leb, leb-true, leb-false}
 use Rattle.search.specs.Promise.{Gives, Steps}
+use Rattle.search.specs.Search.{first_place}
 use Rattle.search.specs.SearchLaws.{decide, first_le, first_here, first_next, first_end, first_before, first-at}
 use Rattle.common.specs.Refusals.{Outcome, given, refused, told_found}
 use Rattle.common.specs.RefusalLaws.{found_unique}
@@ -34,19 +35,32 @@ module _ (w : ℕ) (l : List ℕ) (count index place : ℕ) where
     unfolding passed
     passes_found stop h g m = sym (k.same ∙ first_here (ends_after w l place) i count h (lt-ltb place (stop_at w l i) (omega (arith, g.answer))))
 
-    pub passes_end : count ≤ i → i ≡ passed w l count index place
+    passes_end : count ≤ i → i ≡ passed w l count index place
     unfolding passed
     passes_end h = sym (k.same ∙ first_end (ends_after w l place) i count h)
 
-pub ruleset pass_rules = (passes-first, passes_again, passes_found, passes_end)
+    pub passes_last : (r : ℕ) → count ≤ i → (index ≤ count → i ≤ count) → r ≡ max index count → r ≡ passed w l count index place
+    unfolding passed
+    passes_last r h m e = by (decide (leb count index))
+      where
+        by : (leb count index ≡ true) ⊎ (leb count index ≡ false) → r ≡ first_place (ends_after w l place) index count
+        by (inl u) = let k = leb-true count index u in let z : r ≡ index = omega arith in z ∙ sym (first_end (ends_after w l place) index count k)
+        by (inr u) = let k = leb-false count index u in let z : r ≡ i = omega (arith, m (omega arith)) in z ∙ passes_end h
 
--- ---- the ways out of a query
-module _ (w : ℕ) (l : List ℕ) (count index place : ℕ) where
-  pub cover_refused : room w l < count → Steps (cover_answer w l count index place) (cover_next w l count index place) (refused 5) index
+pub ruleset pass_rules = (passes-first, passes_again, passes_found, passes_last)
+
+-- ---- the ways out of a query of a list that has `all` numbers
+module _ (w : ℕ) (l : List ℕ) (count index place all : ℕ) (a : Gives (length l) all) where
+  pub cover_refused : all / w < count → Steps (cover_answer w l count index place) (cover_next w l count index place) (refused 5) index
   unfolding cover_answer cover_next
-  cover_refused h = record { answer = simp (lt-ltb (room w l) count h); next = simp (lt-ltb (room w l) count h) }
+  cover_refused h =
+      let k : room w l < count = rw (← a.answer) h in
+      record { answer = simp (lt-ltb (room w l) count k); next = simp (lt-ltb (room w l) count k) }
 
-  module _ (fits : count ≤ room w l) (i : ℕ) (g : Gives (passed w l count index place) i) where
+  module _ (f : count ≤ all / w) (i : ℕ) (g : Gives (passed w l count index place) i) where
+    fits : count ≤ room w l
+    fits = rw (← a.answer) f
+
     answered : (found : List ℕ) → found ≡ end_at w l count i place → Steps (cover_answer w l count index place) (cover_next w l count index place) (given found) i
     unfolding cover_answer cover_next
     answered found e = record { answer = simp (le-ltb (room w l) count fits, ← g.answer, e); next = simp (le-ltb (room w l) count fits, ← g.answer) }

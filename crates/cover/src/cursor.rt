@@ -1,11 +1,13 @@
 // A cursor over a list of regions, which tells what is covered. It only moves forward, so that a run of places that never fall costs
 // one pass over the list.
-ghost use Rattle.std.specs.Prelude.{◌≤◌};
+ghost use Rattle.std.specs.Prelude.{ℕ, ◌≤◌, length};
 ghost use Rattle.search.specs.Promise.{Gives, Steps};
 ghost use Rattle.common.specs.Refusals.{told_found};
 ghost use Rattle.common.specs.Entry.{room, wide};
 ghost use Rattle.cover.specs.Cursor.{passed, cover_answer, cover_next, CoveredBoth};
 
+use crate::shape::number;
+use cells::Piece;
 use common::list::{END, WIDE};
 use common::refusal::Refusal;
 
@@ -16,57 +18,43 @@ pub struct Cover {
     pub index: usize,
 }
 
-// A number of a list as a place.
-fn place_of(number: u32) -> usize
-    ensures { Gives number result }
-{
-    number as usize
-}
-
 // The first region from `index` on that ends after `place`, else the count.
-fn pass(list: &[u32], count: usize, index: usize, place: usize) -> usize
-    requires { count ≤ room wide list.now }
-    ensures { Gives (passed wide list.now count index place) result }
+fn pass<T: Piece>(list: &[T], count: usize, index: usize, place: usize) -> usize
+    requires count_fits { count ≤ room wide (T.numbers list.now) }
+    requires list_fits { length (T.numbers list.now) ≤ 18446744073709551615 }
+    ensures { Gives (passed wide (T.numbers list.now) count index place) result }
 {
-    let mut i = index;
-    while i < count {
-        let stop = place_of(list[i * WIDE + END]);
-        if place < stop {
+    for i in index..count {
+        if place < number(list, i * WIDE + END) {
             return i;
         }
-        i += 1;
     }
-    i
+    index.max(count)
 }
 
 // If `place` is inside a region, that region's end, so that the caller can jump past it; and the index to go on from. Refusal 5 where
 // the count is over the list's room: then the index is the given one.
-pub fn covering_end(list: &[u32], count: usize, index: usize, place: usize) -> Cover
-    ensures { Steps (cover_answer wide list.now count index place) (cover_next wide list.now count index place)
-        (told_found result.found) result.index }
+pub fn covering_end<T: Piece>(list: &[T], count: usize, index: usize, place: usize) -> Cover
+    ensures { Steps (cover_answer wide (T.numbers list.now) count index place) (cover_next wide (T.numbers list.now) count
+        index place) (told_found result.found) result.index }
 {
-    if list.len() / WIDE < count {
+    if T::count(list) / WIDE < count {
         return Cover {
             found: Err(Refusal::ListMisshapen),
             index,
         };
     }
-    let i = pass(list, count, index, place);
-    if count <= i {
+    let index = pass(list, count, index, place);
+    if count <= index || place < number(list, index * WIDE) {
         return Cover {
             found: Ok(None),
-            index: i,
+            index,
         };
     }
-    if place < place_of(list[i * WIDE]) {
-        return Cover {
-            found: Ok(None),
-            index: i,
-        };
-    }
+    let end = number(list, index * WIDE + END);
     Cover {
-        found: Ok(Some(place_of(list[i * WIDE + END]))),
-        index: i,
+        found: Ok(Some(end)),
+        index,
     }
 }
 
@@ -79,13 +67,13 @@ pub struct Cursor {
 }
 
 // The number form, at the cursor's index, which moves on to the next.
-pub fn covering(
+pub fn covering<T: Piece>(
     cursor: &mut Cursor,
-    list: &[u32],
+    list: &[T],
     count: usize,
     place: usize,
 ) -> Result<Option<usize>, Refusal>
-    ensures { Steps (cover_answer wide list.now count cursor.old.index place) (cover_next wide list.now
+    ensures { Steps (cover_answer wide (T.numbers list.now) count cursor.old.index place) (cover_next wide (T.numbers list.now)
         count cursor.old.index place) (told_found result) cursor.new.index }
 {
     let cover = covering_end(list, count, cursor.index, place);
@@ -102,14 +90,14 @@ pub struct CoverPair {
 }
 
 // Two queries, one after the other, of a cursor made at `index`: it is lent to each, and the second finds it where the first left it.
-pub fn covers_both(
-    list: &[u32],
+pub fn covers_both<T: Piece>(
+    list: &[T],
     count: usize,
     index: usize,
     first: usize,
     second: usize,
 ) -> CoverPair
-    ensures { CoveredBoth list.now count index first second result }
+    ensures { CoveredBoth (T.numbers list.now) count index first second result }
 {
     let mut cursor = Cursor { index };
     let before = covering(&mut cursor, list, count, first);

@@ -30,12 +30,8 @@ use Rattle.common.specs.declared.span.Span.{Span}
 use Rattle.feed.specs.declared.item.SheetItem.{SheetItem}
 use Rattle.explain.specs.declared.leads.Lead.{Lead}
 use Rattle.explain.specs.declared.leads.Lead.TheVariants as led
-use Rattle.explain.specs.declared.leads.Lined.{Lined}
-use Rattle.explain.specs.declared.leads.Lined.TheVariants as lined
 use Rattle.explain.specs.declared.Reason.{Reason}
 use Rattle.explain.specs.declared.Reason.TheVariants as reason
-use Rattle.explain.specs.declared.Explained.{Explained}
-use Rattle.explain.specs.declared.Explained.TheVariants as explained
 
 -- ---- a region of a list
 row_two : (n k : ℕ) (l : List ℕ) → k < n → n * 2 ≤ length l → get_or (rows wide n l) k [] ≡ start_at wide l k ∷ stop_at wide l k ∷ []
@@ -129,42 +125,42 @@ pub reason_hidden : (d : Lead) (c : Cover) (r : Span) (i : SheetItem) (q : ℕ) 
 reason_hidden d c r i q e f = record { answer = sym (rw (e, f)) }
 
 -- ---- the ways out of the entries
-pub line_long : (s : List ℕ) (line : ℕ) → 4294967295 < length s → Gives (line_answer s line) (lined.Refused TextTooLong)
+pub line_long : (s : List ℕ) (line : ℕ) → 4294967295 < length s → Gives (line_answer s line) (Err TextTooLong)
 unfolding line_answer
 line_long s line h = record { answer = rw (lt-ltb 4294967295 (length s) h) }
 
-pub line-served : (s : List ℕ) (line : ℕ) (d : Lead) → length s ≤ 4294967295 → Gives (line_led s line) d → Gives (line_answer s line) (lined.By d)
+pub line-served : (s : List ℕ) (line : ℕ) (d : Lead) → length s ≤ 4294967295 → Gives (line_led s line) d → Gives (line_answer s line) (Ok d)
 unfolding line_answer
-line-served s line d h g = record { answer = rw (le-ltb 4294967295 (length s) h) (ap lined.By g.answer) }
+line-served s line d h g = record { answer = rw (le-ltb 4294967295 (length s) h) (ap Ok g.answer) }
 
 -- what a line's answer tells of the text
-abbrev Lines : List ℕ → ℕ → Lined → Type 0
-Lines s line (lined.By d) = (too_long s ≡ false) × (d ≡ line_led s line)
-Lines s line (lined.Refused r) = (too_long s ≡ true) × (r ≡ TextTooLong)
+abbrev Lines : List ℕ → ℕ → Result Lead Refusal → Type 0
+Lines s line (Ok d) = (too_long s ≡ false) × (d ≡ line_led s line)
+Lines s line (Err r) = (too_long s ≡ true) × (r ≡ TextTooLong)
 
 line-told : (s : List ℕ) (line : ℕ) → Lines s line (line_answer s line)
 unfolding line_answer
 line-told s line = both (Lines s line) (too_long s) _ _ (λ u. (u, refl)) (λ u. (u, refl))
 
-module _ (l : List ℕ) (n : ℕ) (s : List ℕ) (line : ℕ) (a : Lined) where
-  told_as : (e : Lined) → a ≡ e → Gives (line_answer s line) a → Lines s line e
+module _ (l : List ℕ) (n : ℕ) (s : List ℕ) (line : ℕ) (a : Result Lead Refusal) where
+  told_as : (e : Result Lead Refusal) → a ≡ e → Gives (line_answer s line) a → Lines s line e
   told_as e f g = subst (Lines s line) (sym g.answer ∙ f) (line-told s line)
 
-  pub explain_long : (r : Refusal) → a ≡ lined.Refused r → Gives (line_answer s line) a → Gives (explain_answer l n s line) (refused (number_of r))
+  pub explain_long : (r : Refusal) → a ≡ Err r → Gives (line_answer s line) a → Gives (explain_answer l n s line) (refused (number_of r))
   unfolding explain_answer
-  explain_long r f g = let w = told_as (lined.Refused r) f g in record { answer = rw (w.0, w.1) }
+  explain_long r f g = let w = told_as (Err r) f g in record { answer = rw (w.0, w.1) }
 
-  module _ (d : Lead) (f : a ≡ lined.By d) (y : Bool) where
+  module _ (d : Lead) (f : a ≡ Ok d) (y : Bool) where
     pub explain_misshapen : y ≡ true → Gives (line_answer s line) a → Gives (misshapen l n (length s)) y → Gives (explain_answer l n s line) (refused 5)
     unfolding explain_answer
-    explain_misshapen e g h = record { answer = rw ((told_as (lined.By d) f g).0, ← h.answer, e) }
+    explain_misshapen e g h = record { answer = rw ((told_as (Ok d) f g).0, ← h.answer, e) }
 
     pub explain_given : (p : ℕ) (c : Cover) (region : Span) (r : Reason) → y ≡ false → Gives (line_answer s line) a → Gives (misshapen l n (length s)) y → Gives (led_place d) p
         → Steps (cover_answer wide l n 0 p) (cover_next wide l n 0 p) (told_found c.found) c.index → Gives (region_at l c.index) region → Gives (reason_of d c region) r
         → Gives (explain_answer l n s line) (given (reason_values r))
     unfolding explain_answer
     explain_given p c region r e g h gp q gr v =
-        let w = told_as (lined.By d) f g in
+        let w = told_as (Ok d) f g in
         let m : misshapen l n (length s) ≡ false = sym h.answer ∙ e in
         let o : SortedRows l n = record { fits = shape_fits l n (length s) m; len = length s; order = shape_order l n (length s) m } in
         let k = why-told l n o d c (subst (λ (x : ℕ). Steps (cover_answer wide l n 0 x) (cover_next wide l n 0 x) (told_found c.found) c.index) gp.answer q) region gr in
@@ -187,16 +183,16 @@ reason_back_lem reason.NoDelimiter = refl
 reason_back_lem reason.NoBlank = refl
 reason_back_lem (reason.Hidden k r) = refl
 
-abbrev explained_back : Outcome → Explained
-explained_back = read (λ l. explained.Because (reason_back l)) explained.Refused
+abbrev explained_back : Outcome → Result Reason Refusal
+explained_back = read (λ l. Ok (reason_back l)) Err
 
-explained_back_lem : (r : Explained) → explained_back (told_explained r) ≡ r
+explained_back_lem : (r : Result Reason Refusal) → explained_back (told_explained r) ≡ r
 unfolding read
-explained_back_lem (explained.Because r) = ap explained.Because (reason_back_lem r)
-explained_back_lem (explained.Refused r) = read-refused (λ l. explained.Because (reason_back l)) explained.Refused r
+explained_back_lem (Ok r) = ap Ok (reason_back_lem r)
+explained_back_lem (Err r) = read-refused (λ l. Ok (reason_back l)) Err r
 
 -- two answers that keep the promise are equal
-pub explained_unique : (l : List ℕ) (n : ℕ) (s : List ℕ) (line : ℕ) {r r' : Explained} → Gives (explain_answer l n s line) (told_explained r) → Gives (explain_answer l n s line) (told_explained r') → r ≡ r'
+pub explained_unique : (l : List ℕ) (n : ℕ) (s : List ℕ) (line : ℕ) {r r' : Result Reason Refusal} → Gives (explain_answer l n s line) (told_explained r) → Gives (explain_answer l n s line) (told_explained r') → r ≡ r'
 explained_unique l n s line = told_unique told_explained explained_back explained_back_lem
 
 -- ---- what an answer tells of the sheet

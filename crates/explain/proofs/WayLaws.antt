@@ -1,5 +1,5 @@
 -- The ways out of the functions that look for a line and read what leads it. Assumes nothing.
-use Rattle.std.specs.Prelude.{◌≡◌, Bool, ◌||◌, ◌⊎◌, ltb, leb, take}
+use Rattle.std.specs.Prelude.{◌≡◌, Bool, ◌||◌, ◌⊎◌, ltb, leb, take, None, Option, Some}
 use Rattle.std.proofs.Math.Path.{refl, sym, ap}
 use Rattle.std.proofs.Common.{◌∙◌, inl, inr, add-one, Fits, length-take, drop_of_length-le, drop-drop, get_or-drop}
 use Rattle.std.proofs.Math.Bool.{true, false, cond, not}
@@ -29,8 +29,6 @@ use Rattle.explain.specs.Parts.{begins_at, sign_led}
 use Rattle.explain.proofs.TrueLaws.{line_begun}
 use Rattle.explain.specs.declared.leads.Lead.{Lead}
 use Rattle.explain.specs.declared.leads.Lead.TheVariants as led
-use Rattle.explain.specs.declared.leads.Begin.{Begin}
-use Rattle.explain.specs.declared.leads.Begin.TheVariants as begin
 
 -- ---- the loop that looks for a line: at a line's start a, with `left` lines to go
 pub record Seeking (eol : ℕ) (s : List ℕ) (line a left : ℕ) : Type 0 where
@@ -52,31 +50,27 @@ module _ (eol : ℕ) (s : List ℕ) (line : ℕ) where
           let z : suc k - 1 ≡ k = omega arith in
           record { inside = omega arith; same = rw z }
 
-  module _ (a left : ℕ) (w : Seeking eol s line a left) where
-    pub seeking_end : left ≤ 0 → Gives (line_at eol s line) (a ∷ [])
+  -- k is the number of the line that starts at a
+  module _ (a k : ℕ) (w : Seeking eol s line a (line - k)) where
+    pub seeking_end : line ≤ k → Gives (line_at eol s line) (a ∷ [])
     unfolding starts_from
-    seeking_end h = let z : left ≡ 0 = omega arith in record { answer = sym (w.same ∙ rw z) }
+    seeking_end h = let z : line - k ≡ 0 = omega arith in record { answer = sym (w.same ∙ rw z) }
 
-    next-is : (m : ℕ) (r : List ℕ) → 0 < left → starts_from eol s a ≡ a ∷ r → left ≡ suc m → line_at eol s line ≡ take 1 (drop m r)
-    next-is m r h e f = w.same ∙ rw (f, e)
+    next-is : (r : List ℕ) → k < line → starts_from eol s a ≡ a ∷ r → line_at eol s line ≡ take 1 (drop (line - (k + 1)) r)
+    next-is r h e = let f : line - k ≡ suc (line - (k + 1)) = omega arith in w.same ∙ rw (f, e)
 
-    module _ (h : 0 < left) (e n : ℕ) (f : Sought (is eol) s a e) (g : Gives (next_line (length s) e) n) where
+    module _ (h : k < line) (e n : ℕ) (f : Sought (is eol) s a e) (g : Gives (next_line (length s) e) n) where
       pub seeking_none : length s ≤ n → Gives (line_at eol s line) []
-      seeking_none l = record {
-        answer = sym (next-is (left - 1) [] h (starts_last eol s a w.inside (omega (arith, f.here, g.answer))) (omega arith) ∙ none (left - 1));
-      }
+      seeking_none l = record { answer = sym (next-is [] h (starts_last eol s a w.inside (omega (arith, f.here, g.answer))) ∙ none (line - (k + 1))) }
         where
           none : (m : ℕ) → ◌≡◌ {A = List ℕ} (take 1 (drop m [])) []
           none zero = refl
           none (suc m) = refl
 
-      pub seeking_again : n < length s → Seeking eol s line n (left - 1)
+      pub seeking_again : n < length s → Seeking eol s line n (line - (k + 1))
       seeking_again l =
           let z : line_end eol s a + 1 ≡ n = omega (arith, f.here, g.answer) in
-          record {
-            inside = omega arith;
-            same = next-is (left - 1) (starts_from eol s n) h (starts_next eol s a w.inside (omega arith) ∙ rw z) (omega arith);
-          }
+          record { inside = omega arith; same = next-is (starts_from eol s n) h (starts_next eol s a w.inside (omega arith) ∙ rw z) }
 
 pub ruleset seeking_rules = (seeking_zero, seeking_first, seeking_again, seeking_none, seeking_end)
 
@@ -322,14 +316,14 @@ line-front s a e h f = let z : min e (length s) ≡ e = omega (arith, f.high) in
 pub front-short : (s : List ℕ) (e : ℕ) → length s ≤ 4294967295 → length (take e s) ≤ 4294967295
 front-short s e h = omega (arith, length-take e s)
 
-module _ (s : List ℕ) (line : ℕ) (b : Begin) (g : Gives (line_at 10 s line) (begins_at b)) where
-  pub line-within : (a : ℕ) → b ≡ begin.At a → a ≤ length s
+module _ (s : List ℕ) (line : ℕ) (b : Option ℕ) (g : Gives (line_at 10 s line) (begins_at b)) where
+  pub line-within : (a : ℕ) → b ≡ Some a → a ≤ length s
   line-within a e = (line_begun 10 s line a [] (sym g.answer ∙ ap begins_at e)).1
 
-  pub line_there : (a : ℕ) (d : Lead) → b ≡ begin.At a → Gives (led_by a (line_bytes house_marks s a)) d → Gives (line_led s line) d
+  pub line_there : (a : ℕ) (d : Lead) → b ≡ Some a → Gives (led_by a (line_bytes house_marks s a)) d → Gives (line_led s line) d
   unfolding line_led
   line_there a d e w = record { answer = w.answer ∙ sym (ap (led_at s) (sym g.answer ∙ ap begins_at e)) }
 
-  pub line_not : b ≡ begin.Nothing → Gives (line_led s line) led.NoLine
+  pub line_not : b ≡ None → Gives (line_led s line) led.NoLine
   unfolding line_led
   line_not e = record { answer = sym (ap (led_at s) (sym g.answer ∙ ap begins_at e)) }

@@ -11,18 +11,14 @@ use Rattle.explain.specs.Reasons.{line_led}
 use Rattle.common.specs.Grammars.{house_marks}
 use Rattle.explain.specs.declared.leads.Lead.{Lead}
 use Rattle.explain.specs.declared.leads.Lead.TheVariants as led
-use Rattle.explain.specs.declared.leads.Lined.{Lined}
-use Rattle.explain.specs.declared.leads.Lined.TheVariants as lined
 use Rattle.explain.specs.declared.Reason.{Reason}
 use Rattle.explain.specs.declared.Reason.TheVariants as reason
-use Rattle.explain.specs.declared.leads.Begin.{Begin}
-use Rattle.explain.specs.declared.leads.Begin.TheVariants as begin
 use Rattle.common.specs.declared.refusal.Refusal.{Refusal}
 
 -- where a line begins, if it exists
-abbrev pub begins_at : Begin → List ℕ
-begins_at (begin.At a) = a ∷ []
-begins_at begin.Nothing = []
+abbrev pub begins_at : Option ℕ → List ℕ
+begins_at (Some a) = a ∷ []
+begins_at None = []
 
 -- what a marker or a delimiter at j leads in a text u up to a line's end: an item, if a separator or tab stands behind it
 unfoldable pub sign_led : List ℕ → ℕ → ℕ → ℕ → Lead
@@ -54,5 +50,5 @@ reason_of led.NoBlank c r = reason.NoBlank
 reason_of (led.Item i) c r = reason_by c.index r c.found
 
 -- what leads a line, if the text is not too long
-unfoldable pub line_answer : List ℕ → ℕ → Lined
-line_answer s line = cond (too_long s) (lined.Refused TextTooLong) (lined.By (line_led s line))
+unfoldable pub line_answer : List ℕ → ℕ → Result Lead Refusal
+line_answer s line = cond (too_long s) (Err TextTooLong) (Ok (line_led s line))

@@ -3,11 +3,12 @@
 -- digits with no accepted delimiter next, no separator or tab after the marker or delimiter, or hidden, and then by which region. The reason given
 -- has to be the true one: the first of these, in this order, that holds under the rules, and "it is on the sheet" only when it is. … Refusals:
 -- 1, 5 as for a work sheet."
-use Rattle.std.specs.Prelude.{Bool, true, false, cond, not, ◌||◌, ◌&&◌, List, [], ◌∷◌, ℕ, suc, ◌+◌, min, ltb, leb, length, get_or, drop}
+use Rattle.std.specs.Prelude.{Bool, true, false, cond, not, ◌||◌, ◌&&◌, List, [], ◌∷◌, ℕ, suc, ◌+◌, min, ltb, leb, length, get_or, drop, Err, Ok, Result}
 use Rattle.search.specs.Search.{digit}
 use Rattle.decimal.specs.Decimal.{valued}
 use Rattle.common.specs.Entry.{rows, wide}
 use Rattle.common.specs.Refusals.{Outcome, given, refused, refuse, number_of, too_long, span_values}
+use Rattle.common.specs.declared.refusal.Refusal.{Refusal}
 use Rattle.common.specs.Items.{blank, line_bytes, leading, beyond}
 use Rattle.common.specs.Sets.{is_marker, is_delimiter}
 use Rattle.common.specs.Grammars.{house_marks}
@@ -20,8 +21,6 @@ use Rattle.explain.specs.declared.leads.Lead.{Lead}
 use Rattle.explain.specs.declared.leads.Lead.TheVariants as led
 use Rattle.explain.specs.declared.Reason.{Reason}
 use Rattle.explain.specs.declared.Reason.TheVariants as reason
-use Rattle.explain.specs.declared.Explained.{Explained}
-use Rattle.explain.specs.declared.Explained.TheVariants as explained
 
 -- ---- a line, by its bytes without its line end
 -- whether there is no first byte, or it fails a test
@@ -120,6 +119,6 @@ reason_values reason.NoDelimiter = 4 ∷ []
 reason_values reason.NoBlank = 5 ∷ []
 reason_values (reason.Hidden k r) = 6 ∷ k ∷ span_values r
 
-abbrev pub told_explained : Explained → Outcome
-told_explained (explained.Because r) = given (reason_values r)
-told_explained (explained.Refused r) = refused (number_of r)
+abbrev pub told_explained : Result Reason Refusal → Outcome
+told_explained (Ok r) = given (reason_values r)
+told_explained (Err r) = refused (number_of r)

@@ -29,39 +29,21 @@ pub enum Lead {
     Item(SheetItem),
 }
 
-// That, or a refusal.
-#[derive(Clone, Copy)]
-pub enum Lined {
-    By(Lead),
-    Refused(Refusal),
-}
-
-// Where a line begins, if it exists.
-#[derive(Clone, Copy)]
-enum Begin {
-    At(usize),
-    Nothing,
-}
-
-// Where line `line` begins, counted from 1.
-fn line_begin(text: &[u8], line: usize) -> Begin
+// Where line `line` begins, counted from 1, if it exists.
+fn line_begin(text: &[u8], line: usize) -> Option<usize>
     ensures { Gives (line_at 10 text.now line) (begins_at result) }
 {
     if line == 0 {
-        return Begin::Nothing;
+        return None;
     }
     let mut a = 0;
-    let mut left = line - 1;
-    while left > 0 {
-        let n = next_line(text.len(), find_byte(text, a, Grammar::EOL));
-        if n < text.len() {
-            a = n;
-            left -= 1;
-        } else {
-            return Begin::Nothing; // a line end with no byte after it starts no line
+    for _ in 1..line {
+        a = next_line(text.len(), find_byte(text, a, Grammar::EOL));
+        if text.len() <= a {
+            return None; // a line end with no byte after it starts no line
         }
     }
-    Begin::At(a)
+    Some(a)
 }
 
 // What a marker or a delimiter at `j` leads, `line` being the text up to the line's end.
@@ -135,18 +117,18 @@ fn line_led(text: &[u8], line: usize) -> Lead
     ensures { Gives (line_led text.now line) result }
 {
     match line_begin(text, line) {
-        Begin::At(a) => led_at(text, a),
-        Begin::Nothing => Lead::NoLine,
+        Some(a) => led_at(text, a),
+        None => Lead::NoLine,
     }
 }
 
 // What leads line `line`, counted from 1: a reason from 1 to 5, or its item; refusal 1 where the text is too long. It looks at no list, so
 // that lists of any form share it.
-pub fn line_item(text: &[u8], line: usize) -> Lined
+pub fn line_item(text: &[u8], line: usize) -> Result<Lead, Refusal>
     ensures { Gives (line_answer text.now line) result }
 {
     if text.len() > MAX_INPUT_LEN {
-        return Lined::Refused(Refusal::TextTooLong);
+        return Err(Refusal::TextTooLong);
     }
-    Lined::By(line_led(text, line))
+    Ok(line_led(text, line))
 }

@@ -10,7 +10,7 @@ use crate::Unread;
 use crate::check::check;
 use crate::layout::{cell_layout_fits, put_cells};
 use crate::rows::pour_rows;
-use byte_list::is_misshapen;
+use cover::shape::is_misshapen;
 use cells::{ROW, reply};
 use common::refusal::Refusal;
 use common::span::MAX_INPUT_LEN;

@@ -94,7 +94,7 @@ fn put_cell_objects(list: &[u8], count: usize, out: &mut [u8]) -> usize
     let mut n = 1;
     let mut k = 0;
     while k < count {
-        n = put_region(out, n, k, byte_list::region_at(list, k));
+        n = put_region(out, n, k, cover::shape::region_at(list, k));
         k += 1;
     }
     n

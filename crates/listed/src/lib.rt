@@ -17,7 +17,8 @@ ghost use Rattle.cells.specs.Reply.{Replied};
 ghost use Rattle.sheeting.specs.Sheeting.{item_bytes, SheetPoured};
 ghost use Rattle.listed.specs.Listed.{ListedSheet, ListedCount};
 
-use byte_list::{covering_end, is_misshapen};
+use cover::cursor::covering_end;
+use cover::shape::is_misshapen;
 use cells::reply;
 use common::grammar::Grammar;
 use common::sets::byte_set;

@@ -1,5 +1,5 @@
 -- Laws of the entry that explains a line: its ways out. Assumes nothing.
-use Rattle.std.specs.Prelude.{◌≡◌, List, [], ◌∷◌, ℕ}
+use Rattle.std.specs.Prelude.{◌≡◌, List, [], ◌∷◌, ℕ, Err, Ok, Result}
 use Rattle.std.proofs.Common.{sym, ap, subst, ◌∙◌}
 use Rattle.search.specs.Promise.{Gives}
 use Rattle.common.specs.Refusals.{Outcome, given, number_of}
@@ -10,8 +10,6 @@ use Rattle.cells.specs.ReplyLaws.{reply_refused}
 use Rattle.explain.specs.Reasons.{reason_values, told_explained}
 use Rattle.explain.specs.declared.Reason.{Reason}
 use Rattle.explain.specs.declared.Reason.TheVariants as reason
-use Rattle.explain.specs.declared.Explained.{Explained}
-use Rattle.explain.specs.declared.Explained.TheVariants as explained
 
 -- ---- a reason by its number
 module _ (why : Reason) (run run' : List ℕ) (n : ℕ) where
@@ -42,9 +40,9 @@ module _ (why : Reason) (run run' : List ℕ) (n : ℕ) where
 pub ruleset reason_rules = (reason_0, reason_1, reason_2, reason_3, reason_4, reason_5, reason_hidden)
 
 -- ---- the entry
-module _ (o : Outcome) (e : Explained) (run run' : List ℕ) (n : ℕ) (g : Gives o (told_explained e)) where
-  pub explained_because : (why : Reason) → e ≡ explained.Because why → Replied (given (reason_values why)) run run' n → Replied o run run' n
+module _ (o : Outcome) (e : Result Reason Refusal) (run run' : List ℕ) (n : ℕ) (g : Gives o (told_explained e)) where
+  pub explained_because : (why : Reason) → e ≡ Ok why → Replied (given (reason_values why)) run run' n → Replied o run run' n
   explained_because why f d = subst (λ (x : Outcome). Replied x run run' n) (sym (ap told_explained f) ∙ g.answer) d
 
-pub explained_refused : (o : Outcome) (e : Explained) (run : List ℕ) (n : ℕ) (r : Refusal) → e ≡ explained.Refused r → Gives o (told_explained e) → Gives (number_of r) n → Replied o run run n
+pub explained_refused : (o : Outcome) (e : Result Reason Refusal) (run : List ℕ) (n : ℕ) (r : Refusal) → e ≡ Err r → Gives o (told_explained e) → Gives (number_of r) n → Replied o run run n
 explained_refused o e run n r f g h = subst (λ (x : Outcome). Replied x run run n) (sym (ap told_explained f) ∙ g.answer) (reply_refused r n run h)

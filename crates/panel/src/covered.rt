@@ -2,7 +2,7 @@
 ghost use Rattle.cells.specs.Reply.{Replied};
 ghost use Rattle.panel.specs.Covered.{covered};
 
-use byte_list::covering_end;
+use cover::cursor::covering_end;
 use cells::reply;
 use common::refusal::Refusal;
 

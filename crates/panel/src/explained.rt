@@ -6,7 +6,7 @@ ghost use Rattle.cells.specs.Reply.{Replied};
 ghost use Rattle.explain.specs.Reasons.{explain_answer, reason_values};
 
 use cells::reply;
-use explain::{Explained, Reason, explain_bytes};
+use explain::{Reason, explain};
 
 // One value.
 fn one(x: usize, answer: &mut [u8]) -> u32
@@ -47,8 +47,8 @@ pub extern "C" fn rack_explain(
     ensures { Replied (explain_answer (cells list.now) count text.now line) answer.old
         answer.new result }
 {
-    match explain_bytes(text, list, count as usize, line) {
-        Explained::Because(why) => reason(why, answer),
-        Explained::Refused(r) => r.number(),
+    match explain(text, list, count as usize, line) {
+        Ok(why) => reason(why, answer),
+        Err(r) => r.number(),
     }
 }

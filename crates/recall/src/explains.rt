@@ -2,7 +2,7 @@
 use crate::lists;
 use common::grammar::Grammar;
 use common::refusal::Refusal;
-use explain::{Explained, Reason, explain};
+use explain::{Reason, explain};
 use stored::asked::Asked;
 use stored::numbers::Numbers;
 
@@ -48,10 +48,10 @@ fn by_house(text: &[u8], line: usize, reply: Numbers) -> Numbers {
 }
 
 // 1 and the reason, or 0 and the refusal.
-fn told(explained: Explained, reply: Numbers) -> Numbers {
+fn told(explained: Result<Reason, Refusal>, reply: Numbers) -> Numbers {
     match explained {
-        Explained::Because(why) => reason(why, reply.and(1)),
-        Explained::Refused(r) => reply.and(0).and(r.number()),
+        Ok(why) => reason(why, reply.and(1)),
+        Err(r) => reply.and(0).and(r.number()),
     }
 }
 

@@ -3,4 +3,4 @@ use Rattle.cover.proofs.CursorLaws.{cover_twice}
 use Rattle.cover.proofs.cursor.covers_both.Goals as goal
 
 pub returns : goal.returns
-returns c = search cover_twice
+returns g c = search cover_twice

@@ -2,14 +2,11 @@
 use Rattle.cover.proofs.CursorLaws.{pass_rules}
 use Rattle.cover.proofs.cursor.pass.Goals as goal
 
-pub loop-i-init : goal.loop-i-init
-loop-i-init c = search pass_rules
-
-pub returns-then-place-stop : goal.returns-then-place-stop
-returns-then-place-stop c = search pass_rules
+pub returns-then-place-number : goal.returns-then-place-number
+returns-then-place-number g c = search pass_rules
 
 pub loop-i-preserved : goal.loop-i-preserved
-loop-i-preserved c = search pass_rules
+loop-i-preserved g c = search pass_rules
 
 pub returns : goal.returns
-returns c = search pass_rules
+returns g c = let f = c.loop-i.auto.i-end in search pass_rules

@@ -5,14 +5,14 @@ use Rattle.explain.proofs.leads.line_begin.Goals as goal
 pub returns-then-line-eq0 : goal.returns-then-line-eq0
 returns-then-line-eq0 c = search seeking_rules
 
-pub loop-left-init : goal.loop-left-init
-loop-left-init c = search seeking_rules
+pub loop-init : goal.loop-init
+loop-init c = search seeking_rules
 
-pub loop-left-preserved : goal.loop-left-preserved
-loop-left-preserved c = search seeking_rules
+pub returns-then-text-a : goal.returns-then-text-a
+returns-then-text-a c = search seeking_rules
 
-pub returns-else-n-text : goal.returns-else-n-text
-returns-else-n-text c = search seeking_rules
+pub loop-preserved : goal.loop-preserved
+loop-preserved c = search seeking_rules
 
 pub returns : goal.returns
 returns c = search seeking_rules

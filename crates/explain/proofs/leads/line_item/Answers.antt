@@ -3,7 +3,7 @@ use Rattle.explain.proofs.AnswerLaws.{line_long, line-served}
 use Rattle.explain.proofs.leads.line_item.Goals as goal
 
 pub returns-then-text-gt-MAX_INPUT_LEN : goal.returns-then-text-gt-MAX_INPUT_LEN
-returns-then-text-gt-MAX_INPUT_LEN c = search (line_long, line-served)
+returns-then-text-gt-MAX_INPUT_LEN c = search line_long
 
 pub returns : goal.returns
-returns c = search (line_long, line-served)
+returns c = search line-served

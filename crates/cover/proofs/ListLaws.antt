@@ -1,6 +1,6 @@
--- Laws of a region list in bytes: its room is that of the numbers that it holds, and the ways out of its functions. Assumes nothing.
+-- Laws of a region list in bytes: its room is that of the numbers that it holds, and the ways out of what is asked of it. Assumes nothing.
 use Rattle.std.specs.Prelude.{◌≡◌, Bool, true, false, List, [], ◌∷◌, ℕ, ◌+◌, ◌*◌, ◌/◌, ◌≤◌, ◌<◌, length, get_or}
-use Rattle.std.proofs.Common.{ap, ◌∙◌, arith}
+use Rattle.std.proofs.Common.{refl, ap, ◌∙◌, arith}
 use Rattle.std.proofs.Math.Nat.{div-div-eq-div-mul}
 use Rattle.search.specs.Promise.{Gives, Steps}
 use Rattle.common.specs.Entry.{rows, room, shaped, wide}
@@ -34,19 +34,19 @@ module _ (list : List ℕ) where
   -- ---- the ways out of a query
   module _ (count index place : ℕ) where
     pub bytes_refused : length list / row_bytes < count → Steps (cover_answer wide (cells list) count index place) (cover_next wide (cells list) count index place) (refused 5) index
-    bytes_refused h = cover_refused wide (cells list) count index place (omega (arith, same-room))
+    bytes_refused h = cover_refused wide (cells list) count index place (length (cells list)) (record { answer = refl }) (omega (arith, same-room))
 
     module _ (i : ℕ) (fits : count ≤ length list / row_bytes) (g : Gives (passed wide (cells list) count index place) i) where
       pub bytes_past : count ≤ i → Steps (cover_answer wide (cells list) count index place) (cover_next wide (cells list) count index place) (given []) i
-      bytes_past h = cover_past wide (cells list) count index place (bytes_fit count fits) i g h
+      bytes_past h = cover_past wide (cells list) count index place (length (cells list)) (record { answer = refl }) (bytes_fit count fits) i g h
 
       pub bytes_before : (start : ℕ) → place < start → Gives (get_or (cells list) (i * wide) 0) start → i < count
           → Steps (cover_answer wide (cells list) count index place) (cover_next wide (cells list) count index place) (given []) i
-      bytes_before start m s h = cover_before wide (cells list) count index place (bytes_fit count fits) i g start m s h
+      bytes_before start m s h = cover_before wide (cells list) count index place (length (cells list)) (record { answer = refl }) (bytes_fit count fits) i g start m s h
 
       pub bytes_found : (start stop : ℕ) → start ≤ place → Gives (get_or (cells list) (i * wide) 0) start → Gives (get_or (cells list) (i * wide + 1) 0) stop → i < count
           → Steps (cover_answer wide (cells list) count index place) (cover_next wide (cells list) count index place) (given (stop ∷ [])) i
-      bytes_found start stop m s e h = cover_found wide (cells list) count index place (bytes_fit count fits) i g start stop m s e h
+      bytes_found start stop m s e h = cover_found wide (cells list) count index place (length (cells list)) (record { answer = refl }) (bytes_fit count fits) i g start stop m s e h
 
   -- ---- a region
   pub bytes_region : (k a b : ℕ) → k < length list / row_bytes → Gives (get_or (cells list) (k * wide) 0) a → Gives (get_or (cells list) (k * wide + 1) 0) b → Gives (region_at (cells list) k) (record { start = a; end = b })
