@@ -5,7 +5,8 @@ ghost use Rattle.std.specs.Prelude.{◌+◌, ◌%◌, length};
 ghost use Rattle.search.specs.Promise.{Gives};
 ghost use Rattle.decimal.specs.Decimal.{decimal, digits_of};
 
-// The digits of a number, the first of ten bytes, and how many they are. The largest number of 32 bits has ten.
+// The digits of a number, the first of ten bytes, and how many they are. The largest number of 32 bits has ten, and nothing
+// is allocated.
 #[derive(Clone, Copy)]
 pub struct Digits {
     pub bytes: [u8; 10],
