@@ -1,5 +1,6 @@
 -- The rules of a loop that steps a state and puts a line for each thing that comes. Assumes nothing.
-use Rattle.std.specs.Prelude.{◌≡◌, refl, Bool, true, false}
+use Rattle.std.specs.Prelude.{◌≡◌, refl, Bool, true, false, Err, None, Ok, Option, Result}
+use Rattle.std.specs.Result.{result_unwrap_or}
 use Rattle.std.proofs.Math.Path.{sym, ap}
 use Rattle.std.proofs.Common.{◌∙◌, arith, length-append}
 use mathlib.Core.List.{List, [], ◌∷◌, ◌++◌, map, append_assoc, append-nil}
@@ -9,6 +10,7 @@ use Rattle.search.specs.Promise.{Steps}
 use Rattle.common.specs.Entry.{put_at}
 use Rattle.common.specs.EntryLaws.{length_put, put_append}
 use Rattle.common.specs.Refusals.{Outcome, refuse}
+use Rattle.common.specs.declared.refusal.Refusal.{Refusal}
 use Rattle.common.specs.Items.{step_for}
 use Rattle.common.specs.Turn.{Step, yields, ends, then_drain, drain}
 use Rattle.listing.specs.Lines.{line, lines}
@@ -87,22 +89,31 @@ module _ {S : Type 0} {step : S → Step (List ℕ) S} where
       pub going_same : length out ≡ length out₀
       going_same = ap length i.list ∙ length_put n₀ i.done out₀
 
--- ---- the ways through a loop over a scanner: f is a step's answer, e what a `match` told that it is, and `told` what such a value says
-module _ (S : Type 0) {F : Type 0} (told : F → Outcome) (answer : S → Outcome) (state : S → S) where
-  value_step_lem : (g : S) {n : S} {f e : F} → f ≡ e → Steps (answer g) (state g) (told f) n → value_step answer state g ≡ step_for (λ v. v) (told e).values n
+-- ---- the ways through a loop over a scanner: f is a step's answer, o what it found, a refusal counted as nothing, e what a `match` told that o is,
+-- and `told` what such an answer says
+module _ (S : Type 0) {A : Type 0} (told : Result (Option A) Refusal → Outcome) (denied : (r : Refusal) → (told (Err r)).values ≡ (told (Ok None)).values) (answer : S → Outcome) (state : S → S) where
+  told_values : (f : Result (Option A) Refusal) {o : Option A} → o ≡ result_unwrap_or f None → (told f).values ≡ (told (Ok o)).values
+  told_values (Ok x) q = ap (λ (o : Option A). (told (Ok o)).values) (sym q)
+  told_values (Err r) q = denied r ∙ ap (λ (o : Option A). (told (Ok o)).values) (sym q)
+
+  value_step_lem : (g : S) {n : S} {f : Result (Option A) Refusal} {o e : Option A} → o ≡ result_unwrap_or f None → o ≡ e → Steps (answer g) (state g) (told f) n → value_step answer state g ≡ step_for (λ v. v) (told (Ok e)).values n
   unfolding value_step
-  value_step_lem g {n} m w = ap (step_for (λ v. v) (answer g).values) (sym w.next) ∙ ap (λ (o : Outcome). step_for (λ v. v) o.values n) (sym w.answer) ∙ ap (λ (f : F). step_for (λ v. v) (told f).values n) m
+  value_step_lem g {n} {f} q m w =
+      ap (step_for (λ v. v) (answer g).values) (sym w.next)
+      ∙ ap (λ (o : Outcome). step_for (λ v. v) o.values n) (sym w.answer)
+      ∙ ap (λ (v : List ℕ). step_for (λ v. v) v n) (told_values f q ∙ ap (λ (o : Option A). (told (Ok o)).values) m)
 
-  module _ {letter : ℕ} {row : List ℕ → List ℕ} {all : List ℕ} {n₀ k : ℕ} {out₀ out : List ℕ} {g : S} (i : Going (value_step answer state) letter row all n₀ out₀ g out k) {f e : F} {n : S} (m : f ≡ e)
-      (w : Steps (answer g) (state g) (told f) n) where
-    pub lines_again : step_for (λ v. v) (told e).values n ≡ yields (told e).values n → {b k' : ℕ} {out' : List ℕ} → LaidWithin b (line letter (row (told e).values)) k out out' k' → Going (value_step answer state) letter row all n₀ out₀ n out' k'
-    lines_again y v = going_again i (value_step_lem g m w ∙ y) v
+  module _ {letter : ℕ} {row : List ℕ → List ℕ} {all : List ℕ} {n₀ k : ℕ} {out₀ out : List ℕ} {g : S} (i : Going (value_step answer state) letter row all n₀ out₀ g out k) {f : Result (Option A) Refusal} {o e : Option A} {n : S}
+      (q : o ≡ result_unwrap_or f None) (m : o ≡ e) (w : Steps (answer g) (state g) (told f) n) where
+    pub lines_again : step_for (λ v. v) (told (Ok e)).values n ≡ yields (told (Ok e)).values n → {b k' : ℕ} {out' : List ℕ} → LaidWithin b (line letter (row (told (Ok e)).values)) k out out' k'
+        → Going (value_step answer state) letter row all n₀ out₀ n out' k'
+    lines_again y v = going_again i (value_step_lem g q m w ∙ y) v
 
-    pub lines_less : step_for (λ v. v) (told e).values n ≡ yields (told e).values n → {b k' : ℕ} {out' : List ℕ} → LaidWithin b (line letter (row (told e).values)) k out out' k' → 1000000 - k' < 1000000 - k
-    lines_less y v = going_less i (value_step_lem g m w ∙ y) v
+    pub lines_less : step_for (λ v. v) (told (Ok e)).values n ≡ yields (told (Ok e)).values n → {b k' : ℕ} {out' : List ℕ} → LaidWithin b (line letter (row (told (Ok e)).values)) k out out' k' → 1000000 - k' < 1000000 - k
+    lines_less y v = going_less i (value_step_lem g q m w ∙ y) v
 
-    pub lines_end : step_for (λ v. v) (told e).values n ≡ ends n → Laid all n₀ out₀ out k
-    lines_end y = going_end i (value_step_lem g m w ∙ y)
+    pub lines_end : step_for (λ v. v) (told (Ok e)).values n ≡ ends n → Laid all n₀ out₀ out k
+    lines_end y = going_end i (value_step_lem g q m w ∙ y)
 
 -- ---- the beginning of such a loop, of things that have values and are read back from them
 module _ {S A : Type 0} (values : A → List ℕ) (back : List ℕ → A) where

@@ -32,6 +32,10 @@ said_reads {S} {A} values back reads (found a m) k = by (values a) refl (reads a
     by [] e r = refl
     by (x ∷ l) e r = ap (λ (v : List ℕ). yields v k) e ∙ sym (ap (map_step values) r)
 
+-- an item's values are those of a thing
+pub item_reads : {S A : Type 0} {c : Scanner S A} {Lies : ℕ → ℕ → A → Type 0} → Lawful c Lies → (a : A) (n : S) → step_for (λ v. v) (c.values a) n ≡ yields (c.values a) n
+item_reads {c = c} w a n = said_reads c.values c.back w.reads (found a 0) n ∙ ap (map_step c.values) (w.reads a n)
+
 -- ---- an item scanner, by a set of the house
 module _ {S A : Type 0} {c : Scanner S A} {Lies : ℕ → ℕ → A → Type 0} (w : Lawful c Lies) where
   pub items-first : (letter : ℕ) (house set : List Bool) (s : List ℕ) {out : List ℕ} {n : ℕ} {g : S} → set ≡ house → Gives (fresh c 10 32 9 set) g → length s ≤ 8192 → Room n (item_lines_of c letter house s)

@@ -1,16 +1,18 @@
 // The lines of the scanners: each is stepped from a fresh state until nothing comes.
-ghost use Rattle.std.specs.Prelude.{◌≡◌, ◌≤◌, length};
-ghost use Rattle.put.specs.Put.{Laid};
+ghost use Rattle.std.specs.Prelude.{◌≡◌, ◌≤◌, ℕ, length};
+ghost use Rattle.common.specs.Kinds.{scanner_of};
+ghost use Rattle.put.specs.Put.{Laid, LaidWithin};
+ghost use Rattle.listing.specs.Lines.{line};
 ghost use Rattle.listing.specs.Room.{Room};
 ghost use Rattle.common.specs.Sets.{house_markers, house_delims};
-ghost use Rattle.listing.specs.Listing.{fence_lines_of, frame_lines, marker_lines, numbered_lines};
+ghost use Rattle.listing.specs.Listing.{item_lines_of, fence_lines_of, frame_lines, marker_lines, numbered_lines};
 ghost use Rattle.listing.specs.Parts.{fence_lines, span_lines, item_lines, scan_lines};
 
 use crate::put_line::{put_four, put_three, put_two};
-use block_marker::BlockMarkerIter;
-use block_numbered::BlockNumberedIter;
+use block_marker::{Marker, MarkerItem};
+use block_numbered::{Numbered, NumberedItem};
 use common::grammar::Grammar;
-use common::span::Span;
+use common::scan::{ItemIter, Kind};
 use cont::ContIter;
 use fence::FenceIter;
 
@@ -30,20 +32,11 @@ fn put_fences_of(text: &[u8], byte: u8, out: &mut [u8], n: usize) -> usize
     let mut k = n;
     loop {
         let step = state.next(text);
-        let found = step.found;
-        let next = step.next;
-        match found {
-            Ok(Some(s)) => {
-                k = put_three(out, k, b'F', s.start, s.end, byte as u32);
-                state = next;
-            }
-            Ok(None) => {
-                return k;
-            }
-            Err(_) => {
-                return k;
-            }
-        }
+        let Some(s) = step.found.unwrap_or(None) else {
+            return k;
+        };
+        k = put_three(out, k, b'F', s.start, s.end, byte as u32);
+        state = step.next;
     }
 }
 
@@ -73,20 +66,65 @@ fn put_frames(text: &[u8], out: &mut [u8], n: usize) -> usize
     let mut k = n;
     loop {
         let step = state.next(text);
-        let found = step.found;
-        let next = step.next;
-        match found {
-            Ok(Some(s)) => {
-                k = put_two(out, k, b'C', s.start, s.end);
-                state = next;
-            }
-            Ok(None) => {
-                return k;
-            }
-            Err(_) => {
-                return k;
-            }
-        }
+        let Some(s) = step.found.unwrap_or(None) else {
+            return k;
+        };
+        k = put_two(out, k, b'C', s.start, s.end);
+        state = step.next;
+    }
+}
+
+// A kind of items that are listed.
+trait Listed: Kind {
+    ghost letter: { ℕ };
+
+    // The line of an item.
+    fn put(item: Self::Item, out: &mut [u8], n: usize) -> usize
+        requires { n ≤ 1000000 }
+        ensures { LaidWithin 46 (line letter (Self.reading.values item)) n out.old out.new result };
+}
+
+impl Listed for Marker {
+    ghost letter = { 77 };
+
+    fn put(item: MarkerItem, out: &mut [u8], n: usize) -> usize {
+        let span = item.span;
+        put_three(out, n, b'M', span.start, span.end, item.marker as u32)
+    }
+}
+
+impl Listed for Numbered {
+    ghost letter = { 78 };
+
+    fn put(item: NumberedItem, out: &mut [u8], n: usize) -> usize {
+        let span = item.span;
+        put_four(
+            out,
+            n,
+            b'N',
+            span.start,
+            span.end,
+            item.delimiter as u32,
+            item.number,
+        )
+    }
+}
+
+// The items of a kind.
+fn put_items_of<K: Listed>(text: &[u8], set: &[bool; 256], out: &mut [u8], n: usize) -> usize
+    requires text_len_bound { length text.now ≤ 8192 }
+    requires room { Room n (item_lines_of (scanner_of K K.reading) K.letter set.now text.now) }
+    ensures { Laid (item_lines_of (scanner_of K K.reading) K.letter set.now text.now) n out.old out.new result }
+{
+    let mut state = ItemIter::<K>::new(Grammar::EOL, Grammar::SEP, Grammar::TAB, set);
+    let mut k = n;
+    loop {
+        let step = state.next(text, set);
+        let Some(i) = step.found.unwrap_or(None) else {
+            return k;
+        };
+        k = K::put(i, out, k);
+        state = step.next;
     }
 }
 
@@ -97,26 +135,7 @@ fn put_markers(text: &[u8], set: &[bool; 256], out: &mut [u8], n: usize) -> usiz
     requires room { Room n (marker_lines text.now) }
     ensures { Laid (marker_lines text.now) n out.old out.new result }
 {
-    let mut state = BlockMarkerIter::new(Grammar::EOL, Grammar::SEP, Grammar::TAB, set);
-    let mut k = n;
-    loop {
-        let step = state.next(text, set);
-        let found = step.found;
-        let next = step.next;
-        match found {
-            Ok(Some(i)) => {
-                let s = i.span;
-                k = put_three(out, k, b'M', s.start, s.end, i.marker as u32);
-                state = next;
-            }
-            Ok(None) => {
-                return k;
-            }
-            Err(_) => {
-                return k;
-            }
-        }
-    }
+    put_items_of::<Marker>(text, set, out, n)
 }
 
 // The numbered items.
@@ -126,26 +145,7 @@ fn put_numbered(text: &[u8], set: &[bool; 256], out: &mut [u8], n: usize) -> usi
     requires room { Room n (numbered_lines text.now) }
     ensures { Laid (numbered_lines text.now) n out.old out.new result }
 {
-    let mut state = BlockNumberedIter::new(Grammar::EOL, Grammar::SEP, Grammar::TAB, set);
-    let mut k = n;
-    loop {
-        let step = state.next(text, set);
-        let found = step.found;
-        let next = step.next;
-        match found {
-            Ok(Some(i)) => {
-                let s = i.span;
-                k = put_four(out, k, b'N', s.start, s.end, i.delimiter as u32, i.number);
-                state = next;
-            }
-            Ok(None) => {
-                return k;
-            }
-            Err(_) => {
-                return k;
-            }
-        }
-    }
+    put_items_of::<Numbered>(text, set, out, n)
 }
 
 fn put_spans(text: &[u8], out: &mut [u8], n: usize) -> usize

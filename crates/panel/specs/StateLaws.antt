@@ -156,11 +156,11 @@ module _ (run : List ℕ) (a b c p i j k n f : ℕ) (h : readable item_limits ru
       let x6 = byte_field item_limits run 6 k h tt tt gk in
       rw (x0, x1, x2, gp.answer, x4, x5, x6, gn.answer, gf.answer)
 
-  pub marker-read : record { eol = a; sep = b; tab = c; pos = p; needles = i ∷ j ∷ k ∷ []; nn = n; streaming = eqb f 1 } ≡ marker_from (cells run)
+  pub marker-read : record { eol = a; sep = b; tab = c; pos = p; needles = i ∷ j ∷ k ∷ []; nn = n; streaming = eqb f 1; kind = record {} } ≡ marker_from (cells run)
   unfolding item_read
   marker-read = ap (marker.scanner).made item-read
 
-  pub numbered-read : record { eol = a; sep = b; tab = c; pos = p; needles = i ∷ j ∷ k ∷ []; nn = n; streaming = eqb f 1 } ≡ numbered_from (cells run)
+  pub numbered-read : record { eol = a; sep = b; tab = c; pos = p; needles = i ∷ j ∷ k ∷ []; nn = n; streaming = eqb f 1; kind = record {} } ≡ numbered_from (cells run)
   unfolding item_read
   numbered-read = ap (numbered.scanner).made item-read
 
