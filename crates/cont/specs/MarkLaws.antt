@@ -37,7 +37,7 @@ module _ (m : Framing) (s : List ℕ) where
   unfolding mark_at
   mark_here e p y h g = record { answer = rw (lt-ltb p e h) g.answer }
 
-  pub mark-past : (e p : ℕ) → e ≤ p → Gives (mark_at m s e p) false
+  pub mark-past : (e p : ℕ) → e ≤ p → Gives (mark_at m s e p) (ltb p e)
   unfolding mark_at
   mark-past e p h = record { answer = rw (le-ltb p e h) }
 

@@ -1,5 +1,5 @@
 -- Laws of the step, the rules of the functions that make it, and that its promise leaves one result. Assumes nothing.
-use Rattle.std.specs.Prelude.{◌≡◌, List, Bool, true, false, ℕ, ◌-◌, ◌≤◌, ◌<◌, min, ltb, length, replicate, Err, None, Ok}
+use Rattle.std.specs.Prelude.{◌≡◌, refl, List, Bool, true, false, ◌||◌, ℕ, ◌-◌, ◌≤◌, ◌<◌, min, ltb, length, replicate, Err, None, Ok}
 use Rattle.std.proofs.Common.{sym, ap, ◌∙◌}
 use borrow.Author.Tests.{lt-ltb, le-ltb, ltb-false}
 use Rattle.search.specs.Promise.{Gives, Steps, steps_unique}
@@ -10,41 +10,35 @@ use Rattle.search.specs.SearchLaws.{neither}
 use Rattle.common.specs.Turn.{Step, yields, ends}
 use Rattle.common.specs.declared.span.Span.{Span}
 use Rattle.common.specs.declared.refusal.Refusal.TheVariants.{TextTooLong, PlaceOutside}
+use Rattle.cont.specs.declared.Framing.{Framing}
 use Rattle.cont.specs.declared.Closed.{Closed}
 use Rattle.cont.specs.declared.ContIter.{ContIter}
 use Rattle.cont.specs.declared.ContStep.{ContStep}
 use Rattle.cont.specs.Frames.{frame}
 use Rattle.common.specs.Entry.{put_at}
-use Rattle.cont.specs.Cont.{Counts, framing_of, closed_frames, first_shut, standing, changed, drained, drained_or_end, stepped, span_of, state_of, misplaced_by, misplaced, answer, state, fresh}
-use Rattle.cont.specs.Steps.{Scanned, Served, Kept}
+use Rattle.cont.specs.Cont.{framing_of, closed_frames, first_shut, standing, changed, drained, drained_or_end, stepped, span_of, state_of, misplaced_by, misplaced, answer, state, fresh}
+use Rattle.cont.specs.Steps.{closed_view, Scanned, Served, Kept}
 use Rattle.cont.specs.TurnLaws.{closing-length}
 
--- ---- the tests of a state
-module _ (c : Counts) where
-  pub misplaced_pos : c.len < c.pos → Gives (misplaced_by c) true
+-- ---- the tests of a state, one behind the other: a test that holds is the answer, else the next is
+pub or_holds : {x t : Bool} (y : Bool) → x ≡ true → t ≡ x → t ≡ (x || y)
+or_holds y e f = rw e (f ∙ e)
+
+pub or_next : {x y t : Bool} → x ≡ false → t ≡ y → t ≡ (x || y)
+or_next e f = rw e f
+
+module _ (g : ContIter) (s : List ℕ) (a b c : Bool) (ea : a ≡ (ltb (length s) g.pos || ltb 32 g.cap)) (eb : b ≡ (a || ltb 32 g.open_len)) (ec : c ≡ (b || ltb 32 g.pending_len)) where
+  tests : misplaced g s ≡ (c || ltb g.pending_len g.pending_idx)
   unfolding misplaced_by
-  misplaced_pos a = record { answer = simp (lt-ltb c.len c.pos a) }
+  tests = rw (ec, eb, ea)
 
-  module _ (inside : c.pos ≤ c.len) where
-    pub misplaced_cap : 32 < c.cap → Gives (misplaced_by c) true
-    unfolding misplaced_by
-    misplaced_cap b = record { answer = simp (le-ltb c.len c.pos inside, lt-ltb 32 c.cap b) }
+  pub misplaced_before : c ≡ true → c ≡ misplaced g s
+  misplaced_before e = or_holds (ltb g.pending_len g.pending_idx) e refl ∙ sym tests
 
-    module _ (nests : c.cap ≤ 32) where
-      pub misplaced_open : 32 < c.open_len → Gives (misplaced_by c) true
-      unfolding misplaced_by
-      misplaced_open h = record { answer = simp (le-ltb c.len c.pos inside, le-ltb 32 c.cap nests, lt-ltb 32 c.open_len h) }
-
-      module _ (opens : c.open_len ≤ 32) where
-        pub misplaced_pending : 32 < c.pending_len → Gives (misplaced_by c) true
-        unfolding misplaced_by
-        misplaced_pending d = record { answer = simp (le-ltb c.len c.pos inside, le-ltb 32 c.cap nests, le-ltb 32 c.open_len opens, lt-ltb 32 c.pending_len d) }
-
-        pub misplaced_last : c.pending_len ≤ 32 → Gives (misplaced_by c) (ltb c.pending_len c.pending_idx)
-        unfolding misplaced_by
-        misplaced_last d = record { answer = simp (le-ltb c.len c.pos inside, le-ltb 32 c.cap nests, le-ltb 32 c.open_len opens, le-ltb 32 c.pending_len d) }
-
-pub ruleset misplaced_rules = (misplaced_pos, misplaced_cap, misplaced_open, misplaced_pending, misplaced_last)
+-- the last test
+pub misplaced_last : (g : ContIter) (s : List ℕ) → g.pos ≤ length s → g.cap ≤ 32 → g.open_len ≤ 32 → g.pending_len ≤ 32 → Gives (misplaced g s) (ltb g.pending_len g.pending_idx)
+unfolding misplaced_by
+misplaced_last g s inside nests opens waits = record { answer = simp (le-ltb (length s) g.pos inside, le-ltb 32 g.cap nests, le-ltb 32 g.open_len opens, le-ltb 32 g.pending_len waits) }
 
 -- the state that the code has once the closed frames r, which are p, are pending, with the cells o
 abbrev filled : ContIter → Closed → List ℕ → List Span → ContIter
@@ -69,7 +63,7 @@ module _ (g : ContIter) (s : List ℕ) where
 
   unrefused : Served g s → misplaced g s ≡ false
   unrefused v =
-      sym (misplaced_last _ v.inside v.nests v.opens v.waits).answer
+      sym (misplaced_last g s v.inside v.nests v.opens v.waits).answer
       ∙ le-ltb g.pending_len g.pending_idx v.drawn
 
   -- ---- the step, by the ways that it takes
@@ -77,11 +71,16 @@ module _ (g : ContIter) (s : List ℕ) where
   unfolding stepped
   step_drains h w = record { answer = rw (lt-ltb g.pending_idx g.pending_len h) w.answer; next = rw (lt-ltb g.pending_idx g.pending_len h) w.next }
 
-  module _ {o : List ℕ} {r : Closed} {p : List Span} (h : g.pending_len ≤ g.pending_idx) (w : Scanned (first_shut (framing_of g) s (standing g)) (length s) o r) (f : Gives (put_at 0 (closed_frames o r.end r.from (r.held - r.from)) g.pending) p) where
+  -- what the scan is asked for
+  pub framed : {m : Framing} → Gives (framing_of g) m → Served g s → m.cap ≤ 32
+  framed a v = rw a.answer v.nests
+
+  module _ {o : List ℕ} {r : Closed} {p : List Span} {m : Framing} (h : g.pending_len ≤ g.pending_idx) (a : Gives (framing_of g) m) (w : Scanned (first_shut m s (standing g)) (length s) o r) (f : Gives (put_at 0 (closed_frames o r.end r.from (r.held - r.from)) g.pending) p) where
     refills : stepped g s ≡ drained_or_end (filled g r o p)
     unfolding stepped
     refills =
-        rw (le-ltb g.pending_idx g.pending_len h, ← w.tells, f.answer) (ap (λ (k : ℕ). drained_or_end (changed g (record { pos = r.pos; «open» = o; open_len = r.from; pending = put_at 0 (closed_frames o r.end r.from (r.held - r.from)) g.pending; pending_len = k; pending_idx = 0 }))) (closing-length o r.end r.from (r.held - r.from)))
+        let t : closed_view o r ≡ first_shut (framing_of g) s (standing g) = w.tells ∙ ap (λ (m : Framing). first_shut m s (standing g)) a.answer in
+        rw (le-ltb g.pending_idx g.pending_len h, ← t, f.answer) (ap (λ (k : ℕ). drained_or_end (changed g (record { pos = r.pos; «open» = o; open_len = r.from; pending = put_at 0 (closed_frames o r.end r.from (r.held - r.from)) g.pending; pending_len = k; pending_idx = 0 }))) (closing-length o r.end r.from (r.held - r.from)))
 
     pub step_closes : {x : Outcome} {n : ContIter} → 0 < r.held - r.from → Steps (span_of (drained (filled g r o p))) (state_of (drained (filled g r o p))) x n → Steps (span_of (stepped g s)) (state_of (stepped g s)) x n
     step_closes i v =

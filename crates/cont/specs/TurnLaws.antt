@@ -43,14 +43,31 @@ module _ {o : List ℕ} {from n e : ℕ} {old : List Span} where
   closing-first = record { cells = refl; sum = omega arith }
 
   module _ {new : List Span} {i k : ℕ} (w : Closing o from n e old new i k) where
-    pub closing_again : from < i → Closing o from n e old (set new k (frame (get_or o (i - 1) 0) e)) (i - 1) (k + 1)
+    closing_again : from < i → Closing o from n e old (set new k (frame (get_or o (i - 1) 0) e)) (i - 1) (k + 1)
     closing_again h =
         record { cells = ap (λ (x : List Span). put_at k x new) (sym (closing-next o e from i h)) ∙ w.cells; sum = omega (arith, w.sum) }
 
-    pub closing_end : i ≤ from → Gives (put_at 0 (closed_frames o e from (n - from)) old) new
+    closing_end : i ≤ from → Gives (put_at 0 (closed_frames o e from (n - from)) old) new
     closing_end h =
         let z : i - from ≡ 0 = omega arith in
         record { answer = ap (λ (x : ℕ). put_at k (closed_frames o e from x) new) (sym z) ∙ w.cells }
+
+-- the k-th cell gets the k-th frame from the innermost on
+abbrev pub ClosingAt : List ℕ → ℕ → ℕ → ℕ → List Span → List Span → ℕ → Type 0
+ClosingAt o from n e old new k = Closing o from n e old new (n - k) k
+
+pub closing_start : {o : List ℕ} {from n e : ℕ} {old : List Span} → ClosingAt o from n e old old 0
+closing_start {n = n} = let z : n - 0 ≡ n = omega arith in rw z closing-first
+
+module _ {o : List ℕ} {from n e : ℕ} {old new : List Span} {k : ℕ} (w : ClosingAt o from n e old new k) where
+  pub closing_on : k < n - from → ClosingAt o from n e old (set new k (frame (get_or o (n - 1 - k) 0) e)) (k + 1)
+  closing_on h =
+      let x : n - 1 - k ≡ n - k - 1 = omega arith in
+      let y : n - (k + 1) ≡ n - k - 1 = omega arith in
+      rw (x, y) (closing_again w (omega arith))
+
+  pub closing_all : n - from ≤ k → Gives (put_at 0 (closed_frames o e from (n - from)) old) new
+  closing_all h = closing_end w (omega arith)
 
 -- ---- turns
 pick_yes : (y : Bool) (a b t : FrameTurn) → y ≡ true → t ≡ a → t ≡ cond y a b

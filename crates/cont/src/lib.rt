@@ -14,13 +14,13 @@ ghost use Rattle.search.specs.Search.{Sought, is};
 ghost use Rattle.common.specs.Refusals.{told_span};
 ghost use Rattle.cont.specs.Frames.{mark_at, after_mark, marks_from};
 ghost use Rattle.common.specs.Entry.{put_at};
-ghost use Rattle.cont.specs.Cont.{fresh, stand, closed_frames, turn_on_line, next_turn, first_shut, misplaced_by, drained, stepped, span_of, state_of, answer, state};
+ghost use Rattle.cont.specs.Cont.{fresh, stand, closed_frames, turn_on_line, next_turn, first_shut, framing_of, misplaced, drained, stepped, span_of, state_of, answer, state};
 ghost use Rattle.cont.specs.Steps.{Peels, Opens, FrameTurned, Scanned, Served};
 
 use common::refusal::Refusal;
 use common::span::{MAX_INPUT_LEN, Span};
 use find::find_byte;
-use search::{is_at, is_blank, lesser, line_start, next_line};
+use search::{is_at, is_blank, line_start, next_line};
 
 // What a frame is read by: the marker byte, the line end, the separator and the tab that a marker may take, and the cap.
 #[derive(Clone, Copy)]
@@ -33,7 +33,8 @@ pub struct Framing {
 }
 
 // The fields of the Rust's iterator; the text is lent beside it. The open frames are the first `open_len` cells of `open`,
-// outermost first; the closed frames that wait are the cells of `pending` from `pending_idx` up to `pending_len`.
+// outermost first; the closed frames that wait are the cells of `pending` from `pending_idx` up to `pending_len`. C hands a state
+// over cell by cell, so each buffer stands whole beside its count.
 #[derive(Clone, Copy)]
 pub struct ContIter {
     pub byte: u8,
@@ -85,10 +86,7 @@ struct Closed {
 fn marker_at(src: &[u8], m: Framing, p: usize, le: usize) -> bool
     ensures { Gives (mark_at m src.now le p) result }
 {
-    if p < le {
-        return is_at(src, p, m.byte);
-    }
-    false
+    p < le && is_at(src, p, m.byte)
 }
 
 // The place just past a marker at `p`: the marker byte and one optional separator or tab.
@@ -97,13 +95,11 @@ fn consume_marker(src: &[u8], m: Framing, p: usize, le: usize) -> usize
     requires le_in_bounds { le ≤ length src.now }
     ensures { Gives (after_mark m src.now le p) result }
 {
-    if p + 1 < le {
-        if is_blank(src[p + 1], m.sep, m.tab) {
-            return p + 2;
-        }
-        return p + 1;
+    if p + 1 < le && is_blank(src[p + 1], m.sep, m.tab) {
+        p + 2
+    } else {
+        p + 1
     }
-    p + 1
 }
 
 // How many of the `held` open frames have their marker on the line that begins at `ls`.
@@ -112,16 +108,12 @@ fn peel(src: &[u8], m: Framing, ls: usize, le: usize, held: usize) -> Peeled
     ensures { Peels m src.now le ls held result }
 {
     let mut cur = ls;
-    let mut fi = 0;
-    while fi < held {
-        if marker_at(src, m, cur, le) {
-            cur = consume_marker(src, m, cur, le);
-            fi += 1;
-        } else {
-            return Peeled { count: fi, cur };
-        }
+    let mut count = 0;
+    while count < held && marker_at(src, m, cur, le) {
+        cur = consume_marker(src, m, cur, le);
+        count += 1;
     }
-    Peeled { count: fi, cur }
+    Peeled { count, cur }
 }
 
 // Further markers from `from` on open new frames, up to the cap; markers past it are ordinary content. The count of open frames
@@ -141,15 +133,10 @@ fn open_from(
 {
     let mut cur = from;
     let mut n = held;
-    while n < m.cap {
-        if marker_at(src, m, cur, le) {
-            let next = consume_marker(src, m, cur, le);
-            open[n] = cur as u32;
-            n += 1;
-            cur = next;
-        } else {
-            return n;
-        }
+    while n < m.cap && marker_at(src, m, cur, le) {
+        open[n] = cur as u32;
+        n += 1;
+        cur = consume_marker(src, m, cur, le);
     }
     n
 }
@@ -172,12 +159,11 @@ fn line_turn(
 {
     let le = find_byte(src, ls, m.eol);
     let n = next_line(src.len(), le);
-    let peeled = peel(src, m, ls, le, held);
-    let count = peeled.count;
+    let Peeled { count, cur } = peel(src, m, ls, le, held);
     if count < held {
         return Turn::Close(count, ls, n);
     }
-    Turn::Go(n, open_from(src, m, peeled.cur, le, open, held))
+    Turn::Go(n, open_from(src, m, cur, le, open, held))
 }
 
 // The next marker byte at or after `pos`, else the length. A hit at the place itself needs no search.
@@ -185,9 +171,10 @@ fn next_marker(src: &[u8], pos: usize, byte: u8) -> usize
     ensures { Sought (is byte) src.now pos result }
 {
     if is_at(src, pos, byte) {
-        return pos;
+        pos
+    } else {
+        find_byte(src, pos, byte)
     }
-    find_byte(src, pos, byte)
 }
 
 // With frames open, `pos` is the start of the line that must continue them: a line that does not begin with the marker closes
@@ -278,47 +265,18 @@ fn close_from(
     end: u32,
     pending: [Span; ContIter::MAX_DEPTH],
 ) -> [Span; ContIter::MAX_DEPTH]
-    requires { held ≤ 32 }
+    requires ordered { from ≤ held }
+    requires held_bound { held ≤ 32 }
     ensures { Gives (put_at 0 (closed_frames «open».now end from (held - from)) pending) result }
 {
     let mut out = pending;
-    let mut i = held;
-    let mut n = 0;
-    while from < i {
-        i -= 1;
+    for n in 0..held - from {
         out[n] = Span {
-            start: open[i],
+            start: open[held - 1 - n],
             end,
         };
-        n += 1;
     }
     out
-}
-
-// Whether a place is past the text, a cap or a count over 32, or the pending index over the pending count.
-fn is_misplaced(len: usize, pos: usize, cap: usize, open: usize, pending: usize, idx: usize) -> bool
-    ensures { Gives (misplaced_by (record {
-      len = len;
-      pos = pos;
-      cap = cap;
-      open_len = «open»;
-      pending_len = pending;
-      pending_idx = idx;
-    })) result }
-{
-    if len < pos {
-        return true;
-    }
-    if ContIter::MAX_DEPTH < cap {
-        return true;
-    }
-    if ContIter::MAX_DEPTH < open {
-        return true;
-    }
-    if ContIter::MAX_DEPTH < pending {
-        return true;
-    }
-    pending < idx
 }
 
 impl ContIter {
@@ -332,7 +290,7 @@ impl ContIter {
             eol,
             sep,
             tab,
-            cap: lesser(nest, ContIter::MAX_DEPTH),
+            cap: nest.min(ContIter::MAX_DEPTH),
             pos: 0,
             open: [0u32; ContIter::MAX_DEPTH],
             open_len: 0,
@@ -342,6 +300,30 @@ impl ContIter {
         }
     }
 
+    // What a frame of this state is read by.
+    fn framing(self) -> Framing
+        ensures { Gives (framing_of self) result }
+    {
+        Framing {
+            byte: self.byte,
+            eol: self.eol,
+            sep: self.sep,
+            tab: self.tab,
+            cap: self.cap,
+        }
+    }
+
+    // Whether the place is past the text, the cap or a count over 32, or the pending index over the pending count.
+    fn is_misplaced(self, src: &[u8]) -> bool
+        ensures { Gives (misplaced self src.now) result }
+    {
+        src.len() < self.pos
+            || ContIter::MAX_DEPTH < self.cap
+            || ContIter::MAX_DEPTH < self.open_len
+            || ContIter::MAX_DEPTH < self.pending_len
+            || self.pending_len < self.pending_idx
+    }
+
     // The next pending frame.
     fn drain(self) -> ContStep
         requires pending_idx_bound { self.pending_idx < self.pending_len }
@@ -349,12 +331,12 @@ impl ContIter {
         ensures { Steps (span_of (drained self)) (state_of (drained self)) (told_span result.found) result.next }
     {
         let idx = self.pending_idx;
-        let span = self.pending[idx];
-        let mut next = self;
-        next.pending_idx = idx + 1;
         ContStep {
-            found: Ok(Some(span)),
-            next,
+            found: Ok(Some(self.pending[idx])),
+            next: ContIter {
+                pending_idx: idx + 1,
+                ..self
+            },
         }
     }
 
@@ -367,25 +349,24 @@ impl ContIter {
         if self.pending_idx < self.pending_len {
             return self.drain();
         }
-        let m = Framing {
-            byte: self.byte,
-            eol: self.eol,
-            sep: self.sep,
-            tab: self.tab,
-            cap: self.cap,
-        };
         let mut open = self.open;
-        let closed = scan(src, m, self.pos, &mut open, self.open_len);
-        let old = self.pending;
-        let pending = close_from(&open, closed.from, closed.held, closed.end as u32, old);
-        let count = closed.held - closed.from;
-        let mut next = self;
-        next.pos = closed.pos;
-        next.open = open;
-        next.open_len = closed.from;
-        next.pending = pending;
-        next.pending_len = count;
-        next.pending_idx = 0;
+        let Closed {
+            from,
+            held,
+            end,
+            pos,
+        } = scan(src, self.framing(), self.pos, &mut open, self.open_len);
+        let pending = close_from(&open, from, held, end as u32, self.pending);
+        let count = held - from;
+        let next = ContIter {
+            pos,
+            open,
+            open_len: from,
+            pending,
+            pending_len: count,
+            pending_idx: 0,
+            ..self
+        };
         if 0 < count {
             return next.drain();
         }
@@ -404,14 +385,7 @@ impl ContIter {
                 next: self,
             };
         }
-        if is_misplaced(
-            src.len(),
-            self.pos,
-            self.cap,
-            self.open_len,
-            self.pending_len,
-            self.pending_idx,
-        ) {
+        if self.is_misplaced(src) {
             return ContStep {
                 found: Err(Refusal::PlaceOutside),
                 next: self,

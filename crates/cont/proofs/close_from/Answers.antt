@@ -1,12 +1,12 @@
 -- `close_from` meets its contract: the innermost frame is stored first. Assumes nothing.
-use Rattle.cont.specs.TurnLaws.{closing-first, closing_again, closing_end}
+use Rattle.cont.specs.TurnLaws.{closing_start, closing_on, closing_all}
 use Rattle.cont.proofs.close_from.Goals as goal
 
-pub loop-i-init : goal.loop-i-init
-loop-i-init c = search closing-first
+pub loop-n-init : goal.loop-n-init
+loop-n-init c = search closing_start
 
-pub loop-i-preserved : goal.loop-i-preserved
-loop-i-preserved c = search closing_again
+pub loop-n-preserved : goal.loop-n-preserved
+loop-n-preserved c = search closing_on
 
 pub returns : goal.returns
-returns c = search closing_end
+returns c = search closing_all

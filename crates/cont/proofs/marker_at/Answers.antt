@@ -5,5 +5,5 @@ use Rattle.cont.proofs.marker_at.Goals as goal
 pub returns-then-p-le : goal.returns-then-p-le
 returns-then-p-le c = search mark_here
 
-pub returns : goal.returns
-returns c = search mark-past
+pub returns-else-p-le : goal.returns-else-p-le
+returns-else-p-le c = search mark-past

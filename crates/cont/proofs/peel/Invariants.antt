@@ -3,8 +3,8 @@ use Prim.Native.Nat.{◌-◌}
 use Rattle.cont.specs.MarkLaws.{Peeling}
 use Rattle.cont.proofs.peel.Given as goal
 
-abbrev pub invariant-loop-fi : goal.invariant-loop-fi
-invariant-loop-fi l = Peeling l.m l.src l.le l.ls l.held l.fi l.cur
+abbrev pub invariant-loop-count : goal.invariant-loop-count
+invariant-loop-count l = Peeling l.m l.src l.le l.ls l.held l.count l.cur
 
-abbrev pub decreases-loop-fi : goal.decreases-loop-fi
-decreases-loop-fi l = l.held - l.fi
+abbrev pub decreases-loop-count : goal.decreases-loop-count
+decreases-loop-count l = l.held - l.count
