@@ -36,7 +36,7 @@ module _ {S A : Type 0} (c : Scanner S A) where
   fresh-told eol sep tab set p g = record { answer = ap (λ (p : Probe). c.made (probed eol sep tab p)) g.answer }
 
   module _ (g : S) (set : List Bool) (s : List ℕ) where
-    module _ (q : ℕ) (t : Turn A) (eol sep tab : ℕ) (lost : List ℕ) where
+    module _ (q : ℕ) (t : Turn A) (eol sep tab lost : ℕ) where
       pub turn_stream : (c.fields g).streaming ≡ true → Looked eol sep tab s (c.streams (by_needles (c.fields g)) s q) t lost → Looked eol sep tab s (turn c g set s q) t lost
       unfolding turn
       turn_stream e w = record { turn = record { answer = rw e w.turn.answer }; left = w.left }

@@ -8,12 +8,12 @@ ghost use Rattle.json_file.specs.ByteRecords.{span_bytes, WroteBytes, ReadBytes}
 
 use crate::Unread;
 use crate::check::check;
-use crate::layout::{cell_layout_fits, put_cells};
+use crate::layout::{layout_fits, put_list};
 use crate::rows::pour_rows;
-use cover::shape::is_misshapen;
 use cells::{ROW, reply};
 use common::refusal::Refusal;
 use common::span::MAX_INPUT_LEN;
+use cover::shape::is_misshapen;
 
 // How many numbers 32 bits tell apart.
 const WORD: usize = 4294967296;
@@ -35,8 +35,8 @@ pub fn write_bytes(list: &[u8], count: usize, out: &mut [u8], answer: &mut [u8])
         return 5;
     }
     if 2 < reply::room_of(answer.len()) {
-        if cell_layout_fits(list, count, out.len()) {
-            let size = put_cells(list, count, out);
+        if layout_fits(list, count, out.len()) {
+            let size = put_list(list, count, out);
             let all = [size % WORD, size / WORD];
             return reply::values(&all, answer);
         }

@@ -1,15 +1,16 @@
 // Our one layout of a list, put into a run as far as it reaches: so that the same code counts and writes.
-ghost use Rattle.std.specs.Prelude.{◌≡◌, false, [], ◌∷◌, ◌++◌, ◌≤◌, leb, length};
+ghost use Rattle.std.specs.Prelude.{ℕ, ◌≡◌, false, [], ◌∷◌, ◌++◌, ◌≤◌, leb, length};
 ghost use Rattle.search.specs.Promise.{Gives};
 ghost use Rattle.decimal.specs.Decimal.{decimal};
 ghost use Rattle.cover.specs.Shape.{misshapen};
-ghost use Rattle.cells.specs.Bytes.{cells};
 ghost use Rattle.put.specs.Put.{Put, LaidWithin};
 ghost use Rattle.json_file.specs.Layout.{start_lead, end_lead, object_of, objects_of, lead_of, layout};
 ghost use Rattle.json_file.specs.Grammar.{greatest};
 ghost use Rattle.json_file.specs.Records.{regions_of};
 
+use cells::Piece;
 use common::span::Span;
+use cover::shape::region_at;
 use put::{put_bytes, put_number};
 
 // No object has more bytes, with the comma before it.
@@ -73,73 +74,35 @@ fn put_region(out: &mut [u8], n: usize, k: usize, region: Span) -> usize
 }
 
 // The objects of the first `count` regions from place 1 on, and the next place.
-fn put_objects(list: &[u32], count: usize, out: &mut [u8]) -> usize
-    requires { misshapen list.now count greatest ≡ false }
-    ensures { LaidWithin 200000000000 (objects_of (regions_of count list.now)) 1 out.old out.new result }
+fn put_objects<T: Piece>(list: &[T], count: usize, out: &mut [u8]) -> usize
+    requires { misshapen (T.numbers list.now) count greatest ≡ false }
+    ensures { LaidWithin 200000000000 (objects_of (regions_of count (T.numbers list.now))) 1 out.old out.new result }
 {
     let mut n = 1;
-    let mut k = 0;
-    while k < count {
-        n = put_region(out, n, k, cover::shape::region_at(list, k));
-        k += 1;
-    }
-    n
-}
-
-// The same of a list in bytes.
-fn put_cell_objects(list: &[u8], count: usize, out: &mut [u8]) -> usize
-    requires { misshapen (cells list.now) count greatest ≡ false }
-    ensures { LaidWithin 200000000000 (objects_of (regions_of count (cells list.now))) 1 out.old out.new result }
-{
-    let mut n = 1;
-    let mut k = 0;
-    while k < count {
-        n = put_region(out, n, k, cover::shape::region_at(list, k));
-        k += 1;
+    for k in 0..count {
+        n = put_region(out, n, k, region_at(list, k));
     }
     n
 }
 
 // The layout of the first `count` regions from place 0 on, and how many bytes it has.
-pub(crate) fn put_list(list: &[u32], count: usize, out: &mut [u8]) -> usize
-    requires { misshapen list.now count greatest ≡ false }
-    ensures { Put (layout (regions_of count list.now)) 0 out.old out.new result }
+pub(crate) fn put_list<T: Piece>(list: &[T], count: usize, out: &mut [u8]) -> usize
+    requires { misshapen (T.numbers list.now) count greatest ≡ false }
+    ensures { Put (layout (regions_of count (T.numbers list.now))) 0 out.old out.new result }
 {
     put_byte(out, 0, b'[');
     let n = put_objects(list, count, out);
     put_byte(out, n, b']')
 }
 
-// The same of a list in bytes.
-pub(crate) fn put_cells(list: &[u8], count: usize, out: &mut [u8]) -> usize
-    requires { misshapen (cells list.now) count greatest ≡ false }
-    ensures { Put (layout (regions_of count (cells list.now))) 0 out.old out.new result }
-{
-    put_byte(out, 0, b'[');
-    let n = put_cell_objects(list, count, out);
-    put_byte(out, n, b']')
-}
-
 // Whether `len` bytes have room for the layout. Where it is surely enough, no counting pass runs.
-pub(crate) fn layout_fits(list: &[u32], count: usize, len: usize) -> bool
-    requires { misshapen list.now count greatest ≡ false }
-    ensures { Gives (leb (length (layout (regions_of count list.now))) len) result }
+pub(crate) fn layout_fits<T: Piece>(list: &[T], count: usize, len: usize) -> bool
+    requires { misshapen (T.numbers list.now) count greatest ≡ false }
+    ensures { Gives (leb (length (layout (regions_of count (T.numbers list.now)))) len) result }
 {
     if count * LONGEST + 2 <= len {
         return true;
     }
     let mut none = [0u8; 0];
     put_list(list, count, &mut none) <= len
-}
-
-// The same of a list in bytes.
-pub(crate) fn cell_layout_fits(list: &[u8], count: usize, len: usize) -> bool
-    requires { misshapen (cells list.now) count greatest ≡ false }
-    ensures { Gives (leb (length (layout (regions_of count (cells list.now)))) len) result }
-{
-    if count * LONGEST + 2 <= len {
-        return true;
-    }
-    let mut none = [0u8; 0];
-    put_cells(list, count, &mut none) <= len
 }

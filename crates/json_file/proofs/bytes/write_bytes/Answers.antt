@@ -5,14 +5,14 @@ use Rattle.json_file.proofs.bytes.write_bytes.Goals as goal
 pub returns-then-is_misshapen : goal.returns-then-is_misshapen
 returns-then-is_misshapen c = search bytes_wrong
 
-pub cell_layout_fits-requires : goal.cell_layout_fits-requires
-cell_layout_fits-requires c = search wrote_shaped
+pub layout_fits-requires : goal.layout_fits-requires
+layout_fits-requires c = search wrote_shaped
 
-pub put_cells-size-requires : goal.put_cells-size-requires
-put_cells-size-requires c = search wrote_shaped
+pub put_list-size-requires : goal.put_list-size-requires
+put_list-size-requires c = search wrote_shaped
 
-pub returns-then-cell_layout_fits : goal.returns-then-cell_layout_fits
-returns-then-cell_layout_fits c = search bytes_written
+pub returns-then-layout_fits : goal.returns-then-layout_fits
+returns-then-layout_fits c = search bytes_written
 
 pub returns-then-room_of-gt2 : goal.returns-then-room_of-gt2
 returns-then-room_of-gt2 c = search bytes_crowded

@@ -3,4 +3,4 @@ use Rattle.json_file.specs.WriteLaws.{list_put}
 use Rattle.json_file.proofs.layout.put_list.Goals as goal
 
 pub returns : goal.returns
-returns c = search list_put
+returns g c = search list_put
