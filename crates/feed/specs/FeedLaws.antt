@@ -99,20 +99,20 @@ module _ (set : List Bool) (s : List ℕ) where
 
 -- ---- which is next
 module _ (a b : Option SheetItem) (x y : SheetItem) where
-  pub pick_number : a ≡ Some x → b ≡ Some y → y.start < x.start → pick.Number y ≡ picked a b
+  pub pick_number : a ≡ Some x → b ≡ Some y → y.start < x.start → Some (pick.Number y) ≡ picked a b
   pick_number e f h = rw (e, f, lt-ltb y.start x.start h)
 
-  pub pick-mark : a ≡ Some x → b ≡ Some y → x.start ≤ y.start → pick.Mark x ≡ picked a b
+  pub pick-mark : a ≡ Some x → b ≡ Some y → x.start ≤ y.start → Some (pick.Mark x) ≡ picked a b
   pick-mark e f h = rw (e, f, le-ltb y.start x.start h)
 
 module _ (a b : Option SheetItem) (x : SheetItem) where
-  pub pick_only_mark : a ≡ Some x → b ≡ None → pick.Mark x ≡ picked a b
+  pub pick_only_mark : a ≡ Some x → b ≡ None → Some (pick.Mark x) ≡ picked a b
   pick_only_mark e f = rw (e, f)
 
-  pub pick_only_number : a ≡ None → b ≡ Some x → pick.Number x ≡ picked a b
+  pub pick_only_number : a ≡ None → b ≡ Some x → Some (pick.Number x) ≡ picked a b
   pick_only_number e f = rw (e, f)
 
-pub pick_neither : (a b : Option SheetItem) → a ≡ None → b ≡ None → pick.Neither ≡ picked a b
+pub pick_neither : (a b : Option SheetItem) → a ≡ None → b ≡ None → None ≡ picked a b
 pick_neither a b e f = rw (e, f)
 
 pub ruleset pick_rules = (pick_number, pick-mark, pick_only_mark, pick_only_number, pick_neither)
@@ -144,16 +144,16 @@ each_merge P (x ∷ xs) (y ∷ ys) v w = by (each_merge P (x ∷ xs) ys v w.1) (
     by f g (inr u) = rw (merge-mark x y xs ys u) (v.0, g)
 
 -- what is picked is the first of the merged items
-picks : Pick → List SheetItem → List SheetItem → List SheetItem → List SheetItem → List SheetItem
-picks (pick.Mark x) xs xxs ys yys = x ∷ merge xs yys
-picks (pick.Number y) xs xxs ys yys = y ∷ merge xxs ys
-picks pick.Neither xs xxs ys yys = []
+picks : Option Pick → List SheetItem → List SheetItem → List SheetItem → List SheetItem → List SheetItem
+picks (Some (pick.Mark x)) xs xxs ys yys = x ∷ merge xs yys
+picks (Some (pick.Number y)) xs xxs ys yys = y ∷ merge xxs ys
+picks None xs xxs ys yys = []
 
 merge_picks : (a b : Option SheetItem) (xs ys : List SheetItem) → merge (headed a xs) (headed b ys) ≡ picks (picked a b) xs (headed a xs) ys (headed b ys)
 unfolding picks merge
 merge_picks (Some x) (Some y) xs ys = by (decide (ltb y.start x.start))
   where
-    by : (ltb y.start x.start ≡ true) ⊎ (ltb y.start x.start ≡ false) → merge (x ∷ xs) (y ∷ ys) ≡ picks (cond (ltb y.start x.start) (pick.Number y) (pick.Mark x)) xs (x ∷ xs) ys (y ∷ ys)
+    by : (ltb y.start x.start ≡ true) ⊎ (ltb y.start x.start ≡ false) → merge (x ∷ xs) (y ∷ ys) ≡ picks (cond (ltb y.start x.start) (Some (pick.Number y)) (Some (pick.Mark x))) xs (x ∷ xs) ys (y ∷ ys)
     by (inl u) = merge_number x y xs ys u ∙ sym (rw u)
     by (inr u) = merge-mark x y xs ys u ∙ sym (rw u)
 merge_picks (Some x) None xs ys = ap (λ (k : List SheetItem). x ∷ k) (sym (merge_none xs))
@@ -167,50 +167,50 @@ pub record Took (markers delims : List Bool) (s : List ℕ) (f : Feed) (t : Take
 
 module _ (markers delims : List Bool) (s : List ℕ) (f : Feed) where
   -- the ways out of the function that takes it
-  pub take-mark : (p : Pick) (x : SheetItem) (m : Ahead Marker) → p ≡ pick.Mark x → Gives (picked f.marks.head f.numbers.head) p → Gives (marks_after markers s f.marks.rest) m
+  pub take-mark : (p : Option Pick) (x : SheetItem) (m : Ahead Marker) → p ≡ Some (pick.Mark x) → Gives (picked f.marks.head f.numbers.head) p → Gives (marks_after markers s f.marks.rest) m
       → Gives (taken markers delims s f) (record { head = Some x; rest = record { marks = m; numbers = f.numbers } })
   unfolding taken
   take-mark p x m e g w =
-      let u : picked f.marks.head f.numbers.head ≡ pick.Mark x = sym g.answer ∙ e in
+      let u : picked f.marks.head f.numbers.head ≡ Some (pick.Mark x) = sym g.answer ∙ e in
       record { answer = rw (u, w.answer) }
 
-  pub take_number : (p : Pick) (y : SheetItem) (m : Ahead Numbered) → p ≡ pick.Number y → Gives (picked f.marks.head f.numbers.head) p → Gives (numbers_after delims s f.numbers.rest) m
+  pub take_number : (p : Option Pick) (y : SheetItem) (m : Ahead Numbered) → p ≡ Some (pick.Number y) → Gives (picked f.marks.head f.numbers.head) p → Gives (numbers_after delims s f.numbers.rest) m
       → Gives (taken markers delims s f) (record { head = Some y; rest = record { marks = f.marks; numbers = m } })
   unfolding taken
   take_number p y m e g w =
-      let u : picked f.marks.head f.numbers.head ≡ pick.Number y = sym g.answer ∙ e in
+      let u : picked f.marks.head f.numbers.head ≡ Some (pick.Number y) = sym g.answer ∙ e in
       record { answer = rw (u, w.answer) }
 
-  pub take_none : (p : Pick) → p ≡ pick.Neither → Gives (picked f.marks.head f.numbers.head) p → Gives (taken markers delims s f) (record { head = None; rest = f })
+  pub take_none : (p : Option Pick) → p ≡ None → Gives (picked f.marks.head f.numbers.head) p → Gives (taken markers delims s f) (record { head = None; rest = f })
   unfolding taken
   take_none p e g =
-      let u : picked f.marks.head f.numbers.head ≡ pick.Neither = sym g.answer ∙ e in
+      let u : picked f.marks.head f.numbers.head ≡ None = sym g.answer ∙ e in
       record { answer = rw u }
 
   -- by the head that is next: what both have before them
-  by_pick : (p : Pick) → picked f.marks.head f.numbers.head ≡ p
+  by_pick : (p : Option Pick) → picked f.marks.head f.numbers.head ≡ p
       → ahead markers delims s f ≡ picks p (mark_items_from f.marks.rest markers s) (headed f.marks.head (mark_items_from f.marks.rest markers s)) (numbered_items_from f.numbers.rest delims s) (headed f.numbers.head (numbered_items_from f.numbers.rest delims s))
   unfolding ahead
   by_pick p e =
       let xs = mark_items_from f.marks.rest markers s in
       let ys = numbered_items_from f.numbers.rest delims s in
-      merge_picks f.marks.head f.numbers.head xs ys ∙ ap (λ (k : Pick). picks k xs (headed f.marks.head xs) ys (headed f.numbers.head ys)) e
+      merge_picks f.marks.head f.numbers.head xs ys ∙ ap (λ (k : Option Pick). picks k xs (headed f.marks.head xs) ys (headed f.numbers.head ys)) e
 
-  took_by : (p : Pick) → picked f.marks.head f.numbers.head ≡ p → Within f (length s) → Took markers delims s f (taken_by markers delims s p f)
+  took_by : (p : Option Pick) → picked f.marks.head f.numbers.head ≡ p → Within f (length s) → Took markers delims s f (taken_by markers delims s p f)
   unfolding ahead picks
-  took_by (pick.Mark x) e w =
+  took_by (Some (pick.Mark x)) e w =
       let l = mark-first markers s w.short f.marks.rest w.marks in
       record {
-        same = by_pick (pick.Mark x) e ∙ ap (λ (k : List SheetItem). x ∷ merge k (headed f.numbers.head (numbered_items_from f.numbers.rest delims s))) l.same;
+        same = by_pick (Some (pick.Mark x)) e ∙ ap (λ (k : List SheetItem). x ∷ merge k (headed f.numbers.head (numbered_items_from f.numbers.rest delims s))) l.same;
         within = record { marks = l.inside; numbers = w.numbers; short = w.short };
       }
-  took_by (pick.Number y) e w =
+  took_by (Some (pick.Number y)) e w =
       let l = number_first delims s w.short f.numbers.rest w.numbers in
       record {
-        same = by_pick (pick.Number y) e ∙ ap (λ (k : List SheetItem). y ∷ merge (headed f.marks.head (mark_items_from f.marks.rest markers s)) k) l.same;
+        same = by_pick (Some (pick.Number y)) e ∙ ap (λ (k : List SheetItem). y ∷ merge (headed f.marks.head (mark_items_from f.marks.rest markers s)) k) l.same;
         within = record { marks = w.marks; numbers = l.inside; short = w.short };
       }
-  took_by pick.Neither e w = record { same = by_pick pick.Neither e; within = w }
+  took_by None e w = record { same = by_pick None e; within = w }
 
   -- what is taken is the first of the items ahead
   pub took : (t : Taken) → Gives (taken markers delims s f) t → Within f (length s) → Took markers delims s f t

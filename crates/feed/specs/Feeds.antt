@@ -48,18 +48,18 @@ fresh_feed g markers delims s = record {
 }
 
 -- which head is next: the one that starts first, the marker's where both start at one place
-abbrev pub picked : Option SheetItem → Option SheetItem → Pick
-picked (Some x) (Some y) = cond (ltb y.start x.start) (pick.Number y) (pick.Mark x)
-picked (Some x) None = pick.Mark x
-picked None (Some y) = pick.Number y
-picked None None = pick.Neither
+abbrev pub picked : Option SheetItem → Option SheetItem → Option Pick
+picked (Some x) (Some y) = cond (ltb y.start x.start) (Some (pick.Number y)) (Some (pick.Mark x))
+picked (Some x) None = Some (pick.Mark x)
+picked None (Some y) = Some (pick.Number y)
+picked None None = None
 
 module _ (markers delims : List Bool) (s : List ℕ) where
   -- that head, and its scanner moved on
-  abbrev pub taken_by : Pick → Feed → Taken
-  taken_by (pick.Mark x) f = record { head = Some x; rest = record { marks = marks_after markers s f.marks.rest; numbers = f.numbers } }
-  taken_by (pick.Number y) f = record { head = Some y; rest = record { marks = f.marks; numbers = numbers_after delims s f.numbers.rest } }
-  taken_by pick.Neither f = record { head = None; rest = f }
+  abbrev pub taken_by : Option Pick → Feed → Taken
+  taken_by (Some (pick.Mark x)) f = record { head = Some x; rest = record { marks = marks_after markers s f.marks.rest; numbers = f.numbers } }
+  taken_by (Some (pick.Number y)) f = record { head = Some y; rest = record { marks = f.marks; numbers = numbers_after delims s f.numbers.rest } }
+  taken_by None f = record { head = None; rest = f }
 
   unfoldable pub taken : Feed → Taken
   taken f = taken_by (picked f.marks.head f.numbers.head) f

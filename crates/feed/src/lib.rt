@@ -39,7 +39,6 @@ pub struct Taken {
 enum Pick {
     Mark(SheetItem),
     Number(SheetItem),
-    Neither,
 }
 
 // A scanner's next item; its refusal counts as its end.
@@ -74,24 +73,20 @@ pub fn start(g: Grammar, src: &[u8], markers: &[bool; 256], delims: &[bool; 256]
     Feed { marks, numbers }
 }
 
-// The item that starts first, the marker where both start at one place.
-fn first_of(mark: Option<SheetItem>, number: Option<SheetItem>) -> Pick
+// The item that starts first, the marker where both start at one place; none where neither is left.
+fn first_of(mark: Option<SheetItem>, number: Option<SheetItem>) -> Option<Pick>
     ensures { Gives (picked mark number) result }
 {
-    match mark {
-        Some(x) => match number {
-            Some(y) => {
-                if y.start < x.start {
-                    return Pick::Number(y);
-                }
-                Pick::Mark(x)
+    match (mark, number) {
+        (Some(x), Some(y)) => {
+            if y.start < x.start {
+                return Some(Pick::Number(y));
             }
-            None => Pick::Mark(x),
-        },
-        None => match number {
-            Some(y) => Pick::Number(y),
-            None => Pick::Neither,
-        },
+            Some(Pick::Mark(x))
+        }
+        (Some(x), None) => Some(Pick::Mark(x)),
+        (None, Some(y)) => Some(Pick::Number(y)),
+        (None, None) => None,
     }
 }
 
@@ -103,7 +98,13 @@ pub fn take(f: Feed, src: &[u8], markers: &[bool; 256], delims: &[bool; 256]) ->
     let numbers = f.numbers;
     let mark = marks.head;
     let number = numbers.head;
-    match first_of(mark, number) {
+    let Some(pick) = first_of(mark, number) else {
+        return Taken {
+            head: None,
+            rest: f,
+        };
+    };
+    match pick {
         Pick::Mark(x) => {
             let more = next_item(marks.rest, src, markers);
             Taken {
@@ -124,9 +125,5 @@ pub fn take(f: Feed, src: &[u8], markers: &[bool; 256], delims: &[bool; 256]) ->
                 },
             }
         }
-        Pick::Neither => Taken {
-            head: None,
-            rest: f,
-        },
     }
 }
