@@ -2,6 +2,7 @@
 // order, a text that is too long, has no room here.)
 use crate::tally::{number, text};
 use crate::texts::front;
+use crate::trial::rules;
 use common::grammar::Grammar;
 use common::refusal::Refusal;
 
@@ -81,13 +82,7 @@ fn amended(choice: u32, out: &mut [u32]) -> Result<usize, Refusal> {
         high,
         front(own, if_chosen(choice, 32, 3, 5)),
         grammar(has(choice, 8)),
-        b"~",
-        front(mins, if_chosen(choice, 1, 0, 1)),
-        b"`",
-        &[1],
-        b"<",
-        b">",
-        &[1],
+        rules(front(mins, if_chosen(choice, 1, 0, 1))),
         out,
     )
 }

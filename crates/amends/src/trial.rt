@@ -4,6 +4,7 @@ use crate::texts;
 use crate::texts::Short;
 use common::grammar::Grammar;
 use common::refusal::Refusal;
+use rules::columns::{InlineColumns, RuleColumns};
 
 // The cells of a list, more than any of these texts needs. What isn't written keeps its mark.
 const CELLS: usize = 36;
@@ -55,15 +56,24 @@ fn amended(
         second,
         texts::front(&own, text.length),
         Grammar::house(),
-        b"~",
-        &[1],
-        b"`",
-        &[1],
-        b"<",
-        b">",
-        &[1],
+        rules(&[1]),
         out,
     )
+}
+
+// A tilde's fences, and pairs of a backtick and of angles.
+pub(crate) fn rules(mins: &[u8]) -> RuleColumns<'_, u32> {
+    RuleColumns {
+        fences: b"~",
+        mins,
+        inline: InlineColumns {
+            symmetric: b"`",
+            times: &[1],
+            openers: b"<",
+            closers: b">",
+            counts: &[1],
+        },
+    }
 }
 
 // The list of a text, built into marked cells.
@@ -73,13 +83,7 @@ pub(crate) fn built(text: Short) -> Listed {
     match context::build(
         texts::front(&bytes, text.length),
         Grammar::house(),
-        b"~",
-        &[1],
-        b"`",
-        &[1],
-        b"<",
-        b">",
-        &[1],
+        rules(&[1]),
         &mut cells,
     ) {
         Ok(count) => Listed { cells, count },

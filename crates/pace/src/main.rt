@@ -4,6 +4,7 @@
 
 use common::grammar::Grammar;
 use common::refusal::Refusal;
+use rules::columns::{InlineColumns, RuleColumns};
 
 // The descriptor that the program reads.
 const STDIN: i32 = 0;
@@ -115,19 +116,22 @@ fn value(a: Result<usize, Refusal>) -> usize {
     }
 }
 
+fn rules() -> RuleColumns<'static, u32> {
+    RuleColumns {
+        fences: b"`~",
+        mins: &[3, 3],
+        inline: InlineColumns {
+            symmetric: b"`",
+            times: &[1],
+            openers: b"<",
+            closers: b">",
+            counts: &[1],
+        },
+    }
+}
+
 fn build(note: &[u8], list: &mut [u32]) -> usize {
-    value(context::build(
-        note,
-        Grammar::house(),
-        b"`~",
-        &[3, 3],
-        b"`",
-        &[1],
-        b"<",
-        b">",
-        &[1],
-        list,
-    ))
+    value(context::build(note, Grammar::house(), rules(), list))
 }
 
 fn build_often(note: &[u8], list: &mut [u32], times: u32) -> usize {
@@ -164,13 +168,7 @@ fn amend(note: &[u8], list: &[u32], held: usize, own: &[u8], out: &mut [u32]) ->
         CUT + PARAGRAPH,
         own,
         Grammar::house(),
-        b"`~",
-        &[3, 3],
-        b"`",
-        &[1],
-        b"<",
-        b">",
-        &[1],
+        rules(),
         out,
     ))
 }

@@ -2,11 +2,11 @@
 use crate::lists;
 use common::grammar::Grammar;
 use common::refusal::Refusal;
-use lines::fence_tests::fence_table;
 use region::{Cause, Region, next_region};
+use rules::columns::{InlineColumns, RuleColumns};
 use rules::records::FenceRule;
-use rules::rows::{Rows, rule_rows};
-use rules::search_bytes::{Alphabet, search_bytes};
+use rules::search_bytes::search_bytes;
+use rules::tables::Tables;
 use search::byte_at;
 use stored::answers::STEPS;
 use stored::form::Question;
@@ -99,18 +99,7 @@ fn build(
     if question.letter == b'd' {
         return build_recorded(question, asked, bytes, g, text, list);
     }
-    context::build(
-        text,
-        g,
-        question.bytes(bytes, 0),
-        question.bytes(bytes, 1),
-        question.bytes(bytes, 2),
-        question.list(asked, 3),
-        question.bytes(bytes, 4),
-        question.bytes(bytes, 5),
-        question.list(asked, 6),
-        list,
-    )
+    context::build(text, g, rules_of(question, asked, bytes), list)
 }
 
 fn build_recorded(
@@ -127,13 +116,28 @@ fn build_recorded(
         g,
         records_of(fences, question.bytes(bytes, 1)),
         fences.len(),
-        question.bytes(bytes, 2),
-        question.list(asked, 3),
-        question.bytes(bytes, 4),
-        question.bytes(bytes, 5),
-        question.list(asked, 6),
+        inline_of(question, asked, bytes),
         list,
     )
+}
+
+// The columns of all rules; of the inline rules.
+fn rules_of<'a>(question: Question, asked: &'a [u32], bytes: &'a [u8]) -> RuleColumns<'a, u32> {
+    RuleColumns {
+        fences: question.bytes(bytes, 0),
+        mins: question.bytes(bytes, 1),
+        inline: inline_of(question, asked, bytes),
+    }
+}
+
+fn inline_of<'a>(question: Question, asked: &'a [u32], bytes: &'a [u8]) -> InlineColumns<'a, u32> {
+    InlineColumns {
+        symmetric: question.bytes(bytes, 2),
+        times: question.list(asked, 3),
+        openers: question.bytes(bytes, 4),
+        closers: question.bytes(bytes, 5),
+        counts: question.list(asked, 6),
+    }
 }
 
 // The fence rules as records.
@@ -169,35 +173,17 @@ fn stepped(
     reply: Numbers,
 ) -> Numbers {
     let begun = reply.entries();
-    let fences = question.bytes(bytes, 0);
-    let symmetric = question.bytes(bytes, 2);
-    let openers = question.bytes(bytes, 4);
-    let alphabet = Alphabet::of(grammar_of(bytes, 0), fences, symmetric, openers);
-    let table = fence_table(fences, question.bytes(bytes, 1));
-    let rows = rule_rows(
-        fences,
-        symmetric,
-        question.list(asked, 3),
-        openers,
-        question.bytes(bytes, 5),
-        question.list(asked, 6),
-    );
-    run(text, alphabet, &table, &rows, begun)
+    let tables = Tables::of(grammar_of(bytes, 0), rules_of(question, asked, bytes));
+    run(text, &tables, begun)
 }
 
-fn run(
-    text: &[u8],
-    alphabet: Alphabet,
-    fences: &[u16; 256],
-    rows: &Rows,
-    begun: Numbers,
-) -> Numbers {
+fn run(text: &[u8], tables: &Tables, begun: Numbers) -> Numbers {
     let mut dead = [0usize; 256];
     let mut from = 0;
     let mut reply = begun;
     let mut steps = 0;
     while steps < STEPS {
-        let next = next_region(text, from, alphabet, fences, rows, &mut dead);
+        let next = next_region(text, from, tables, &mut dead);
         let Some((r, after)) = next else {
             return reply.counted(steps);
         };
