@@ -14,12 +14,11 @@ use Rattle.common.specs.declared.grammar.Grammar.{Grammar}
 use Rattle.common.specs.declared.refusal.Refusal.{Refusal}
 use Rattle.region.specs.Region.{Region, move, up, keep_before, keep_from}
 use Rattle.rules.specs.Grammar.{Gram}
-use Rattle.rules.specs.Columns.{Columns, inline_rules, columns, unequal, alphabet_of, gram_of}
-use Rattle.rules.specs.Rows.{gram_by, Folded}
-use Rattle.rules.specs.RowLaws.{gram_same}
-use Rattle.rules.specs.declared.search_bytes.Alphabet.{Alphabet}
-use Rattle.lines.specs.Fences.{fence_table}
-use Rattle.joint.specs.Joint.{after_empty_line, line_end_is_mark}
+use Rattle.rules.specs.Columns.{Columns, unequal, gram_of}
+use Rattle.rules.specs.Tables.{gram_in, TablesOf}
+use Rattle.rules.specs.TableLaws.{gram_told, grammar_told}
+use Rattle.rules.specs.declared.tables.Tables.{Tables}
+use Rattle.joint.specs.Joint.{after_empty_line}
 use Rattle.amend.specs.Amend.{Edit, moved_by, joint}
 use Rattle.cover.specs.Shape.{misshapen}
 use Rattle.amend.specs.Amended.{regions_in, list_regions, edit, edited, follows, amended_regions, miscut, uses_line_end, off_joint, judged_edit, judged, settled_answer, amend_answer, amended_answer, Amended}
@@ -86,18 +85,17 @@ module _ (g : Grammar) (c : Columns) (s l : List ℕ) (n : ℕ) (e : Edit) (out 
         let a : amended_answer g c s l n e out ≡ settled_answer wide g.eol (length s) (list_regions (gram_of g c)) (regions_in n l) e out = as_told ∙ judged_on g.eol s l n e u m (sym hv.answer ∙ ap told_verdict d) _ in
         record { answer = w.answer ∙ sym a; list = w.list ∙ rw a }
 
-module _ (g : Grammar) (f m y t o k c s l : List ℕ) (n first second : ℕ) (r out : List ℕ) (u w : Bool) (v : Result Unit Refusal) where
-  pub amended_refused : (q : Refusal) → v ≡ Err q → Judged g.eol s l n (edit first second r) u w v → Gives (unequal (columns f m y t o k c)) u
-      → Gives (line_end_is_mark g.eol g.escape y o) w → Amended g (columns f m y t o k c) s l n (edit first second r) out out (refused (number_of q))
-  amended_refused q d hv hu hw = amended_stop g (columns f m y t o k c) s l n (edit first second r) out u w v hv hu hw q d
+module _ (g : Grammar) (c : Columns) (s l : List ℕ) (n first second : ℕ) (r out : List ℕ) (u w : Bool) (v : Result Unit Refusal) where
+  pub amended_refused : (q : Refusal) → v ≡ Err q → Judged g.eol s l n (edit first second r) u w v → Gives (unequal c) u → Gives (uses_line_end g c) w
+      → Amended g c s l n (edit first second r) out out (refused (number_of q))
+  amended_refused q d hv hu hw = amended_stop g c s l n (edit first second r) out u w v hv hu hw q d
 
-  pub amended_settled : (alphabet : Alphabet) (fences : List ℕ) (rules : List (List ℕ)) (out' : List ℕ) (a : Outcome) → v ≡ (Ok tt) → Judged g.eol s l n (edit first second r) u w v
-      → Gives (unequal (columns f m y t o k c)) u → Gives (line_end_is_mark g.eol g.escape y o) w → Gives (alphabet_of g f y o) alphabet → Gives (fence_table f m) fences → Folded f (inline_rules y t o k c) rules
-      → Settled alphabet.grammar.eol (length s) (list_regions (gram_by alphabet fences rules)) (regions_in n l) (edit first second r) out out' a → Amended g (columns f m y t o k c) s l n (edit first second r) out out' a
-  amended_settled alphabet fences rules out' a d hv hu hw hs hf hr z =
-      amended_on g (columns f m y t o k c) s l n (edit first second r) out u w v hv hu hw out' a d
-      (subst (λ (x : Gram). Settled g.eol (length s) (list_regions x) (regions_in n l) (edit first second r) out out' a) (gram_same f y t o k c rules hr g m alphabet fences hs hf)
-      (subst (λ (x : Alphabet). Settled x.grammar.eol (length s) (list_regions (gram_by alphabet fences rules)) (regions_in n l) (edit first second r) out out' a) hs.answer z))
+  pub amended_settled : (t : Tables) (out' : List ℕ) (a : Outcome) → v ≡ (Ok tt) → Judged g.eol s l n (edit first second r) u w v → Gives (unequal c) u → Gives (uses_line_end g c) w → TablesOf g c t
+      → Settled t.alphabet.grammar.eol (length s) (list_regions (gram_in t)) (regions_in n l) (edit first second r) out out' a → Amended g c s l n (edit first second r) out out' a
+  amended_settled t out' a d hv hu hw ht z =
+      amended_on g c s l n (edit first second r) out u w v hv hu hw out' a d
+      (subst (λ (x : Gram). Settled g.eol (length s) (list_regions x) (regions_in n l) (edit first second r) out out' a) (gram_told ht)
+      (subst (λ (x : Grammar). Settled x.eol (length s) (list_regions (gram_in t)) (regions_in n l) (edit first second r) out out' a) (grammar_told ht) z))
 
 -- ---- how many regions
 -- an amended list has at most the old list's regions and the replacement's own

@@ -10,8 +10,8 @@ ghost use Rattle.common.specs.Entry.{wide};
 ghost use Rattle.common.specs.Lists.{Wrote};
 ghost use Rattle.common.specs.Refusals.{told};
 ghost use Rattle.region.specs.Region.{row};
-ghost use Rattle.rules.specs.Columns.{columns};
-ghost use Rattle.rules.specs.Rows.{gram_by};
+ghost use Rattle.rules.specs.Columns.{columns_of};
+ghost use Rattle.rules.specs.Tables.{gram_in};
 ghost use Rattle.amend.specs.Amended.{edit, regions_in, list_regions, Amended};
 ghost use Rattle.amend.specs.Parts.{JudgedEdit, Judged, CutsReady, parts, Roomy, Settled};
 
@@ -22,12 +22,10 @@ use common::span::MAX_INPUT_LEN;
 use cover::shape::is_misshapen;
 use joint::{is_left_open, marks_line_end};
 use joints::is_off_joint;
-use lines::fence_tests::fence_table;
 use own::{survey, write_own};
 use rows::{copy_rows, starts_before};
-use rules::columns::columns_differ;
-use rules::rows::{Rows, rule_rows};
-use rules::search_bytes::Alphabet;
+use rules::columns::RuleColumns;
+use rules::tables::Tables;
 
 // What is wrong with the rules: columns differ; a line end escapes or opens.
 #[derive(Clone, Copy)]
@@ -122,17 +120,15 @@ fn write(
     split: Split,
     cuts: Cuts,
     text: &[u8],
-    alphabet: Alphabet,
-    fences: &[u16; 256],
-    rules: &Rows,
+    tables: &Tables,
     out: &mut [u32],
 ) -> usize
-    requires { Roomy wide (gram_by alphabet fences.now rules.now) list.now split cuts text.now out.old }
-    ensures { Wrote row (parts (gram_by alphabet fences.now rules.now) list.now split cuts
+    requires { Roomy wide (gram_in tables.now) list.now split cuts text.now out.old }
+    ensures { Wrote row (parts (gram_in tables.now) list.now split cuts
         text.now) out.old out.new result }
 {
     let kept = copy_rows(list, 0, split.before, 0, 0, out, 0);
-    let own = write_own(text, cuts.first, alphabet, fences, rules, out, kept);
+    let own = write_own(text, cuts.first, tables, out, kept);
     copy_rows(
         list,
         split.after,
@@ -151,22 +147,20 @@ fn settle(
     count: usize,
     cuts: Cuts,
     text: &[u8],
-    alphabet: Alphabet,
-    fences: &[u16; 256],
-    rules: &Rows,
+    tables: &Tables,
     out: &mut [u32],
 ) -> Result<usize, Refusal>
     requires { CutsReady list.now count cuts text.now }
-    ensures { Settled alphabet.grammar.eol cuts.len (list_regions (gram_by alphabet fences.now rules.now))
+    ensures { Settled tables.now.alphabet.grammar.eol cuts.len (list_regions (gram_in tables.now))
         (regions_in count list.now) (edit cuts.first cuts.second text.now) out.old
         out.new (told result) }
 {
-    let own = survey(text, alphabet, fences, rules);
+    let own = survey(text, tables);
     let left_open = is_left_open(
         cuts.second < cuts.len,
         text,
         own.reaching,
-        alphabet.grammar.eol,
+        tables.alphabet.grammar.eol,
     );
     let before = starts_before(list, count, cuts.first);
     let after = starts_before(list, count, cuts.second);
@@ -182,7 +176,7 @@ fn settle(
         after,
         count,
     };
-    Ok(write(list, split, cuts, text, alphabet, fences, rules, out))
+    Ok(write(list, split, cuts, text, tables, out))
 }
 
 // Amends the list of an old text, whose first `count` regions it has, for the text in which the bytes from the first cut up to the
@@ -199,35 +193,26 @@ pub fn amend(
     second: usize,
     text: &[u8],
     g: Grammar,
-    fences: &[u8],
-    mins: &[u8],
-    symmetric: &[u8],
-    times: &[u32],
-    openers: &[u8],
-    closers: &[u8],
-    counts: &[u32],
+    rules: RuleColumns<u32>,
     out: &mut [u32],
 ) -> Result<usize, Refusal>
-    ensures { Amended g (columns fences.now mins.now symmetric.now times.now
-        openers.now closers.now counts.now) old.now list.now count
+    ensures { Amended g (columns_of (λ l. l) rules.entry) old.now list.now count
         (edit first second text.now) out.old out.new (told result) }
 {
+    let inline = rules.inline;
     let flaws = Flaws {
-        unequal: columns_differ(fences, mins, symmetric, times, openers, closers, counts),
-        marked: marks_line_end(g.eol, g.escape, symmetric, openers),
+        unequal: rules.differ(),
+        marked: marks_line_end(g.eol, g.escape, inline.symmetric, inline.openers),
     };
     match judge(old, list, count, first, second, text, flaws, g.eol) {
         Err(r) => Err(r),
         Ok(()) => {
-            let alphabet = Alphabet::of(g, fences, symmetric, openers);
-            let table = fence_table(fences, mins);
-            let rules = rule_rows(fences, symmetric, times, openers, closers, counts);
             let cuts = Cuts {
                 first,
                 second,
                 len: old.len(),
             };
-            settle(list, count, cuts, text, alphabet, &table, &rules, out)
+            settle(list, count, cuts, text, &Tables::of(g, rules), out)
         }
     }
 }

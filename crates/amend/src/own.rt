@@ -4,14 +4,13 @@ ghost use Rattle.search.specs.Promise.{Gives};
 ghost use Rattle.common.specs.Entry.{wide};
 ghost use Rattle.region.specs.Region.{row, up};
 ghost use Rattle.region.specs.Regions.{regions};
-ghost use Rattle.rules.specs.Rows.{gram_by};
+ghost use Rattle.rules.specs.Tables.{gram_in};
 ghost use Rattle.amend.specs.Parts.{surveyed, Owns, PutRows};
 ghost use Rattle.amend.specs.Amended.{list_regions};
 
 use crate::rows::put_moved;
 use region::next_region;
-use rules::rows::Rows;
-use rules::search_bytes::Alphabet;
+use rules::tables::Tables;
 
 // How many regions a text has, and whether one reaches its end.
 #[derive(Clone, Copy)]
@@ -31,15 +30,15 @@ fn reached(already: bool, end: usize, len: usize) -> bool
 }
 
 // The regions of a text, counted.
-pub fn survey(text: &[u8], alphabet: Alphabet, fences: &[u16; 256], rules: &Rows) -> Counted
-    ensures { Gives (surveyed (gram_by alphabet fences.now rules.now) text.now) result }
+pub fn survey(text: &[u8], tables: &Tables) -> Counted
+    ensures { Gives (surveyed (gram_in tables.now) text.now) result }
 {
     let mut dead = [0usize; 256];
     let mut found: usize = 0;
     let mut reaching = false;
     let mut q = 0;
     loop {
-        match next_region(text, q, alphabet, fences, rules, &mut dead) {
+        match next_region(text, q, tables, &mut dead) {
             None => {
                 return Counted {
                     count: found,
@@ -59,21 +58,19 @@ pub fn survey(text: &[u8], alphabet: Alphabet, fences: &[u16; 256], rules: &Rows
 pub(crate) fn write_own(
     text: &[u8],
     by: usize,
-    alphabet: Alphabet,
-    fences: &[u16; 256],
-    rules: &Rows,
+    tables: &Tables,
     out: &mut [u32],
     into: usize,
 ) -> usize
-    requires { Owns wide (regions (gram_by alphabet fences.now rules.now) text.now) text.now by out.old into }
-    ensures { PutRows row wide (up by (list_regions (gram_by alphabet fences.now rules.now) text.now)) into
+    requires { Owns wide (regions (gram_in tables.now) text.now) text.now by out.old into }
+    ensures { PutRows row wide (up by (list_regions (gram_in tables.now) text.now)) into
         out.old out.new result }
 {
     let mut dead = [0usize; 256];
     let mut at = into;
     let mut q = 0;
     loop {
-        match next_region(text, q, alphabet, fences, rules, &mut dead) {
+        match next_region(text, q, tables, &mut dead) {
             None => {
                 return at;
             }

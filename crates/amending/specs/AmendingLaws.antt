@@ -10,12 +10,12 @@ use Rattle.common.specs.Refusals.{Outcome, given, refused, number_of}
 use Rattle.common.specs.RefusalLaws.{number_some}
 use Rattle.common.specs.declared.grammar.Grammar.{Grammar}
 use Rattle.common.specs.declared.refusal.Refusal.{Refusal}
-use Rattle.lines.specs.Fences.{fence_table}
 use Rattle.region.specs.Region.{Listed, keep_before}
 use Rattle.rules.specs.Grammar.{Gram}
-use Rattle.rules.specs.Columns.{alphabet_of, gram_of}
-use Rattle.rules.specs.Rows.{gram_by, Folded}
-use Rattle.rules.specs.declared.search_bytes.Alphabet.{Alphabet}
+use Rattle.rules.specs.Columns.{gram_of}
+use Rattle.rules.specs.Tables.{gram_in, TablesOf}
+use Rattle.rules.specs.TableLaws.{grammar_told}
+use Rattle.rules.specs.declared.tables.Tables.{Tables}
 use Rattle.joint.specs.Joint.{open_end, line_end_is_mark}
 use Rattle.cells.specs.Bytes.{cells, row_bytes}
 use Rattle.cells.specs.CellLaws.{length-cells}
@@ -85,12 +85,11 @@ module _ (g : Gram) (list : List ℕ) (n : ℕ) (cuts : Cuts) (r : List ℕ) (re
       (subst (λ (z : List Listed). PouredAs listed_bytes row_bytes z lent left q) (parts_same g (cells list) n cuts r ready before after hb ha) w)
 
 -- by the rules, folded
-pub settled_columns : (g : Grammar) (c : ColumnRuns) (len : ℕ) (l : List Listed) (e : Edit) (before after : ListRuns) (a : Alphabet) (fences : List ℕ) (rows : List (List ℕ)) (r : ℕ)
-    → Gives (alphabet_of g c.fence_bytes c.inline.sym_bytes c.inline.openers) a → Gives (fence_table c.fence_bytes c.fence_mins) fences → Folded c.fence_bytes (inline_in c.inline) rows
-    → SettledBytes a.grammar.eol len (list_regions (gram_by a fences rows)) l e before after r → SettledBytes g.eol len (list_regions (gram_of g (columns_in c))) l e before after r
-settled_columns g c len l e before after a fences rows r ha hf hr v =
-    subst (λ (z : Gram). SettledBytes g.eol len (list_regions z) l e before after r) (gram_folded g c a fences rows ha hf hr)
-    (subst (λ (x : Alphabet). SettledBytes x.grammar.eol len (list_regions (gram_by a fences rows)) l e before after r) ha.answer v)
+pub settled_columns : (g : Grammar) (c : ColumnRuns) (len : ℕ) (l : List Listed) (e : Edit) (before after : ListRuns) (t : Tables) (r : ℕ) → TablesOf g (record { fence_bytes = c.fence_bytes; fence_mins = c.fence_mins; inline = inline_in c.inline }) t
+    → SettledBytes t.alphabet.grammar.eol len (list_regions (gram_in t)) l e before after r → SettledBytes g.eol len (list_regions (gram_of g (columns_in c))) l e before after r
+settled_columns g c len l e before after t r w v =
+    subst (λ (z : Gram). SettledBytes g.eol len (list_regions z) l e before after r) (gram_folded c w)
+    (subst (λ (x : Grammar). SettledBytes x.eol len (list_regions (gram_in t)) l e before after r) (grammar_told w) v)
 
 -- ---- the ways out of the entry
 module _ (g : Grammar) (c : ColumnRuns) (s l : List ℕ) (n : ℕ) (e : Edit) (u m : Bool) (v : Result Unit Refusal) (lent : ListRuns)

@@ -20,7 +20,7 @@ use Rattle.rules.specs.Columns.{unequal, gram_of}
 use Rattle.context.specs.Build.{built_answer, built_list, Built}
 use Rattle.cells.specs.Bytes.{cells, fourfold, row_bytes}
 use Rattle.cells.specs.CellLaws.{length-cells}
-use Rattle.rules.specs.ByteRules.{ColumnRuns, uneven, uneven_columns, columns_in}
+use Rattle.rules.specs.ByteRules.{ColumnRuns, uneven_columns, columns_in}
 use Rattle.cells.specs.Reply.{written, fitted, answered}
 use Rattle.cells.specs.ReplyLaws.{enough}
 use Rattle.cells.specs.BackLaws.{reply_served}
@@ -87,7 +87,7 @@ module _ (g : Grammar) (c : ColumnRuns) (old l : List ℕ) (n : ℕ) (e : Edit) 
 -- ---- of a list that building left
 -- columns that are even in bytes are equal in numbers
 even_equal : (c : ColumnRuns) → uneven_columns c ≡ false → unequal (columns_in c) ≡ false
-unfolding uneven_columns uneven columns_in
+unfolding columns_in
 even_equal c h =
     let i = c.inline in
     let a = neither (differ c.fence_bytes c.fence_mins) _ h in

@@ -8,9 +8,9 @@ mod rows; // a list in bytes as rows of two numbers
 
 ghost use Rattle.common.specs.Lists.{Wrote};
 ghost use Rattle.rules.specs.Columns.{gram_of};
-ghost use Rattle.rules.specs.Rows.{gram_by};
+ghost use Rattle.rules.specs.Tables.{gram_in};
 ghost use Rattle.cells.specs.Bytes.{cells, row_bytes};
-ghost use Rattle.rules.specs.ByteRules.{columns_in};
+ghost use Rattle.rules.specs.ByteRules.{column_runs, runs_of, columns_in};
 ghost use Rattle.cells.specs.Poured.{PouredAs};
 ghost use Rattle.amend.specs.Amended.{edit, regions_in, list_regions};
 ghost use Rattle.amend.specs.Parts.{Judged, CutsReady, parts, Roomy};
@@ -19,18 +19,16 @@ ghost use Rattle.amending.specs.ByteParts.{Planned, SettledBytes};
 
 use amend::own::survey;
 use amend::{Cuts, Flaws, Split, judge_edit};
-use cover::shape::is_misshapen;
-use rules::runs::{columns_differ, rule_rows};
 use cells::{ROW, reply};
 use common::grammar::Grammar;
 use common::refusal::Refusal;
+use cover::shape::is_misshapen;
 use joint::{is_left_open, marks_line_end};
 use joints::is_off_joint;
-use lines::fence_tests::fence_table;
 use own::write_own;
 use rows::{copy_rows, starts_before};
-use rules::rows::Rows;
-use rules::search_bytes::Alphabet;
+use rules::columns::{InlineColumns, RuleColumns};
+use rules::tables::Tables;
 
 // The refusals that the texts' lengths, the rules, the list, the cuts and the bytes before them decide, in the page's order.
 fn judge(
@@ -70,17 +68,15 @@ fn write(
     split: Split,
     cuts: Cuts,
     text: &[u8],
-    alphabet: Alphabet,
-    fences: &[u16; 256],
-    rules: &Rows,
+    tables: &Tables,
     out: &mut [u8],
 ) -> usize
-    requires { Roomy row_bytes (gram_by alphabet fences.now rules.now) (cells list.now) split cuts text.now out.old }
-    ensures { Wrote listed_bytes (parts (gram_by alphabet fences.now rules.now) (cells list.now) split cuts
+    requires { Roomy row_bytes (gram_in tables.now) (cells list.now) split cuts text.now out.old }
+    ensures { Wrote listed_bytes (parts (gram_in tables.now) (cells list.now) split cuts
         text.now) out.old out.new result }
 {
     let kept = copy_rows(list, 0, split.before, 0, 0, out, 0);
-    let own = write_own(text, cuts.first, alphabet, fences, rules, out, kept);
+    let own = write_own(text, cuts.first, tables, out, kept);
     copy_rows(
         list,
         split.after,
@@ -100,21 +96,19 @@ fn pour(
     total: usize,
     cuts: Cuts,
     text: &[u8],
-    alphabet: Alphabet,
-    fences: &[u16; 256],
-    rules: &Rows,
+    tables: &Tables,
     out: &mut [u8],
     answer: &mut [u8],
 ) -> u32
-    requires { Planned (gram_by alphabet fences.now rules.now) (cells list.now) split cuts text.now total }
+    requires { Planned (gram_in tables.now) (cells list.now) split cuts text.now total }
     ensures { PouredAs listed_bytes row_bytes
-        (parts (gram_by alphabet fences.now rules.now) (cells list.now) split cuts text.now)
+        (parts (gram_in tables.now) (cells list.now) split cuts text.now)
         (record { list = out.old; answer = answer.old })
         (record { list = out.new; answer = answer.new }) result }
 {
     if 1 < reply::room_of(answer.len()) {
         if total <= out.len() / ROW {
-            let all = [write(list, split, cuts, text, alphabet, fences, rules, out)];
+            let all = [write(list, split, cuts, text, tables, out)];
             return reply::values(&all, answer);
         }
         return 3;
@@ -129,24 +123,22 @@ fn settle(
     count: usize,
     cuts: Cuts,
     text: &[u8],
-    alphabet: Alphabet,
-    fences: &[u16; 256],
-    rules: &Rows,
+    tables: &Tables,
     out: &mut [u8],
     answer: &mut [u8],
 ) -> u32
     requires { CutsReady (cells list.now) count cuts text.now }
-    ensures { SettledBytes alphabet.grammar.eol cuts.len (list_regions (gram_by alphabet fences.now rules.now))
+    ensures { SettledBytes tables.now.alphabet.grammar.eol cuts.len (list_regions (gram_in tables.now))
         (regions_in count (cells list.now)) (edit cuts.first cuts.second text.now)
         (record { list = out.old; answer = answer.old })
         (record { list = out.new; answer = answer.new }) result }
 {
-    let own = survey(text, alphabet, fences, rules);
+    let own = survey(text, tables);
     let left_open = is_left_open(
         cuts.second < cuts.len,
         text,
         own.reaching,
-        alphabet.grammar.eol,
+        tables.alphabet.grammar.eol,
     );
     let before = starts_before(list, count, cuts.first);
     let after = starts_before(list, count, cuts.second);
@@ -159,9 +151,7 @@ fn settle(
         after,
         count,
     };
-    pour(
-        list, split, total, cuts, text, alphabet, fences, rules, out, answer,
-    )
+    pour(list, split, total, cuts, text, tables, out, answer)
 }
 
 // All rules of columns into tables, once, and on.
@@ -171,39 +161,19 @@ fn with_columns(
     cuts: Cuts,
     text: &[u8],
     g: Grammar,
-    fences: &[u8],
-    mins: &[u8],
-    symmetric: &[u8],
-    times: &[u8],
-    openers: &[u8],
-    closers: &[u8],
-    counts: &[u8],
+    rules: RuleColumns<u8>,
     out: &mut [u8],
     answer: &mut [u8],
 ) -> u32
     requires { CutsReady (cells list.now) count cuts text.now }
     ensures { SettledBytes g.eol cuts.len
-        (list_regions (gram_of g (columns_in (record {
-          fence_bytes = fences.now;
-          fence_mins = mins.now;
-          inline = record {
-            sym_bytes = symmetric.now;
-            sym_counts = times.now;
-            openers = openers.now;
-            closers = closers.now;
-            open_counts = counts.now;
-          };
-        }))))
+        (list_regions (gram_of g (columns_in (runs_of rules.entry))))
         (regions_in count (cells list.now)) (edit cuts.first cuts.second text.now)
         (record { list = out.old; answer = answer.old })
         (record { list = out.new; answer = answer.new }) result }
 {
-    let alphabet = Alphabet::of(g, fences, symmetric, openers);
-    let table = fence_table(fences, mins);
-    let rules = rule_rows(fences, symmetric, times, openers, closers, counts);
-    settle(
-        list, count, cuts, text, alphabet, &table, &rules, out, answer,
-    )
+    let tables = Tables::of(g, rules);
+    settle(list, count, cuts, text, &tables, out, answer)
 }
 
 // Amends the list of an old text, whose first `count` regions it has, for the text in which the bytes from the first cut up to the
@@ -234,23 +204,24 @@ pub fn amend_columns(
     answer: &mut [u8],
 ) -> u32
     ensures { AmendedBytes (record { eol = eol; escape = escape; sep = sep; tab = tab })
-        (record {
-          fence_bytes = fences.now;
-          fence_mins = mins.now;
-          inline = record {
-            sym_bytes = symmetric.now;
-            sym_counts = times.now;
-            openers = openers.now;
-            closers = closers.now;
-            open_counts = counts.now;
-          };
-        })
+        (column_runs fences.now mins.now symmetric.now times.now openers.now closers.now counts.now)
         old.now list.now count (edit first second text.now)
         (record { list = out.old; answer = answer.old })
         (record { list = out.new; answer = answer.new }) result }
 {
+    let rules = RuleColumns {
+        fences,
+        mins,
+        inline: InlineColumns {
+            symmetric,
+            times,
+            openers,
+            closers,
+            counts,
+        },
+    };
     let flaws = Flaws {
-        unequal: columns_differ(fences, mins, symmetric, times, openers, closers, counts),
+        unequal: rules.differ(),
         marked: marks_line_end(eol, escape, symmetric, openers),
     };
     match judge(old, list, count, first, second, text, flaws, eol) {
@@ -267,10 +238,7 @@ pub fn amend_columns(
                 sep,
                 tab,
             };
-            with_columns(
-                list, count, cuts, text, g, fences, mins, symmetric, times, openers, closers,
-                counts, out, answer,
-            )
+            with_columns(list, count, cuts, text, g, rules, out, answer)
         }
     }
 }

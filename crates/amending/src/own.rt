@@ -1,7 +1,7 @@
 // The replacement's own regions, written in bytes.
 ghost use Rattle.region.specs.Region.{up};
 ghost use Rattle.region.specs.Regions.{regions};
-ghost use Rattle.rules.specs.Rows.{gram_by};
+ghost use Rattle.rules.specs.Tables.{gram_in};
 ghost use Rattle.cells.specs.Bytes.{row_bytes};
 ghost use Rattle.amend.specs.Amended.{list_regions};
 ghost use Rattle.amend.specs.Parts.{Owns, PutRows};
@@ -9,29 +9,26 @@ ghost use Rattle.amending.specs.Amending.{listed_bytes};
 
 use crate::rows::put_moved;
 use region::next_region;
-use rules::rows::Rows;
-use rules::search_bytes::Alphabet;
+use rules::tables::Tables;
 
 // Writes the regions of a text, moved up by `by`, to row `into` of `out` and on. Answers the row after them.
 pub(crate) fn write_own(
     text: &[u8],
     by: usize,
-    alphabet: Alphabet,
-    fences: &[u16; 256],
-    rules: &Rows,
+    tables: &Tables,
     out: &mut [u8],
     into: usize,
 ) -> usize
-    requires { Owns row_bytes (regions (gram_by alphabet fences.now rules.now) text.now) text.now by out.old into }
+    requires { Owns row_bytes (regions (gram_in tables.now) text.now) text.now by out.old into }
     ensures { PutRows listed_bytes row_bytes
-        (up by (list_regions (gram_by alphabet fences.now rules.now) text.now)) into
+        (up by (list_regions (gram_in tables.now) text.now)) into
         out.old out.new result }
 {
     let mut dead = [0usize; 256];
     let mut at = into;
     let mut q = 0;
     loop {
-        match next_region(text, q, alphabet, fences, rules, &mut dead) {
+        match next_region(text, q, tables, &mut dead) {
             None => {
                 return at;
             }

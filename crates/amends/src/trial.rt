@@ -3,6 +3,7 @@ use crate::tally::Tally;
 use crate::texts::Short;
 use common::grammar::Grammar;
 use common::refusal::Refusal;
+use rules::columns::{InlineColumns, InlineColumns, RuleColumns, RuleColumns};
 
 // The cells of a list, more than any of these texts needs. What isn't written keeps its mark.
 const CELLS: usize = 36;
@@ -47,19 +48,23 @@ impl Rules<'_> {
         }
     }
 
+    // A tilde's fences, and pairs of a backtick and of angles.
+    fn columns(&self) -> RuleColumns<'_, u32> {
+        RuleColumns {
+            fences: b"~",
+            mins: self.mins,
+            inline: InlineColumns {
+                symmetric: b"`",
+                times: &[1],
+                openers: b"<",
+                closers: b">",
+                counts: &[1],
+            },
+        }
+    }
+
     fn build(self, text: &[u8], out: &mut [u32]) -> Result<usize, Refusal> {
-        context::build(
-            text,
-            self.grammar,
-            b"~",
-            self.mins,
-            b"`",
-            &[1],
-            b"<",
-            b">",
-            &[1],
-            out,
-        )
+        context::build(text, self.grammar, self.columns(), out)
     }
 
     pub(crate) fn amend(
@@ -78,13 +83,7 @@ impl Rules<'_> {
             edit.second,
             edit.text,
             self.grammar,
-            b"~",
-            self.mins,
-            b"`",
-            &[1],
-            b"<",
-            b">",
-            &[1],
+            self.columns(),
             out,
         )
     }

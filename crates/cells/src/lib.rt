@@ -4,8 +4,9 @@
 pub mod reply; // what an entry answers
 
 ghost use Rattle.search.specs.Promise.{Gives};
-ghost use Rattle.std.specs.Prelude.{ℕ, List, length, get_or};
-ghost use Rattle.cells.specs.Bytes.{cells, readable};
+ghost use Rattle.std.specs.Prelude.{Bool, ℕ, List, ◌*◌, not, eqb, length, get_or};
+ghost use Rattle.common.specs.Refusals.{differ};
+ghost use Rattle.cells.specs.Bytes.{cells, fourfold, readable};
 
 use common::list::WIDE;
 use common::sets::index;
@@ -15,6 +16,9 @@ pub trait Piece: Copy {
     // The numbers of a run.
     ghost numbers: { List Self → List ℕ };
 
+    // Whether they are more or fewer than some bytes.
+    ghost differs: { List ℕ → List Self → Bool };
+
     // How many they are.
     fn count(run: &[Self]) -> usize
         ensures { Gives (length (numbers run.now)) result };
@@ -22,10 +26,16 @@ pub trait Piece: Copy {
     // The number in cell `k`, else 0.
     fn number(run: &[Self], k: usize) -> u32
         ensures { Gives (get_or (numbers run.now) k 0) result };
+
+    // Whether a column of bytes and its column of numbers differ in length.
+    fn differs(bytes: &[u8], run: &[Self]) -> bool
+        ensures { Gives (differs bytes.now run.now) result };
 }
 
 impl Piece for u32 {
     ghost numbers = { λ l. l };
+
+    ghost differs = { differ };
 
     fn count(run: &[u32]) -> usize {
         run.len()
@@ -37,10 +47,16 @@ impl Piece for u32 {
         }
         0
     }
+
+    fn differs(bytes: &[u8], run: &[u32]) -> bool {
+        bytes.len() != run.len()
+    }
 }
 
 impl Piece for u8 {
     ghost numbers = { cells };
+
+    ghost differs = { λ bytes run. not (fourfold run bytes) };
 
     fn count(run: &[u8]) -> usize {
         run.len() / 4
@@ -49,6 +65,17 @@ impl Piece for u8 {
     fn number(run: &[u8], k: usize) -> u32 {
         cell(run, k)
     }
+
+    fn differs(bytes: &[u8], run: &[u8]) -> bool {
+        !is_fourfold(run.len(), bytes.len())
+    }
+}
+
+// Whether a run of `len` bytes is four for each of `count` numbers.
+fn is_fourfold(len: usize, count: usize) -> bool
+    ensures { Gives (eqb len (count * 4)) result }
+{
+    len / 4 == count && len % 4 == 0
 }
 
 // How many bytes a region's row has in a list.

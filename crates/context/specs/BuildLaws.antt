@@ -4,16 +4,15 @@ use Rattle.std.proofs.Math.Path.{sym}
 use Rattle.std.proofs.Common.{subst, ◌∙◌, lt-ltb, le-ltb, arith}
 use Rattle.std.proofs.Math.Bool.{true, false}
 use Rattle.search.specs.Promise.{Gives}
-use Rattle.lines.specs.Fences.{fence_table}
 use Rattle.common.specs.Refusals.{Outcome, given, refused, told}
 use Rattle.common.specs.RefusalLaws.{answer_unique}
 use Rattle.common.specs.declared.grammar.Grammar.{Grammar}
 use Rattle.common.specs.Entry.{room, wide}
 use Rattle.rules.specs.Grammar.{Gram}
-use Rattle.rules.specs.Columns.{Columns, unequal, alphabet_of, gram_of}
-use Rattle.rules.specs.Rows.{gram_by, Folded}
-use Rattle.rules.specs.RowLaws.{gram_same}
-use Rattle.rules.specs.declared.search_bytes.Alphabet.{Alphabet}
+use Rattle.rules.specs.Columns.{Columns, unequal, gram_of}
+use Rattle.rules.specs.Tables.{gram_in, TablesOf}
+use Rattle.rules.specs.TableLaws.{gram_told}
+use Rattle.rules.specs.declared.tables.Tables.{Tables}
 use Rattle.region.specs.Region.{row_of}
 use Rattle.region.specs.Regions.{regions}
 use Rattle.common.specs.Lists.{Wrote, Filled, build_answer}
@@ -63,13 +62,9 @@ module _ (g : Grammar) (c : Columns) (s out : List ℕ) where
         record { answer = v.answer ∙ simp (le-ltb 4294967295 (length s) short, z); list = v.list ∙ simp (le-ltb 4294967295 (length s) short, z) }
 
 -- by the columns, folded
-pub built_folded : (g : Grammar) (c : Columns) (s out out' : List ℕ) (b : Bool) (w : Alphabet) (fences : List ℕ) (rows : List (List ℕ)) (a : Outcome) → length s ≤ 4294967295 → b ≡ false → Gives (unequal c) b
-    → Gives (alphabet_of g c.fence_bytes c.inline.sym_bytes c.inline.openers) w → Gives (fence_table c.fence_bytes c.fence_mins) fences
-    → Folded c.fence_bytes c.inline rows → Filled row_of wide (regions (gram_by w fences rows) s) out out' a → Built g c s out out' a
-built_folded g c s out out' b w fences rows a short e d hw hf hr v =
-    let i = c.inline in
-    let z = gram_same c.fence_bytes i.sym_bytes i.sym_counts i.openers i.closers i.open_counts rows hr g c.fence_mins w fences hw hf in
-    built_all g c s out b short out' a e d (subst (λ (x : Gram). Filled row_of wide (regions x s) out out' a) z v)
+pub built_folded : (g : Grammar) (c : Columns) (s out out' : List ℕ) (b : Bool) (t : Tables) (a : Outcome) → length s ≤ 4294967295 → b ≡ false → Gives (unequal c) b → TablesOf g c t
+    → Filled row_of wide (regions (gram_in t) s) out out' a → Built g c s out out' a
+built_folded g c s out out' b t a short e d w v = built_all g c s out b short out' a e d (subst (λ (x : Gram). Filled row_of wide (regions x s) out out' a) (gram_told w) v)
 
 -- two results of building for the same arguments are one: the answer, and the list that is left
 pub built_unique : {g : Grammar} {c : Columns} {s out out' out'' : List ℕ} {r r' : Result ℕ Refusal} → Built g c s out out' (told r) → Built g c s out out'' (told r') → (r ≡ r') × (out' ≡ out'')

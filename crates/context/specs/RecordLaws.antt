@@ -1,17 +1,17 @@
 -- Laws of building by fence rules as records: by the kept rules' columns it is building by the run's own. Assumes nothing.
-use Rattle.std.specs.Prelude.{◌≡◌, refl, List, [], ◌∷◌, ltb, length, take, drop}
-use Rattle.std.proofs.Common.{sym as inv, subst, ◌∙◌}
+use Rattle.std.specs.Prelude.{◌≡◌, refl, List, [], ◌∷◌, ltb, length}
+use Rattle.std.proofs.Common.{sym as inv, subst, ◌∙◌, eq-eqb}
 use Rattle.std.proofs.Math.Bool.{Bool}
-use Prim.Native.Nat.{ℕ, ◌-◌, min}
-use Rattle.search.specs.Promise.{Gives}
+use Prim.Native.Nat.{ℕ}
 use Rattle.common.specs.Entry.{flatten, room, over, wide}
 use Rattle.common.specs.Lists.{build_answer}
 use Rattle.common.specs.Refusals.{Outcome, given, refuse, leaves, too_long}
 use Rattle.common.specs.declared.grammar.Grammar.{Grammar}
-use Rattle.rules.specs.Columns.{inline_rules, columns, unequal_inline, unequal, gram_of}
-use Rattle.rules.specs.DifferLaws.{differ-inline}
-use Rattle.rules.specs.Records.{rule_bytes, rule_mins, kept_bytes, kept_mins, AllGathered}
-use Rattle.rules.specs.RecordLaws.{rules_even, kept_even, take-front}
+use Rattle.rules.specs.Columns.{Columns, columns_of, inline_rules, columns, unequal_inline, unequal, gram_of}
+use Rattle.rules.specs.Records.{rule_bytes, rule_mins, kept_bytes, kept_mins, rules_of, KeptColumns, AllGathered}
+use Rattle.rules.specs.RecordLaws.{rules_even, kept_even, kept_told}
+use Rattle.rules.specs.declared.columns.InlineColumns.{InlineColumns}
+use Rattle.rules.specs.declared.columns.RuleColumns.{RuleColumns}
 use Rattle.rules.specs.declared.records.FenceRule.{FenceRule}
 use Rattle.rules.specs.declared.records.Gathered.{Gathered}
 use Rattle.region.specs.Region.{row_of}
@@ -32,7 +32,7 @@ module _ (rules : List FenceRule) {g : Grammar} {f : Gathered} {y t o k n s out 
       list bad m l = leaves (answer bad m) out (over l out)
 
       even : (bytes mins : List ℕ) → length bytes ≡ length mins → unequal_inline (inline_rules y t o k n) ≡ unequal (columns bytes mins y t o k n)
-      even bytes mins e = differ-inline bytes mins y t o k n (unequal_inline (inline_rules y t o k n)) e (record { answer = refl })
+      even bytes mins e = rw (eq-eqb (length bytes) (length mins) e)
 
       same : unequal (columns (kept_bytes f) (kept_mins f) y t o k n) ≡ unequal (columns (rule_bytes rules) (rule_mins rules) y t o k n)
       same = inv (even (kept_bytes f) (kept_mins f) (kept_even rules f w)) ∙ even (rule_bytes rules) (rule_mins rules) (rules_even rules)
@@ -44,8 +44,7 @@ module _ (rules : List FenceRule) {g : Grammar} {f : Gathered} {y t o k n s out 
       flat : flatten row_of (regions (gram_of g (columns (kept_bytes f) (kept_mins f) y t o k n)) s) ≡ flatten row_of (regions (gram_of g (columns (rule_bytes rules) (rule_mins rules) y t o k n)) s)
       flat = gathered_flat rules f w g y t o k n s row_of (λ h r. refl)
 
--- building by the first of two columns
-pub front_built : (g : Grammar) (f m y t o k n s out out' : List ℕ) (a : Outcome) (used p q : ℕ) → Gives (min used (length f)) p → Gives (min used (length m)) q
-    → Built g (columns (take (p - 0) (drop 0 f)) (take (q - 0) (drop 0 m)) y t o k n) s out out' a → Built g (columns (take used f) (take used m) y t o k n) s out out' a
-front_built g f m y t o k n s out out' a used p q hp hq b =
-    subst (λ (l : List ℕ). Built g (columns l (take used m) y t o k n) s out out' a) (take-front f used p hp) (subst (λ (l : List ℕ). Built g (columns (take (p - 0) (drop 0 f)) l y t o k n) s out out' a) (take-front m used q hq) b)
+-- building by the columns that they lend
+pub records_lent : (rules : List FenceRule) (i : InlineColumns ℕ) {g : Grammar} {f : Gathered} {c : RuleColumns ℕ} {s out out' : List ℕ} {a : Outcome} → AllGathered rules f → KeptColumns f i c
+    → Built g (columns_of (λ l. l) c) s out out' a → Built g (rules_of (λ l. l) rules i) s out out' a
+records_lent rules i {g} {s = s} {out = out} {out' = out'} {a = a} w k b = records_built rules w (subst (λ (x : Columns). Built g x s out out' a) (kept_told (λ l. l) k) b)

@@ -6,7 +6,8 @@ pub mod records; // fence rules as records
 ghost use Rattle.std.specs.Prelude.{[], ◌∷◌, ◌≤◌, length};
 ghost use Rattle.common.specs.Refusals.{told};
 ghost use Rattle.common.specs.Entry.{room, wide};
-ghost use Rattle.rules.specs.Rows.{gram_by};
+ghost use Rattle.rules.specs.Columns.{columns_of};
+ghost use Rattle.rules.specs.Tables.{gram_in};
 ghost use Rattle.region.specs.Region.{row_of};
 ghost use Rattle.region.specs.Regions.{regions};
 ghost use Rattle.common.specs.Lists.{RowPut, Wrote, Filled};
@@ -17,11 +18,9 @@ use common::grammar::Grammar;
 use common::list::{END, WIDE};
 use common::refusal::Refusal;
 use common::span::MAX_INPUT_LEN;
-use lines::fence_tests::fence_table;
 use region::{count_regions, next_region};
-use rules::columns::columns_differ;
-use rules::rows::{Rows, rule_rows};
-use rules::search_bytes::Alphabet;
+use rules::columns::RuleColumns;
+use rules::tables::Tables;
 
 // Writes region `n`, from `start` up to `end`, to its row, and answers the next region's number.
 fn put_region(out: &mut [u32], n: usize, start: usize, end: usize) -> usize
@@ -35,23 +34,17 @@ fn put_region(out: &mut [u32], n: usize, start: usize, end: usize) -> usize
 }
 
 // Writes the regions of a text over the front of `out`, which has room for them, and says how many there are.
-fn write_regions(
-    src: &[u8],
-    alphabet: Alphabet,
-    fences: &[u16; 256],
-    rows: &Rows,
-    out: &mut [u32],
-) -> usize
+fn write_regions(src: &[u8], tables: &Tables, out: &mut [u32]) -> usize
     requires src_len_bound { length src.now ≤ 4294967295 }
-    requires src_len_bound_2 { length (regions (gram_by alphabet fences.now rows.now) src.now) ≤ room wide out.old }
-    ensures { Wrote row_of (regions (gram_by alphabet fences.now rows.now) src.now) out.old
+    requires src_len_bound_2 { length (regions (gram_in tables.now) src.now) ≤ room wide out.old }
+    ensures { Wrote row_of (regions (gram_in tables.now) src.now) out.old
         out.new result }
 {
     let mut dead = [0usize; 256];
     let mut found: usize = 0;
     let mut q: usize = 0;
     loop {
-        match next_region(src, q, alphabet, fences, rows, &mut dead) {
+        match next_region(src, q, tables, &mut dead) {
             Some((r, next)) => {
                 found = put_region(out, found, r.start, r.end);
                 q = next;
@@ -65,26 +58,20 @@ fn write_regions(
 
 // Writes the regions of a text within the limit, or refuses where there is too little room. Where the room is surely enough, since
 // there are at most half as many regions as bytes and one more, no counting pass runs.
-fn fill(
-    src: &[u8],
-    alphabet: Alphabet,
-    fences: &[u16; 256],
-    rows: &Rows,
-    out: &mut [u32],
-) -> Result<usize, Refusal>
+fn fill(src: &[u8], tables: &Tables, out: &mut [u32]) -> Result<usize, Refusal>
     requires { length src.now ≤ 4294967295 }
-    ensures { Filled row_of wide (regions (gram_by alphabet fences.now rows.now) src.now) out.old
+    ensures { Filled row_of wide (regions (gram_in tables.now) src.now) out.old
         out.new (told result) }
 {
     let most = out.len() / WIDE;
     if src.len() / 2 < most {
-        return Ok(write_regions(src, alphabet, fences, rows, out));
+        return Ok(write_regions(src, tables, out));
     }
-    let found = count_regions(src, alphabet, fences, rows);
+    let found = count_regions(src, tables);
     if most < found {
         return Err(Refusal::NoRoom);
     }
-    Ok(write_regions(src, alphabet, fences, rows, out))
+    Ok(write_regions(src, tables, out))
 }
 
 // Builds the list of the opaque regions of a text by rules given as columns: fence bytes and minimums; symmetric bytes and counts;
@@ -93,35 +80,16 @@ fn fill(
 pub fn build(
     src: &[u8],
     g: Grammar,
-    fences: &[u8],
-    mins: &[u8],
-    symmetric: &[u8],
-    times: &[u32],
-    openers: &[u8],
-    closers: &[u8],
-    counts: &[u32],
+    rules: RuleColumns<u32>,
     out: &mut [u32],
 ) -> Result<usize, Refusal>
-    ensures { Built g (record {
-      fence_bytes = fences.now;
-      fence_mins = mins.now;
-      inline = record {
-        sym_bytes = symmetric.now;
-        sym_counts = times.now;
-        openers = openers.now;
-        closers = closers.now;
-        open_counts = counts.now;
-      };
-    }) src.now out.old out.new (told result) }
+    ensures { Built g (columns_of (λ l. l) rules.entry) src.now out.old out.new (told result) }
 {
     if src.len() > MAX_INPUT_LEN {
         return Err(Refusal::TextTooLong);
     }
-    if columns_differ(fences, mins, symmetric, times, openers, closers, counts) {
+    if rules.differ() {
         return Err(Refusal::ColumnsDiffer);
     }
-    let alphabet = Alphabet::of(g, fences, symmetric, openers);
-    let table = fence_table(fences, mins);
-    let rows = rule_rows(fences, symmetric, times, openers, closers, counts);
-    fill(src, alphabet, &table, &rows, out)
+    fill(src, &Tables::of(g, rules), out)
 }

@@ -13,6 +13,7 @@ use common::grammar::Grammar;
 use common::list::{END, WIDE};
 use common::refusal::Refusal;
 use context::build;
+use rules::columns::{InlineColumns, RuleColumns};
 use sheet::sheet;
 
 // Numbers for the regions of 8,192 bytes: there are at most half as many as bytes, and one more.
@@ -32,18 +33,18 @@ pub(crate) fn find_regions(text: &[u8], list: &mut [u32; REGION_ROOM]) -> usize
     let openers = [Grammar::OPENER];
     let closers = [Grammar::CLOSER];
     let once = [Grammar::PAIR_COUNT];
-    match build(
-        text,
-        Grammar::house(),
-        &fences,
-        &mins,
-        &symmetric,
-        &once,
-        &openers,
-        &closers,
-        &once,
-        list,
-    ) {
+    let rules = RuleColumns {
+        fences: &fences,
+        mins: &mins,
+        inline: InlineColumns {
+            symmetric: &symmetric,
+            times: &once,
+            openers: &openers,
+            closers: &closers,
+            counts: &once,
+        },
+    };
+    match build(text, Grammar::house(), rules, list) {
         Ok(n) => n,
         Err(_) => 0, // never: there is room, and no column is longer than its others
     }

@@ -3,6 +3,7 @@
 #![tactic(auto)]
 
 use common::grammar::Grammar;
+use rules::columns::{InlineColumns, RuleColumns};
 use std::io::Read;
 
 // What is read of the input at the most.
@@ -94,20 +95,22 @@ fn mark(note: &mut [u8; NOTE]) {
     note[CUT + 24] = b'>';
 }
 
+fn rules() -> RuleColumns<'static, u32> {
+    RuleColumns {
+        fences: b"`~",
+        mins: &[3, 3],
+        inline: InlineColumns {
+            symmetric: b"`",
+            times: &[1],
+            openers: b"<",
+            closers: b">",
+            counts: &[1],
+        },
+    }
+}
+
 fn build(note: &[u8], list: &mut [u32]) -> usize {
-    context::build(
-        note,
-        Grammar::house(),
-        b"`~",
-        &[3, 3],
-        b"`",
-        &[1],
-        b"<",
-        b">",
-        &[1],
-        list,
-    )
-    .unwrap_or(0)
+    context::build(note, Grammar::house(), rules(), list).unwrap_or(0)
 }
 
 fn build_often(note: &[u8], list: &mut [u32], times: u32) -> usize {
@@ -139,13 +142,7 @@ fn amend(note: &[u8], list: &[u32], held: usize, own: &[u8], out: &mut [u32]) ->
         CUT + PARAGRAPH,
         own,
         Grammar::house(),
-        b"`~",
-        &[3, 3],
-        b"`",
-        &[1],
-        b"<",
-        b">",
-        &[1],
+        rules(),
         out,
     )
     .unwrap_or(0)

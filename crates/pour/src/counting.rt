@@ -2,49 +2,23 @@
 ghost use Rattle.std.specs.Prelude.{[], ◌∷◌, length};
 ghost use Rattle.common.specs.Refusals.{given};
 ghost use Rattle.region.specs.Regions.{built_by};
-ghost use Rattle.rules.specs.ByteRules.{columns_in};
+ghost use Rattle.rules.specs.ByteRules.{column_runs, runs_of, columns_in};
 ghost use Rattle.cells.specs.Reply.{Replied};
 ghost use Rattle.pour.specs.Building.{CountedBytes};
 
-use rules::runs::{columns_differ, rule_rows};
 use cells::reply;
 use common::grammar::Grammar;
 use common::span::MAX_INPUT_LEN;
-use lines::fence_tests::fence_table;
 use region::count_regions;
-use rules::search_bytes::Alphabet;
+use rules::columns::{InlineColumns, RuleColumns};
+use rules::tables::Tables;
 
 // All rules of columns into tables, once, and counted by them.
-fn count_by(
-    text: &[u8],
-    g: Grammar,
-    fences: &[u8],
-    mins: &[u8],
-    symmetric: &[u8],
-    times: &[u8],
-    openers: &[u8],
-    closers: &[u8],
-    counts: &[u8],
-    answer: &mut [u8],
-) -> u32
-    ensures { Replied (given (length (built_by g
-        (columns_in (record {
-          fence_bytes = fences.now;
-          fence_mins = mins.now;
-          inline = record {
-            sym_bytes = symmetric.now;
-            sym_counts = times.now;
-            openers = openers.now;
-            closers = closers.now;
-            open_counts = counts.now;
-          };
-        }))
+fn count_by(text: &[u8], g: Grammar, rules: RuleColumns<u8>, answer: &mut [u8]) -> u32
+    ensures { Replied (given (length (built_by g (columns_in (runs_of rules.entry))
         text.now) ∷ [])) answer.old answer.new result }
 {
-    let alphabet = Alphabet::of(g, fences, symmetric, openers);
-    let table = fence_table(fences, mins);
-    let rows = rule_rows(fences, symmetric, times, openers, closers, counts);
-    let all = [count_regions(text, alphabet, &table, &rows)];
+    let all = [count_regions(text, &Tables::of(g, rules))];
     reply::values(&all, answer)
 }
 
@@ -65,23 +39,24 @@ pub fn count_columns(
     answer: &mut [u8],
 ) -> u32
     ensures { CountedBytes (record { eol = eol; escape = escape; sep = sep; tab = tab })
-        (record {
-          fence_bytes = fences.now;
-          fence_mins = mins.now;
-          inline = record {
-            sym_bytes = symmetric.now;
-            sym_counts = times.now;
-            openers = openers.now;
-            closers = closers.now;
-            open_counts = counts.now;
-          };
-        })
+        (column_runs fences.now mins.now symmetric.now times.now openers.now closers.now counts.now)
         text.now answer.old answer.new result }
 {
     if text.len() > MAX_INPUT_LEN {
         return 1;
     }
-    if columns_differ(fences, mins, symmetric, times, openers, closers, counts) {
+    let rules = RuleColumns {
+        fences,
+        mins,
+        inline: InlineColumns {
+            symmetric,
+            times,
+            openers,
+            closers,
+            counts,
+        },
+    };
+    if rules.differ() {
         return 6;
     }
     let g = Grammar {
@@ -90,7 +65,5 @@ pub fn count_columns(
         sep,
         tab,
     };
-    count_by(
-        text, g, fences, mins, symmetric, times, openers, closers, counts, answer,
-    )
+    count_by(text, g, rules, answer)
 }

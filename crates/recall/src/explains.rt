@@ -3,6 +3,7 @@ use crate::lists;
 use common::grammar::Grammar;
 use common::refusal::Refusal;
 use explain::{Reason, explain};
+use rules::columns::{InlineColumns, RuleColumns};
 use stored::asked::Asked;
 use stored::numbers::Numbers;
 
@@ -29,19 +30,18 @@ fn by_house(text: &[u8], line: usize, reply: Numbers) -> Numbers {
     let closers = [Grammar::CLOSER];
     let mut space = [0u32; lists::ROOM];
     let list: &mut [u32] = &mut space;
-    let built = context::build(
-        text,
-        Grammar::house(),
-        &fences,
-        &mins,
-        &symmetric,
-        &once,
-        &openers,
-        &closers,
-        &once,
-        list,
-    );
-    match built {
+    let rules = RuleColumns {
+        fences: &fences,
+        mins: &mins,
+        inline: InlineColumns {
+            symmetric: &symmetric,
+            times: &once,
+            openers: &openers,
+            closers: &closers,
+            counts: &once,
+        },
+    };
+    match context::build(text, Grammar::house(), rules, list) {
         Ok(count) => told(explain(text, &list[..], count, line), reply),
         Err(r) => reply.and(0).and(r.number()),
     }

@@ -2,11 +2,11 @@
 use crate::lists;
 use common::grammar::Grammar;
 use common::refusal::Refusal;
-use lines::fence_tests::fence_table;
 use region::{Cause, Region, next_region};
+use rules::columns::{InlineColumns, RuleColumns};
 use rules::records::FenceRule;
-use rules::rows::{Rows, rule_rows};
-use rules::search_bytes::{Alphabet, search_bytes};
+use rules::search_bytes::search_bytes;
+use rules::tables::Tables;
 use search::byte_at;
 use std::array;
 use stored::answers::STEPS;
@@ -51,18 +51,7 @@ fn build(asked: Asked<'_>, g: Grammar, list: &mut [u32]) -> Result<usize, Refusa
     if asked.letter() == b'd' {
         return build_recorded(asked, g, list);
     }
-    context::build(
-        asked.text,
-        g,
-        asked.bytes(0),
-        asked.bytes(1),
-        asked.bytes(2),
-        asked.list(3),
-        asked.bytes(4),
-        asked.bytes(5),
-        asked.list(6),
-        list,
-    )
+    context::build(asked.text, g, rules_of(asked), list)
 }
 
 fn build_recorded(asked: Asked<'_>, g: Grammar, list: &mut [u32]) -> Result<usize, Refusal> {
@@ -72,13 +61,28 @@ fn build_recorded(asked: Asked<'_>, g: Grammar, list: &mut [u32]) -> Result<usiz
         g,
         records_of(fences, asked.bytes(1)),
         fences.len(),
-        asked.bytes(2),
-        asked.list(3),
-        asked.bytes(4),
-        asked.bytes(5),
-        asked.list(6),
+        inline_of(asked),
         list,
     )
+}
+
+// The columns of all rules; of the inline rules.
+fn rules_of(asked: Asked<'_>) -> RuleColumns<'_, u32> {
+    RuleColumns {
+        fences: asked.bytes(0),
+        mins: asked.bytes(1),
+        inline: inline_of(asked),
+    }
+}
+
+fn inline_of(asked: Asked<'_>) -> InlineColumns<'_, u32> {
+    InlineColumns {
+        symmetric: asked.bytes(2),
+        times: asked.list(3),
+        openers: asked.bytes(4),
+        closers: asked.bytes(5),
+        counts: asked.list(6),
+    }
 }
 
 // The fence rules as records.
@@ -96,34 +100,16 @@ fn searched(asked: Asked<'_>, reply: Numbers) -> Numbers {
 
 // The rules by byte that a step takes, and all steps from place 0 on.
 fn stepped(asked: Asked<'_>, reply: Numbers) -> Numbers {
-    let fences = asked.bytes(0);
-    let symmetric = asked.bytes(2);
-    let openers = asked.bytes(4);
-    let alphabet = Alphabet::of(grammar_of(asked, 0), fences, symmetric, openers);
-    let table = fence_table(fences, asked.bytes(1));
-    let rows = rule_rows(
-        fences,
-        symmetric,
-        asked.list(3),
-        openers,
-        asked.bytes(5),
-        asked.list(6),
-    );
-    run(asked.text, alphabet, &table, &rows, reply.entries())
+    let tables = Tables::of(grammar_of(asked, 0), rules_of(asked));
+    run(asked.text, &tables, reply.entries())
 }
 
-fn run(
-    text: &[u8],
-    alphabet: Alphabet,
-    fences: &[u16; 256],
-    rows: &Rows,
-    begun: Numbers,
-) -> Numbers {
+fn run(text: &[u8], tables: &Tables, begun: Numbers) -> Numbers {
     let mut dead = [0usize; 256];
     let mut from = 0;
     let mut reply = begun;
     for steps in 0..STEPS {
-        let next = next_region(text, from, alphabet, fences, rows, &mut dead);
+        let next = next_region(text, from, tables, &mut dead);
         let Some((r, after)) = next else {
             return reply.counted(steps);
         };

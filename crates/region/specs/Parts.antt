@@ -7,6 +7,7 @@ use Rattle.common.specs.Turn.{Turn}
 use Rattle.common.specs.declared.grammar.Grammar.{Grammar}
 use Rattle.rules.specs.Grammar.{plain, Gram}
 use Rattle.rules.specs.Rows.{cell, rule_in}
+use Rattle.rules.specs.declared.tables.Tables.{Tables}
 use Rattle.region.specs.Region.{Caused}
 use Rattle.region.specs.Regions.{closed_by, sym_turn, asym_turn}
 use Rattle.region.specs.Sight.{Sight}
@@ -23,6 +24,10 @@ fence_gram g fences = record {
   fence_index = λ b. 0;
   fences = reader_in g fences;
 }
+
+-- that of tables
+abbrev pub fence_gram_in : Tables → Gram
+fence_gram_in t = fence_gram t.alphabet.grammar t.fences
 
 -- the fence whose run of `count` begins at p, in a line that ends at e
 unfoldable pub fenced_by : Grammar → List ℕ → ℕ → ℕ → ℕ → ℕ → Turn Caused

@@ -8,19 +8,19 @@ mod pairs; // where an inline pair closes
 ghost use Rattle.std.specs.Prelude.{◌≤◌, ◌<◌, length};
 ghost use Rattle.search.specs.Promise.{Gives};
 ghost use Rattle.common.specs.Rules.{entry};
-ghost use Rattle.rules.specs.Rows.{gram_by};
+ghost use Rattle.rules.specs.Tables.{gram_in};
 ghost use Rattle.region.specs.Regions.{regions};
 ghost use Rattle.region.specs.Sight.{turned};
 ghost use Rattle.region.specs.Views.{view_hit, view_turn};
 ghost use Rattle.region.specs.Memory.{kept_pair, kept_turn, KeptNext};
-ghost use Rattle.region.specs.Parts.{fence_gram, fenced_by, sym_pair, asym_pair, inline_by};
+ghost use Rattle.region.specs.Parts.{fence_gram_in, fenced_by, sym_pair, asym_pair, inline_by};
 
 use common::grammar::Grammar;
 use find::find_any_of;
 use lines::fence_tests::{Hit, fence_close_scan, opens_at};
 use pairs::{asym_close, is_escaped, sym_close};
-use rules::rows::{Rows, closer_of, count_of, fence_index, index_of, kind_of};
-use rules::search_bytes::Alphabet;
+use rules::rows::{closer_of, count_of, fence_index, index_of, kind_of};
+use rules::tables::Tables;
 use search::{byte_at, next_line, run_end};
 
 // Which kind of rule made a region.
@@ -108,44 +108,31 @@ fn pair_by(hit: Hit, p: usize, r: usize, byte: u8, cause: Cause, index: usize) -
 }
 
 // A symmetric pair that may open at `p` with a run of `byte`. There is no search where one was in vain up to the run's end.
-fn sym_pair(
-    src: &[u8],
-    p: usize,
-    byte: u8,
-    g: Grammar,
-    fences: &[u16; 256],
-    rows: &Rows,
-    dead: &[usize; 256],
-) -> Turn
+fn sym_pair(src: &[u8], p: usize, byte: u8, tables: &Tables, dead: &[usize; 256]) -> Turn
     requires { p ≤ length src.now }
-    ensures { Gives (sym_pair (fence_gram g fences.now) rows.now src.now dead.now p byte)
+    ensures { Gives (sym_pair (fence_gram_in tables.now) tables.now.rows src.now dead.now p byte)
         (view_turn result) }
 {
+    let rows = &tables.rows;
     let r = run_end(src, p, byte);
-    if r - p != count_of(rows, byte) {
+    let count = count_of(rows, byte);
+    if r - p != count {
         return Turn::Go(r);
     }
     if r <= sought_to(dead, byte) { // in vain before
         return Turn::Go(r);
     }
-    let hit = sym_close(src, r, byte, count_of(rows, byte), g, fences);
+    let hit = sym_close(src, r, byte, count, tables.alphabet.grammar, &tables.fences);
     pair_by(hit, p, r, byte, Cause::Symmetric, index_of(rows, byte))
 }
 
 // An asymmetric pair that may open at `p` with a run of `byte`.
-fn asym_pair(
-    src: &[u8],
-    p: usize,
-    byte: u8,
-    g: Grammar,
-    fences: &[u16; 256],
-    rows: &Rows,
-    dead: &[usize; 256],
-) -> Turn
+fn asym_pair(src: &[u8], p: usize, byte: u8, tables: &Tables, dead: &[usize; 256]) -> Turn
     requires { p ≤ length src.now }
-    ensures { Gives (asym_pair (fence_gram g fences.now) rows.now src.now dead.now p byte)
+    ensures { Gives (asym_pair (fence_gram_in tables.now) tables.now.rows src.now dead.now p byte)
         (view_turn result) }
 {
+    let rows = &tables.rows;
     let close = closer_of(rows, byte);
     let r = run_end(src, p, byte);
     if r - p != count_of(rows, byte) {
@@ -154,25 +141,19 @@ fn asym_pair(
     if r <= sought_to(dead, byte) {
         return Turn::Go(r);
     }
-    let hit = asym_close(src, r, close, g, fences);
+    let hit = asym_close(src, r, close, tables.alphabet.grammar, &tables.fences);
     pair_by(hit, p, r, byte, Cause::Asymmetric, index_of(rows, byte))
 }
 
 // A byte at `p` that opens no fence, judged by its inline rule; an escaped one is passed.
-fn inline_at(
-    src: &[u8],
-    p: usize,
-    g: Grammar,
-    fences: &[u16; 256],
-    rows: &Rows,
-    dead: &[usize; 256],
-) -> Turn
+fn inline_at(src: &[u8], p: usize, tables: &Tables, dead: &[usize; 256]) -> Turn
     requires { p < length src.now }
-    ensures { Gives (inline_by (fence_gram g fences.now) rows.now src.now dead.now p)
+    ensures { Gives (inline_by (fence_gram_in tables.now) tables.now.rows src.now dead.now p)
         (view_turn result) }
 {
+    let g = tables.alphabet.grammar;
     let b = byte_at(src, p);
-    let k = kind_of(rows, b);
+    let k = kind_of(&tables.rows, b);
     if k == 0 {
         return Turn::Go(p + 1);
     }
@@ -180,34 +161,35 @@ fn inline_at(
         return Turn::Go(p + 1);
     }
     if k == 1 {
-        return sym_pair(src, p, b, g, fences, rows, dead);
+        return sym_pair(src, p, b, tables, dead);
     }
-    asym_pair(src, p, b, g, fences, rows, dead)
+    asym_pair(src, p, b, tables, dead)
 }
 
 // One turn at `q`: the next byte searched for, and what it opens.
-fn region_turn(
-    src: &[u8],
-    q: usize,
-    alphabet: Alphabet,
-    fences: &[u16; 256],
-    rows: &Rows,
-    dead: &[usize; 256],
-) -> Turn
+fn region_turn(src: &[u8], q: usize, tables: &Tables, dead: &[usize; 256]) -> Turn
     requires { q ≤ length src.now }
-    ensures { Gives (kept_turn (gram_by alphabet fences.now rows.now) src.now dead.now q)
+    ensures { Gives (kept_turn (gram_in tables.now) src.now dead.now q)
         (view_turn result) }
 {
-    let g = alphabet.grammar;
-    let searched = alphabet.searched;
-    let needles = searched.bytes;
-    let p = find_any_of(&needles, searched.count, src, q);
+    let g = tables.alphabet.grammar;
+    let searched = &tables.alphabet.searched;
+    let p = find_any_of(&searched.bytes, searched.count, src, q);
     if p >= src.len() {
         return Turn::Stop(q);
     }
-    match opens_at(src, p, g, fences) {
-        Some((run, e)) => { fence_region(src, p, run, e, g, fence_index(rows, byte_at(src, p))) }
-        None => inline_at(src, p, g, fences, rows, dead),
+    match opens_at(src, p, g, &tables.fences) {
+        Some((run, e)) => {
+            fence_region(
+                src,
+                p,
+                run,
+                e,
+                g,
+                fence_index(&tables.rows, byte_at(src, p)),
+            )
+        }
+        None => inline_at(src, p, tables, dead),
     }
 }
 
@@ -217,12 +199,10 @@ fn region_turn(
 pub fn next_region(
     src: &[u8],
     from: usize,
-    alphabet: Alphabet,
-    fences: &[u16; 256],
-    rows: &Rows,
+    tables: &Tables,
     dead: &mut [usize; 256],
 ) -> Option<(Region, usize)>
-    ensures { KeptNext (gram_by alphabet fences.now rows.now) src.now dead.old from result
+    ensures { KeptNext (gram_in tables.now) src.now dead.old from result
         dead.new }
 {
     let len = src.len();
@@ -231,7 +211,7 @@ pub fn next_region(
     }
     let mut q = from;
     loop {
-        match region_turn(src, q, alphabet, fences, rows, dead) {
+        match region_turn(src, q, tables, dead) {
             Turn::Go(next) => {
                 q = next;
             }
@@ -250,14 +230,14 @@ pub fn next_region(
 }
 
 // How many regions a text has.
-pub fn count_regions(src: &[u8], alphabet: Alphabet, fences: &[u16; 256], rows: &Rows) -> usize
-    ensures { Gives (length (regions (gram_by alphabet fences.now rows.now) src.now)) result }
+pub fn count_regions(src: &[u8], tables: &Tables) -> usize
+    ensures { Gives (length (regions (gram_in tables.now) src.now)) result }
 {
     let mut dead = [0usize; 256];
     let mut found: usize = 0;
     let mut q: usize = 0;
     loop {
-        match next_region(src, q, alphabet, fences, rows, &mut dead) {
+        match next_region(src, q, tables, &mut dead) {
             Some((_, next)) => {
                 found += 1;
                 q = next;

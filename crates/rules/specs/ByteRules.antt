@@ -5,6 +5,8 @@ use Rattle.common.specs.Entry.{rows}
 use Rattle.common.specs.Refusals.{differ}
 use Rattle.rules.specs.Columns.{InlineRules, inline_rules, Columns}
 use Rattle.rules.specs.Records.{rule_bytes, rule_mins}
+use Rattle.rules.specs.declared.columns.InlineColumns.{InlineColumns}
+use Rattle.rules.specs.declared.columns.RuleColumns.{RuleColumns}
 use Rattle.rules.specs.declared.records.FenceRule.{FenceRule}
 use Rattle.cells.specs.Bytes.{cells, fourfold}
 
@@ -23,17 +25,31 @@ pub record ColumnRuns : Type 0 where
   pub fence_mins : List ℕ
   pub inline : InlineRuns
 
+-- those of seven runs
+abbrev pub inline_runs : List ℕ → List ℕ → List ℕ → List ℕ → List ℕ → InlineRuns
+inline_runs symmetric times openers closers counts = record { sym_bytes = symmetric; sym_counts = times; openers = openers; closers = closers; open_counts = counts }
+
+abbrev pub column_runs : List ℕ → List ℕ → List ℕ → List ℕ → List ℕ → List ℕ → List ℕ → ColumnRuns
+column_runs fences mins symmetric times openers closers counts = record { fence_bytes = fences; fence_mins = mins; inline = inline_runs symmetric times openers closers counts }
+
+-- those of columns that a program holds
+abbrev pub inline_runs_of : InlineColumns ℕ → InlineRuns
+inline_runs_of i = inline_runs i.symmetric.now i.times.now i.openers.now i.closers.now i.counts.now
+
+abbrev pub runs_of : RuleColumns ℕ → ColumnRuns
+runs_of c = record { fence_bytes = c.fences.now; fence_mins = c.mins.now; inline = inline_runs_of c.inline }
+
 -- fence rules in two bytes each, the byte and the minimum, and the inline rules
 pub record RuleRuns : Type 0 where
   pub fence_rules : List ℕ
   pub inline : InlineRuns
 
 -- ---- 6: a count column has four bytes for each byte of its byte column
-unfoldable pub uneven : InlineRuns → Bool
+abbrev pub uneven : InlineRuns → Bool
 uneven i = not (fourfold i.sym_counts i.sym_bytes) || (differ i.openers i.closers || not (fourfold i.open_counts i.openers))
 
 -- "a rule's columns differ in length": the fence rules', or an inline rule's
-unfoldable pub uneven_columns : ColumnRuns → Bool
+abbrev pub uneven_columns : ColumnRuns → Bool
 uneven_columns c = differ c.fence_bytes c.fence_mins || uneven c.inline
 
 -- the same of fence rules in two bytes each: an odd length is refused too

@@ -9,6 +9,8 @@ use Rattle.common.specs.Rules.{rule_index, has_rule, least_of, entry, on_byte}
 use Rattle.lines.specs.Reader.{reader}
 use Rattle.common.specs.declared.grammar.Grammar.{Grammar}
 use Rattle.rules.specs.Grammar.{Rule, plain, sym, asym, Gram}
+use Rattle.rules.specs.declared.columns.InlineColumns.{InlineColumns}
+use Rattle.rules.specs.declared.columns.RuleColumns.{RuleColumns}
 use Rattle.rules.specs.declared.search_bytes.SearchBytes.{SearchBytes}
 use Rattle.rules.specs.declared.search_bytes.Alphabet.{Alphabet}
 
@@ -38,6 +40,20 @@ unequal_inline i = differ i.sym_bytes i.sym_counts || (differ i.openers i.closer
 
 abbrev pub unequal : Columns → Bool
 unequal c = differ c.fence_bytes c.fence_mins || unequal_inline c.inline
+
+-- ---- columns that a program holds: `numbers` are those of a count column, `differs` says whether they are as many as some bytes
+abbrev pub inline_of : {T : Type 0} → (List T → List ℕ) → InlineColumns T → InlineRules
+inline_of numbers i = inline_rules i.symmetric.now (numbers i.times.now) i.openers.now i.closers.now (numbers i.counts.now)
+
+abbrev pub columns_of : {T : Type 0} → (List T → List ℕ) → RuleColumns T → Columns
+columns_of numbers c = record { fence_bytes = c.fences.now; fence_mins = c.mins.now; inline = inline_of numbers c.inline }
+
+-- of numbers these are `unequal_inline` and `unequal`, of bytes `uneven` and `uneven_columns`
+abbrev pub inline_differ : {T : Type 0} → (List ℕ → List T → Bool) → InlineColumns T → Bool
+inline_differ differs i = differs i.symmetric.now i.times.now || (differ i.openers.now i.closers.now || differs i.openers.now i.counts.now)
+
+abbrev pub columns_differ : {T : Type 0} → (List ℕ → List T → Bool) → RuleColumns T → Bool
+columns_differ differs c = differ c.fences.now c.mins.now || inline_differ differs c.inline
 
 -- ---- the bytes searched for
 -- whether a list gains nothing by a byte: it has eleven already, or has that byte

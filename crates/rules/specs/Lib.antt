@@ -3,7 +3,6 @@ pub mod Columns
 pub mod Rows
 pub mod ColumnLaws
 pub mod LeftOutLaws
-pub mod DifferLaws
 pub mod RowLaws
 pub mod Records
 pub mod RecordLaws
@@ -11,3 +10,5 @@ pub mod DistinctLaws
 pub mod ByteRules
 pub mod RuleLaws
 pub mod RuleBuilding
+pub mod Tables
+pub mod TableLaws

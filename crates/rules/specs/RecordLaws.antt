@@ -16,9 +16,11 @@ use Rattle.common.specs.Rules.{rule_index, has_rule, least_of, on_byte}
 use Rattle.common.specs.declared.grammar.Grammar.{Grammar}
 use Rattle.lines.specs.Reader.{reader}
 use Rattle.rules.specs.Grammar.{plain, Gram}
-use Rattle.rules.specs.Columns.{Columns, inline_rules, columns, how_many, rule_byte, left_out, searched, holding, gained, gained_all, inline_rule, fence_index_of, gram_of}
+use Rattle.rules.specs.Columns.{Columns, inline_rules, columns, inline_of, columns_of, how_many, rule_byte, left_out, searched, holding, gained, gained_all, inline_rule, fence_index_of, gram_of}
 use Rattle.rules.specs.ColumnLaws.{pad_take, pad_set}
-use Rattle.rules.specs.Records.{no_rule, no_rules, rule_bytes, rule_mins, kept_bytes, kept_mins, unkept, with_rule, OneMore, gathered_from, gathered_of, AllGathered}
+use Rattle.rules.specs.Records.{no_rule, no_rules, rule_bytes, rule_mins, kept_bytes, kept_mins, unkept, with_rule, OneMore, KeptColumns, gathered_from, gathered_of, AllGathered}
+use Rattle.rules.specs.declared.columns.InlineColumns.{InlineColumns}
+use Rattle.rules.specs.declared.columns.RuleColumns.{RuleColumns}
 use Rattle.rules.specs.declared.records.FenceRule.{FenceRule}
 use Rattle.rules.specs.declared.records.Gathered.{Gathered}
 
@@ -554,3 +556,8 @@ take-few l n k m e g = by (decide (ltb n k))
 -- a part from place 0 on
 pub take-front : {A : Type 0} (l : List A) (n m : ℕ) → Gives (min n (length l)) m → take (m - 0) (drop 0 l) ≡ take n l
 take-front l n m g = let z : m - 0 ≡ m = omega arith in rw z (take-few l n (length l) m refl g)
+
+-- the columns that are lent are those of the rules that are kept
+pub kept_told : {T : Type 0} (numbers : List T → List ℕ) {f : Gathered} {i : InlineColumns T} {c : RuleColumns T} → KeptColumns f i c
+    → columns_of numbers c ≡ record { fence_bytes = kept_bytes f; fence_mins = kept_mins f; inline = inline_of numbers i }
+kept_told numbers k = λ j. record { fence_bytes = k.bytes j; fence_mins = k.mins j; inline = inline_of numbers (k.inline j) }

@@ -2,6 +2,9 @@
 -- The page: "afterwards a thin entry takes a lent run of fence rule records."
 use Rattle.std.specs.Prelude.{◌≡◌, Bool, cond, ◌||◌, List, [], ◌∷◌, map, ℕ, suc, ◌+◌, ◌<◌, leb, length, get_or, take, set, replicate}
 use Rattle.search.specs.Search.{one_of}
+use Rattle.rules.specs.Columns.{Columns, inline_of}
+use Rattle.rules.specs.declared.columns.InlineColumns.{InlineColumns}
+use Rattle.rules.specs.declared.columns.RuleColumns.{RuleColumns}
 use Rattle.rules.specs.declared.records.FenceRule.{FenceRule}
 use Rattle.rules.specs.declared.records.Gathered.{Gathered}
 
@@ -15,6 +18,10 @@ rule_mins rules = map (λ r. r.min) rules
 abbrev pub no_rule : FenceRule
 no_rule = record { byte = 0; min = 0 }
 
+-- the columns of a run of rules and of inline rules
+abbrev pub rules_of : {T : Type 0} → (List T → List ℕ) → List FenceRule → InlineColumns T → Columns
+rules_of numbers rules i = record { fence_bytes = rule_bytes rules; fence_mins = rule_mins rules; inline = inline_of numbers i }
+
 -- ---- gathering
 abbrev pub no_rules : Gathered
 no_rules = record { bytes = replicate 256 0; mins = replicate 256 0; places = replicate 256 0; count = 0; last = 0 }
@@ -25,6 +32,12 @@ kept_bytes f = take f.count f.bytes
 
 abbrev pub kept_mins : Gathered → List ℕ
 kept_mins f = take f.count f.mins
+
+-- what lending them with inline rules promises
+pub record KeptColumns {T : Type 0} (f : Gathered) (i : InlineColumns T) (c : RuleColumns T) : Type 0 where
+  pub bytes : c.fences.now ≡ kept_bytes f
+  pub mins : c.mins.now ≡ kept_mins f
+  pub inline : c.inline ≡ i
 
 -- "by the first rule with that byte": one whose byte came before is never used; nor is there a place behind 256
 abbrev pub unkept : Gathered → ℕ → Bool

@@ -1,9 +1,11 @@
-// Fence rules as records: gathered into columns.
-ghost use Rattle.std.specs.Prelude.{◌<◌, length, get_or};
+// Fence rules as records, or in two bytes each: gathered into columns.
 ghost use Rattle.search.specs.Promise.{Gives};
-ghost use Rattle.rules.specs.Records.{no_rule, no_rules, OneMore, AllGathered};
+ghost use Rattle.rules.specs.Records.{no_rules, OneMore, KeptColumns, AllGathered};
+ghost use Rattle.rules.specs.ByteRules.{fence_rules_of};
 
+use crate::columns::{InlineColumns, RuleColumns};
 use find::is_one_of;
+use search::{byte_at, lesser};
 
 // A fence's byte, and the least length of its run.
 #[repr(C)]
@@ -59,14 +61,18 @@ impl Gathered {
         more.count = n + 1;
         more
     }
-}
 
-// A rule of the run.
-fn rule_at(rules: &[FenceRule], i: usize) -> FenceRule
-    requires { i < length rules.now }
-    ensures { Gives (get_or rules.now i no_rule) result }
-{
-    rules[i]
+    // The rules kept, before inline rules.
+    pub fn columns<'a, T>(&'a self, inline: InlineColumns<'a, T>) -> RuleColumns<'a, T>
+        ensures { KeptColumns self.now inline.entry result }
+    {
+        let n = lesser(self.count, 256);
+        RuleColumns {
+            fences: &self.bytes[..n],
+            mins: &self.mins[..n],
+            inline,
+        }
+    }
 }
 
 // The whole run, gathered, each rule at its own index.
@@ -74,10 +80,23 @@ pub fn gather(rules: &[FenceRule]) -> Gathered
     ensures { AllGathered rules.now result }
 {
     let mut all = Gathered::new();
-    let mut i: usize = 0;
-    while i < rules.len() {
-        all = all.with(rule_at(rules, i), i);
-        i += 1;
+    for (i, &rule) in rules.iter().enumerate() {
+        all = all.with(rule, i);
+    }
+    all
+}
+
+// Fence rules of two bytes each, gathered, each at its own index.
+pub fn gather_rules(rules: &[u8]) -> Gathered
+    ensures { AllGathered (fence_rules_of rules.now) result }
+{
+    let mut all = Gathered::new();
+    for i in 0..rules.len() / 2 {
+        let rule = FenceRule {
+            byte: byte_at(rules, i * 2),
+            min: byte_at(rules, i * 2 + 1),
+        };
+        all = all.with(rule, i);
     }
     all
 }

@@ -3,14 +3,17 @@
 // `lines`, which is smaller.)
 ghost use Rattle.std.specs.Prelude.{◌%◌, [], get_or};
 ghost use Rattle.search.specs.Promise.{Gives};
-ghost use Rattle.rules.specs.Columns.{inline_rules};
+ghost use Rattle.rules.specs.Columns.{inline_of};
 ghost use Rattle.rules.specs.Rows.{cell, no_rows, pair_row, fenced_row, RulesLaid, twin, fencer, OpenersLaid, Folded};
 
+use crate::columns::{InlineColumns, RuleColumns};
+use cells::Piece;
 use common::sets::index;
 use search::byte_at;
 
 // A byte's row: the index of its fence rule; and what it opens within a paragraph: kind 0 nothing, 1 a symmetric pair, 2 an asymmetric
 // one; the closing byte of an asymmetric pair; the count; and the inline rule's index.
+// Numbers for kinds, since the promises of the public functions below name a row's cells by their places.
 pub type Row = [usize; 5];
 
 pub type Rows = [[usize; 5]; 256];
@@ -69,62 +72,41 @@ fn fence_row(row: Row, rule: usize) -> Row
     [rule, row[1], row[2], row[3], row[4]]
 }
 
-// A count of 32 bits as a number.
-pub fn widened(n: u32) -> usize
-    ensures { Gives n result }
+// The number in cell `i` of a count column, else 0.
+fn count_at<T: Piece>(run: &[T], i: usize) -> usize
+    ensures { Gives (get_or (T.numbers run.now) i 0) result }
 {
-    n as usize
-}
-
-// The number at place `i`, else 0.
-fn number_at(numbers: &[u32], i: usize) -> usize
-    ensures { Gives (get_or numbers.now i 0) result }
-{
-    if i < numbers.len() {
-        return widened(numbers[i]);
-    }
-    0
+    T::number(run, i) as usize
 }
 
 // The asymmetric rules over what stands in the rows.
-fn put_openers(rows: &mut Rows, openers: &[u8], closers: &[u8], counts: &[u32])
-    ensures { OpenersLaid openers.now closers.now counts.now rows.old rows.new }
+fn put_openers<T: Piece>(rows: &mut Rows, openers: &[u8], closers: &[u8], counts: &[T])
+    ensures { OpenersLaid openers.now closers.now (T.numbers counts.now) rows.old rows.new }
 {
-    let mut i = openers.len();
-    while i > 0 {
-        i -= 1;
+    for i in (0..openers.len()).rev() {
         let b = index(openers[i]);
         let closer = index(byte_at(closers, i));
-        rows[b] = pair_row(rows[b], 2, closer, number_at(counts, i), i);
+        rows[b] = pair_row(rows[b], 2, closer, count_at(counts, i), i);
     }
 }
 
 // The symmetric rules over what stands in the rows.
-fn put_symmetric(rows: &mut Rows, symmetric: &[u8], times: &[u32])
-    ensures { RulesLaid symmetric.now (twin times.now) rows.old rows.new }
+fn put_symmetric<T: Piece>(rows: &mut Rows, symmetric: &[u8], times: &[T])
+    ensures { RulesLaid symmetric.now (twin (T.numbers times.now)) rows.old rows.new }
 {
-    let mut i = symmetric.len();
-    while i > 0 {
-        i -= 1;
+    for i in (0..symmetric.len()).rev() {
         let b = index(symmetric[i]);
-        rows[b] = pair_row(rows[b], 1, 0, number_at(times, i), i);
+        rows[b] = pair_row(rows[b], 1, 0, count_at(times, i), i);
     }
 }
 
 // The inline rules of columns by byte.
-fn inline_rows(
-    symmetric: &[u8],
-    times: &[u32],
-    openers: &[u8],
-    closers: &[u8],
-    counts: &[u32],
-) -> Rows
-    ensures { Folded [] (inline_rules symmetric.now times.now openers.now closers.now
-        counts.now) result }
+fn inline_rows<T: Piece>(rules: InlineColumns<T>) -> Rows
+    ensures { Folded [] (inline_of T.numbers rules.entry) result }
 {
     let mut rows = no_rows();
-    put_openers(&mut rows, openers, closers, counts);
-    put_symmetric(&mut rows, symmetric, times);
+    put_openers(&mut rows, rules.openers, rules.closers, rules.counts);
+    put_symmetric(&mut rows, rules.symmetric, rules.times);
     rows
 }
 
@@ -132,27 +114,17 @@ fn inline_rows(
 pub fn put_fences(rows: &mut Rows, fences: &[u8])
     ensures { RulesLaid fences.now fencer rows.old rows.new }
 {
-    let mut i = fences.len();
-    while i > 0 {
-        i -= 1;
+    for i in (0..fences.len()).rev() {
         let b = index(fences[i]);
         rows[b] = fence_row(rows[b], i);
     }
 }
 
 // All rules of columns by byte.
-pub fn rule_rows(
-    fences: &[u8],
-    symmetric: &[u8],
-    times: &[u32],
-    openers: &[u8],
-    closers: &[u8],
-    counts: &[u32],
-) -> Rows
-    ensures { Folded fences.now (inline_rules symmetric.now times.now openers.now
-        closers.now counts.now) result }
+pub fn rule_rows<T: Piece>(rules: RuleColumns<T>) -> Rows
+    ensures { Folded rules.entry.fences.now (inline_of T.numbers rules.entry.inline) result }
 {
-    let mut rows = inline_rows(symmetric, times, openers, closers, counts);
-    put_fences(&mut rows, fences);
+    let mut rows = inline_rows(rules.inline);
+    put_fences(&mut rows, rules.fences);
     rows
 }

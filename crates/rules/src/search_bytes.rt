@@ -5,6 +5,8 @@ ghost use Rattle.search.specs.Search.{one_of};
 ghost use Rattle.common.specs.Sets.{as_flag};
 ghost use Rattle.rules.specs.Columns.{no_bytes, with_byte, gathered, search_bytes, sets_with, how_many, left_of, alphabet_of};
 
+use crate::columns::RuleColumns;
+use cells::Piece;
 use common::grammar::Grammar;
 use common::sets::{accepts, byte_set};
 use find::is_one_of;
@@ -49,10 +51,8 @@ impl SearchBytes {
         ensures { Gives (gathered self column.now) result }
     {
         let mut all = self;
-        let mut i = 0;
-        while i < column.len() {
-            all = all.with(column[i]);
-            i += 1;
+        for &b in column {
+            all = all.with(b);
         }
         all
     }
@@ -93,10 +93,8 @@ fn count_left(kept: SearchBytes, a: &[bool; 256], b: &[bool; 256], c: &[bool; 25
         && not (one_of (take kept.count kept.bytes) x)) 256) result }
 {
     let mut n: usize = 0;
-    let mut x: usize = 0;
-    while x < 256 {
+    for x in 0..256usize {
         n += left_by(kept, a, b, c, x as u8);
-        x += 1;
     }
     n
 }
@@ -120,12 +118,14 @@ pub struct Alphabet {
 
 impl Alphabet {
     // By rules given as columns.
-    pub fn of(grammar: Grammar, fences: &[u8], symmetric: &[u8], openers: &[u8]) -> Self
-        ensures { Gives (alphabet_of grammar fences.now symmetric.now openers.now) result }
+    pub fn of<T: Piece>(grammar: Grammar, rules: RuleColumns<T>) -> Self
+        ensures { Gives (alphabet_of grammar rules.entry.fences.now rules.entry.inline.symmetric.now
+            rules.entry.inline.openers.now) result }
     {
+        let inline = rules.inline;
         Alphabet {
             grammar,
-            searched: search_bytes(fences, symmetric, openers),
+            searched: search_bytes(rules.fences, inline.symmetric, inline.openers),
         }
     }
 }

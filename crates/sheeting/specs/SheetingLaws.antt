@@ -10,13 +10,12 @@ use Rattle.common.specs.Sets.{set_of}
 use Rattle.common.specs.declared.grammar.Grammar.{Grammar}
 use Rattle.rules.specs.Grammar.{Gram}
 use Rattle.region.specs.Regions.{regions, built_by}
-use Rattle.lines.specs.Fences.{fence_table}
-use Rattle.rules.specs.Columns.{alphabet_of}
-use Rattle.rules.specs.Rows.{gram_by, Folded}
+use Rattle.rules.specs.Tables.{gram_in, TablesOf}
+use Rattle.rules.specs.TableLaws.{grammar_told}
+use Rattle.rules.specs.declared.tables.Tables.{Tables}
 use Rattle.region.specs.LoopLaws.{row-wide}
 use Rattle.region.specs.MemoryLaws.{sound_zeros}
 use Rattle.cover.specs.Cursor.{covers}
-use Rattle.rules.specs.declared.search_bytes.Alphabet.{Alphabet}
 use Rattle.feed.specs.Items.{tested_place}
 use Rattle.sheet.specs.Sheet.{five, inside, outside, sheet_of}
 use Rattle.feed.specs.Feeds.{fresh_feed, taken}
@@ -147,18 +146,17 @@ module _ (g : Grammar) (z : Gram) (markers delims : List Bool) (s : List ℕ) (a
         subst (λ (x : List SheetItem). SheetPoured x lent after r) sheet-left (pour_done item_bytes 20 (left markers delims s (map row_of (regions z s)) a) lent y f after m k r e q n v d)
 
 -- ---- by the rules and sets, folded
-module _ (g : Grammar) (c : ColumnRuns) (mb db s : List ℕ) (markers delims : List Bool) (a : Alphabet) (fences : List ℕ) (rules : List (List ℕ))
-    (ha : Gives (alphabet_of g c.fence_bytes c.inline.sym_bytes c.inline.openers) a) (hf : Gives (fence_table c.fence_bytes c.fence_mins) fences)
-    (hr : Folded c.fence_bytes (inline_in c.inline) rules) (hm : Gives (set_of mb) markers) (hd : Gives (set_of db) delims) where
-  sheet-same : sheet_with a.grammar markers delims (regions (gram_by a fences rules) s) s ≡ sheet_with g (set_of mb) (set_of db) (built_by g (columns_in c) s) s
+module _ (g : Grammar) (c : ColumnRuns) (mb db s : List ℕ) (markers delims : List Bool) (t : Tables) (w : TablesOf g (record { fence_bytes = c.fence_bytes; fence_mins = c.fence_mins; inline = inline_in c.inline }) t)
+    (hm : Gives (set_of mb) markers) (hd : Gives (set_of db) delims) where
+  sheet-same : sheet_with t.alphabet.grammar markers delims (regions (gram_in t) s) s ≡ sheet_with g (set_of mb) (set_of db) (built_by g (columns_in c) s) s
   sheet-same =
-      ap (λ (x : Alphabet). sheet_with x.grammar markers delims (regions (gram_by a fences rules) s) s) ha.answer ∙ ap (λ (x : Gram). sheet_with g markers delims (regions x s) s) (gram_folded g c a fences rules ha hf hr)
+      ap (λ (x : Grammar). sheet_with x markers delims (regions (gram_in t) s) s) (grammar_told w) ∙ ap (λ (x : Gram). sheet_with g markers delims (regions x s) s) (gram_folded c w)
       ∙ ap (λ (x : List Bool). sheet_with g x delims (built_by g (columns_in c) s) s) hm.answer ∙ ap (λ (x : List Bool). sheet_with g (set_of mb) x (built_by g (columns_in c) s) s) hd.answer
 
-  pub sheet_folded : (before after : ListRuns) (r : ℕ) → SheetPoured (sheet_with a.grammar markers delims (regions (gram_by a fences rules) s) s) before after r
+  pub sheet_folded : (before after : ListRuns) (r : ℕ) → SheetPoured (sheet_with t.alphabet.grammar markers delims (regions (gram_in t) s) s) before after r
       → SheetPoured (sheet_with g (set_of mb) (set_of db) (built_by g (columns_in c) s) s) before after r
   sheet_folded before after r v = subst (λ (x : List SheetItem). SheetPoured x before after r) sheet-same v
 
-  pub count_folded : (k r : ℕ) (run run' : List ℕ) → Gives (length (sheet_with a.grammar markers delims (regions (gram_by a fences rules) s) s)) k → Replied (given (k ∷ [])) run run' r
+  pub count_folded : (k r : ℕ) (run run' : List ℕ) → Gives (length (sheet_with t.alphabet.grammar markers delims (regions (gram_in t) s) s)) k → Replied (given (k ∷ [])) run run' r
       → Replied (given (length (sheet_with g (set_of mb) (set_of db) (built_by g (columns_in c) s) s) ∷ [])) run run' r
   count_folded k r run run' n d = subst (λ (x : ℕ). Replied (given (x ∷ [])) run run' r) (n.answer ∙ ap length sheet-same) d

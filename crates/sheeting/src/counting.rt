@@ -4,83 +4,56 @@ ghost use Rattle.search.specs.Promise.{Gives};
 ghost use Rattle.common.specs.Refusals.{given};
 ghost use Rattle.common.specs.Sets.{set_of};
 ghost use Rattle.region.specs.Regions.{regions, built_by};
-ghost use Rattle.rules.specs.Rows.{gram_by};
-ghost use Rattle.rules.specs.ByteRules.{columns_in};
+ghost use Rattle.rules.specs.Tables.{gram_in};
+ghost use Rattle.rules.specs.ByteRules.{column_runs, runs_of, columns_in};
 ghost use Rattle.cells.specs.Reply.{Replied};
 ghost use Rattle.sheeting.specs.Sheeting.{sheet_with, SheetCounted};
 
 use crate::hiding::Hider;
 use crate::{Sieve, count_items};
-use rules::runs::{columns_differ, rule_rows};
 use cells::reply;
 use common::grammar::Grammar;
 use common::sets::byte_set;
 use common::span::MAX_INPUT_LEN;
 use feed::start;
-use lines::fence_tests::fence_table;
-use rules::rows::Rows;
-use rules::search_bytes::Alphabet;
+use rules::columns::{InlineColumns, RuleColumns};
+use rules::tables::Tables;
 
 // How many items of a text within the limit are shown.
-fn count_shown(
-    text: &[u8],
-    markers: &[bool; 256],
-    delims: &[bool; 256],
-    alphabet: Alphabet,
-    fences: &[u16; 256],
-    rows: &Rows,
-) -> usize
+fn count_shown(text: &[u8], markers: &[bool; 256], delims: &[bool; 256], tables: &Tables) -> usize
     requires { length text.now ≤ 4294967295 }
-    ensures { Gives (length (sheet_with alphabet.grammar markers.now delims.now (regions
-        (gram_by alphabet fences.now rows.now) text.now) text.now)) result }
+    ensures { Gives (length (sheet_with tables.now.alphabet.grammar markers.now delims.now (regions
+        (gram_in tables.now) text.now) text.now)) result }
 {
     let walk = Sieve {
-        feed: start(alphabet.grammar, text, markers, delims),
+        feed: start(tables.alphabet.grammar, text, markers, delims),
         hider: Hider {
             start: 0,
             stop: 0,
             next: 0,
         },
     };
-    count_items(walk, text, markers, delims, alphabet, fences, rows)
+    count_items(walk, text, markers, delims, tables)
 }
 
 // All rules and both sets into tables, once, and counted by them.
 fn count_by(
     text: &[u8],
     g: Grammar,
-    fences: &[u8],
-    mins: &[u8],
-    symmetric: &[u8],
-    times: &[u8],
-    openers: &[u8],
-    closers: &[u8],
-    counts: &[u8],
+    rules: RuleColumns<u8>,
     markers: &[u8],
     delims: &[u8],
     answer: &mut [u8],
 ) -> u32
     requires { length text.now ≤ 4294967295 }
     ensures { Replied (given (length (sheet_with g (set_of markers.now) (set_of delims.now) (built_by g
-        (columns_in (record {
-          fence_bytes = fences.now;
-          fence_mins = mins.now;
-          inline = record {
-            sym_bytes = symmetric.now;
-            sym_counts = times.now;
-            openers = openers.now;
-            closers = closers.now;
-            open_counts = counts.now;
-          };
-        }))
+        (columns_in (runs_of rules.entry))
         text.now) text.now) ∷ [])) answer.old answer.new result }
 {
-    let alphabet = Alphabet::of(g, fences, symmetric, openers);
-    let table = fence_table(fences, mins);
-    let rows = rule_rows(fences, symmetric, times, openers, closers, counts);
+    let tables = Tables::of(g, rules);
     let marker_set = byte_set(markers);
     let delim_set = byte_set(delims);
-    let all = [count_shown(text, &marker_set, &delim_set, alphabet, &table, &rows)];
+    let all = [count_shown(text, &marker_set, &delim_set, &tables)];
     reply::values(&all, answer)
 }
 
@@ -103,23 +76,24 @@ pub fn count_columns(
     answer: &mut [u8],
 ) -> u32
     ensures { SheetCounted (record { eol = eol; escape = escape; sep = sep; tab = tab })
-        (record {
-          fence_bytes = fences.now;
-          fence_mins = mins.now;
-          inline = record {
-            sym_bytes = symmetric.now;
-            sym_counts = times.now;
-            openers = openers.now;
-            closers = closers.now;
-            open_counts = counts.now;
-          };
-        })
+        (column_runs fences.now mins.now symmetric.now times.now openers.now closers.now counts.now)
         markers.now delims.now text.now answer.old answer.new result }
 {
+    let rules = RuleColumns {
+        fences,
+        mins,
+        inline: InlineColumns {
+            symmetric,
+            times,
+            openers,
+            closers,
+            counts,
+        },
+    };
     if text.len() > MAX_INPUT_LEN {
         return 1;
     }
-    if columns_differ(fences, mins, symmetric, times, openers, closers, counts) {
+    if rules.differ() {
         return 6;
     }
     let g = Grammar {
@@ -128,7 +102,5 @@ pub fn count_columns(
         sep,
         tab,
     };
-    count_by(
-        text, g, fences, mins, symmetric, times, openers, closers, counts, markers, delims, answer,
-    )
+    count_by(text, g, rules, markers, delims, answer)
 }

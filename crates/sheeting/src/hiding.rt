@@ -3,13 +3,12 @@
 ghost use Rattle.std.specs.Prelude.{[], ◌∷◌};
 ghost use Rattle.search.specs.Promise.{Gives};
 ghost use Rattle.cover.specs.Cursor.{covers};
-ghost use Rattle.rules.specs.Rows.{gram_by};
+ghost use Rattle.rules.specs.Tables.{gram_in};
 ghost use Rattle.region.specs.MemoryLaws.{Sound};
 ghost use Rattle.sheeting.specs.Hiding.{HidesFrom, PassedOn};
 
 use region::next_region;
-use rules::rows::Rows;
-use rules::search_bytes::Alphabet;
+use rules::tables::Tables;
 
 // The region that may hide the next place, and where the scan goes on after it. One that ends where it starts hides nothing.
 #[derive(Clone, Copy)]
@@ -25,21 +24,19 @@ pub(crate) fn pass(
     hider: Hider,
     place: usize,
     text: &[u8],
-    alphabet: Alphabet,
-    fences: &[u16; 256],
-    rows: &Rows,
+    tables: &Tables,
     dead: &mut [usize; 256],
 ) -> Hider
-    requires sound { Sound (gram_by alphabet fences.now rows.now) text.now dead.old hider.next }
-    requires hides_from { HidesFrom (gram_by alphabet fences.now rows.now) text.now place hider }
-    ensures { PassedOn (gram_by alphabet fences.now rows.now) text.now dead.new place result }
+    requires sound { Sound (gram_in tables.now) text.now dead.old hider.next }
+    requires hides_from { HidesFrom (gram_in tables.now) text.now place hider }
+    ensures { PassedOn (gram_in tables.now) text.now dead.new place result }
 {
     let mut h = hider;
     loop {
         if place < h.stop {
             return h;
         }
-        match next_region(text, h.next, alphabet, fences, rows, dead) {
+        match next_region(text, h.next, tables, dead) {
             Some((r, next)) => {
                 h = Hider {
                     start: r.start,

@@ -10,11 +10,10 @@ ghost use Rattle.search.specs.Promise.{Gives};
 ghost use Rattle.common.specs.Sets.{set_of};
 ghost use Rattle.region.specs.Regions.{regions, built_by};
 ghost use Rattle.common.specs.Lists.{Wrote};
-ghost use Rattle.rules.specs.Rows.{gram_by};
-ghost use Rattle.rules.specs.ByteRules.{columns_in};
+ghost use Rattle.rules.specs.Tables.{gram_in};
+ghost use Rattle.rules.specs.ByteRules.{column_runs, runs_of, columns_in};
 ghost use Rattle.sheeting.specs.Sheeting.{item_bytes, ItemPut, left_by, SieveReady, ReadyBy, SieveTurned, sheet_with, SheetPoured, SheetBytes};
 
-use rules::runs::{columns_differ, rule_rows};
 use cells::reply;
 use cells::reply::put_numbers;
 use common::grammar::Grammar;
@@ -23,9 +22,8 @@ use common::span::MAX_INPUT_LEN;
 use feed::item::{SheetItem, tested_place};
 use feed::{Feed, start, take};
 use hiding::{Hider, hides, pass};
-use lines::fence_tests::fence_table;
-use rules::rows::Rows;
-use rules::search_bytes::Alphabet;
+use rules::columns::{InlineColumns, RuleColumns};
+use rules::tables::Tables;
 use sheet::item::Seen;
 
 // Both scanners, and the region that may hide their next item.
@@ -76,13 +74,11 @@ fn turn(
     text: &[u8],
     markers: &[bool; 256],
     delims: &[bool; 256],
-    alphabet: Alphabet,
-    fences: &[u16; 256],
-    rows: &Rows,
+    tables: &Tables,
     dead: &mut [usize; 256],
 ) -> Sieved
-    requires { ReadyBy (gram_by alphabet fences.now rows.now) markers.now delims.now text.now dead.old w }
-    ensures { SieveTurned (gram_by alphabet fences.now rows.now) markers.now delims.now
+    requires { ReadyBy (gram_in tables.now) markers.now delims.now text.now dead.old w }
+    ensures { SieveTurned (gram_in tables.now) markers.now delims.now
         text.now dead.new w result }
 {
     let before = w.hider;
@@ -99,7 +95,7 @@ fn turn(
         },
         Some(i) => {
             let place = tested_place(i);
-            let hider = pass(before, place, text, alphabet, fences, rows, dead);
+            let hider = pass(before, place, text, tables, dead);
             let rest = Sieve { feed, hider };
             if hides(hider, place) {
                 return Sieved {
@@ -121,19 +117,17 @@ pub(crate) fn count_items(
     text: &[u8],
     markers: &[bool; 256],
     delims: &[bool; 256],
-    alphabet: Alphabet,
-    fences: &[u16; 256],
-    rows: &Rows,
+    tables: &Tables,
 ) -> usize
-    requires { SieveReady (gram_by alphabet fences.now rows.now) markers.now delims.now text.now walk }
-    ensures { Gives (length (left_by (gram_by alphabet fences.now rows.now) markers.now
+    requires { SieveReady (gram_in tables.now) markers.now delims.now text.now walk }
+    ensures { Gives (length (left_by (gram_in tables.now) markers.now
         delims.now text.now walk)) result }
 {
     let mut dead = [0usize; 256];
     let mut w = walk;
     let mut found: usize = 0;
     loop {
-        let t = turn(w, text, markers, delims, alphabet, fences, rows, &mut dead);
+        let t = turn(w, text, markers, delims, tables, &mut dead);
         let seen = t.seen;
         let rest = t.rest;
         match seen {
@@ -157,21 +151,19 @@ fn write_items(
     text: &[u8],
     markers: &[bool; 256],
     delims: &[bool; 256],
-    alphabet: Alphabet,
-    fences: &[u16; 256],
-    rows: &Rows,
+    tables: &Tables,
     out: &mut [u8],
 ) -> usize
-    requires sieve_ready { SieveReady (gram_by alphabet fences.now rows.now) markers.now delims.now text.now walk }
-    requires walk_in_bounds { length (left_by (gram_by alphabet fences.now rows.now) markers.now delims.now text.now walk) ≤ length out.old / 20 }
-    ensures { Wrote item_bytes (left_by (gram_by alphabet fences.now rows.now) markers.now
+    requires sieve_ready { SieveReady (gram_in tables.now) markers.now delims.now text.now walk }
+    requires walk_in_bounds { length (left_by (gram_in tables.now) markers.now delims.now text.now walk) ≤ length out.old / 20 }
+    ensures { Wrote item_bytes (left_by (gram_in tables.now) markers.now
         delims.now text.now walk) out.old out.new result }
 {
     let mut dead = [0usize; 256];
     let mut w = walk;
     let mut found: usize = 0;
     loop {
-        let t = turn(w, text, markers, delims, alphabet, fences, rows, &mut dead);
+        let t = turn(w, text, markers, delims, tables, &mut dead);
         let seen = t.seen;
         let rest = t.rest;
         match seen {
@@ -197,19 +189,17 @@ fn fits(
     text: &[u8],
     markers: &[bool; 256],
     delims: &[bool; 256],
-    alphabet: Alphabet,
-    fences: &[u16; 256],
-    rows: &Rows,
+    tables: &Tables,
 ) -> bool
-    requires { SieveReady (gram_by alphabet fences.now rows.now) markers.now delims.now text.now walk }
-    ensures { Gives (leb (length (left_by (gram_by alphabet fences.now rows.now) markers.now
+    requires { SieveReady (gram_in tables.now) markers.now delims.now text.now walk }
+    ensures { Gives (leb (length (left_by (gram_in tables.now) markers.now
         delims.now text.now walk)) (len / 20)) result }
 {
     let most = item_room(len);
     if text.len() <= most {
         return true;
     }
-    count_items(walk, text, markers, delims, alphabet, fences, rows) <= most
+    count_items(walk, text, markers, delims, tables) <= most
 }
 
 // Writes the sheet of a text within the limit, and replies how many items there are; or refuses where the list or the answer run is too
@@ -218,20 +208,18 @@ fn pour_sheet(
     text: &[u8],
     markers: &[bool; 256],
     delims: &[bool; 256],
-    alphabet: Alphabet,
-    fences: &[u16; 256],
-    rows: &Rows,
+    tables: &Tables,
     out: &mut [u8],
     answer: &mut [u8],
 ) -> u32
     requires { length text.now ≤ 4294967295 }
-    ensures { SheetPoured (sheet_with alphabet.grammar markers.now delims.now (regions
-        (gram_by alphabet fences.now rows.now) text.now) text.now)
+    ensures { SheetPoured (sheet_with tables.now.alphabet.grammar markers.now delims.now (regions
+        (gram_in tables.now) text.now) text.now)
         (record { list = out.old; answer = answer.old })
         (record { list = out.new; answer = answer.new }) result }
 {
     let walk = Sieve {
-        feed: start(alphabet.grammar, text, markers, delims),
+        feed: start(tables.alphabet.grammar, text, markers, delims),
         hider: Hider {
             start: 0,
             stop: 0,
@@ -239,17 +227,8 @@ fn pour_sheet(
         },
     };
     if 1 < reply::room_of(answer.len()) {
-        if fits(
-            walk,
-            out.len(),
-            text,
-            markers,
-            delims,
-            alphabet,
-            fences,
-            rows,
-        ) {
-            let found = write_items(walk, text, markers, delims, alphabet, fences, rows, out);
+        if fits(walk, out.len(), text, markers, delims, tables) {
+            let found = write_items(walk, text, markers, delims, tables, out);
             let all = [found];
             return reply::values(&all, answer);
         }
@@ -262,13 +241,7 @@ fn pour_sheet(
 fn by_columns(
     text: &[u8],
     g: Grammar,
-    fences: &[u8],
-    mins: &[u8],
-    symmetric: &[u8],
-    times: &[u8],
-    openers: &[u8],
-    closers: &[u8],
-    counts: &[u8],
+    rules: RuleColumns<u8>,
     markers: &[u8],
     delims: &[u8],
     out: &mut [u8],
@@ -276,36 +249,15 @@ fn by_columns(
 ) -> u32
     requires { length text.now ≤ 4294967295 }
     ensures { SheetPoured (sheet_with g (set_of markers.now) (set_of delims.now) (built_by g
-        (columns_in (record {
-          fence_bytes = fences.now;
-          fence_mins = mins.now;
-          inline = record {
-            sym_bytes = symmetric.now;
-            sym_counts = times.now;
-            openers = openers.now;
-            closers = closers.now;
-            open_counts = counts.now;
-          };
-        }))
+        (columns_in (runs_of rules.entry))
         text.now) text.now)
         (record { list = out.old; answer = answer.old })
         (record { list = out.new; answer = answer.new }) result }
 {
-    let alphabet = Alphabet::of(g, fences, symmetric, openers);
-    let table = fence_table(fences, mins);
-    let rows = rule_rows(fences, symmetric, times, openers, closers, counts);
+    let tables = Tables::of(g, rules);
     let marker_set = byte_set(markers);
     let delim_set = byte_set(delims);
-    pour_sheet(
-        text,
-        &marker_set,
-        &delim_set,
-        alphabet,
-        &table,
-        &rows,
-        out,
-        answer,
-    )
+    pour_sheet(text, &marker_set, &delim_set, &tables, out, answer)
 }
 
 // The work sheet of a text by rules given as columns, as building takes them, and by the accepted marker and delimiter bytes: the items
@@ -330,25 +282,26 @@ pub fn sheet_columns(
     answer: &mut [u8],
 ) -> u32
     ensures { SheetBytes (record { eol = eol; escape = escape; sep = sep; tab = tab })
-        (record {
-          fence_bytes = fences.now;
-          fence_mins = mins.now;
-          inline = record {
-            sym_bytes = symmetric.now;
-            sym_counts = times.now;
-            openers = openers.now;
-            closers = closers.now;
-            open_counts = counts.now;
-          };
-        })
+        (column_runs fences.now mins.now symmetric.now times.now openers.now closers.now counts.now)
         markers.now delims.now text.now
         (record { list = out.old; answer = answer.old })
         (record { list = out.new; answer = answer.new }) result }
 {
+    let rules = RuleColumns {
+        fences,
+        mins,
+        inline: InlineColumns {
+            symmetric,
+            times,
+            openers,
+            closers,
+            counts,
+        },
+    };
     if text.len() > MAX_INPUT_LEN {
         return 1;
     }
-    if columns_differ(fences, mins, symmetric, times, openers, closers, counts) {
+    if rules.differ() {
         return 6;
     }
     let g = Grammar {
@@ -357,8 +310,5 @@ pub fn sheet_columns(
         sep,
         tab,
     };
-    by_columns(
-        text, g, fences, mins, symmetric, times, openers, closers, counts, markers, delims, out,
-        answer,
-    )
+    by_columns(text, g, rules, markers, delims, out, answer)
 }

@@ -5,8 +5,8 @@ use Rattle.context.proofs.build.Goals as goal
 pub returns-then-src-gt-MAX_INPUT_LEN : goal.returns-then-src-gt-MAX_INPUT_LEN
 returns-then-src-gt-MAX_INPUT_LEN c = search built_long
 
-pub returns-then-columns_differ : goal.returns-then-columns_differ
-returns-then-columns_differ c = search built_differ
+pub returns-then-differ : goal.returns-then-differ
+returns-then-differ c = search built_differ
 
 pub returns : goal.returns
 returns c = search built_folded

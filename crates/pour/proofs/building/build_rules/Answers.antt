@@ -9,8 +9,8 @@ returns-then-text-gt-MAX_INPUT_LEN c = search build_long
 pub returns-then-rules-ne0 : goal.returns-then-rules-ne0
 returns-then-rules-ne0 c = search rules_odd
 
-pub returns-then-is_uneven : goal.returns-then-is_uneven
-returns-then-is_uneven c = search rules_uneven
+pub returns-then-differ : goal.returns-then-differ
+returns-then-differ c = search rules_uneven
 
 pub returns : goal.returns
 returns c = search rules_built

@@ -3,4 +3,4 @@ use Rattle.rules.specs.RowLaws.{all_inlined}
 use Rattle.rules.proofs.rows.inline_rows.Goals as goal
 
 pub returns : goal.returns
-returns c = search all_inlined
+returns g c = search all_inlined

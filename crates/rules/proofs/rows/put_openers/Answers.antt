@@ -3,10 +3,10 @@ use Rattle.rules.specs.RowLaws.{opening-first, opening_again, opening-all}
 use Rattle.rules.proofs.rows.put_openers.Goals as goal
 
 pub loop-i-init : goal.loop-i-init
-loop-i-init c = search opening-first
+loop-i-init g c = search opening-first
 
 pub loop-i-preserved : goal.loop-i-preserved
-loop-i-preserved c = search opening_again
+loop-i-preserved g c = search opening_again
 
 pub returns : goal.returns
-returns c = search opening-all
+returns g c = search opening-all

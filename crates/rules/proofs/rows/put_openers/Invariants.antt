@@ -3,7 +3,4 @@ use Rattle.rules.specs.RowLaws.{OpenersLaying}
 use Rattle.rules.proofs.rows.put_openers.Given as goal
 
 abbrev pub invariant-loop-i : goal.invariant-loop-i
-invariant-loop-i l = OpenersLaying l.openers l.closers l.counts l.initial.rows l.rows l.i
-
-abbrev pub decreases-loop-i : goal.decreases-loop-i
-decreases-loop-i l = l.i
+invariant-loop-i g l = OpenersLaying l.openers l.closers (g.T.Piece.numbers l.counts) l.initial.rows l.rows l.i

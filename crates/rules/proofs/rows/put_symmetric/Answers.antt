@@ -3,10 +3,10 @@ use Rattle.rules.specs.RowLaws.{laying_first, twin_hides, twins_again, laying_al
 use Rattle.rules.proofs.rows.put_symmetric.Goals as goal
 
 pub loop-i-init : goal.loop-i-init
-loop-i-init c = search (laying_first, twin_hides)
+loop-i-init g c = search (laying_first, twin_hides)
 
 pub loop-i-preserved : goal.loop-i-preserved
-loop-i-preserved c = search twins_again
+loop-i-preserved g c = search twins_again
 
 pub returns : goal.returns
-returns c = search laying_all
+returns g c = search laying_all

@@ -4,7 +4,4 @@ use Rattle.rules.specs.RowLaws.{Laying}
 use Rattle.rules.proofs.rows.put_symmetric.Given as goal
 
 abbrev pub invariant-loop-i : goal.invariant-loop-i
-invariant-loop-i l = Laying l.symmetric (twin l.times) l.initial.rows l.rows l.i
-
-abbrev pub decreases-loop-i : goal.decreases-loop-i
-decreases-loop-i l = l.i
+invariant-loop-i g l = Laying l.symmetric (twin (g.T.Piece.numbers l.times)) l.initial.rows l.rows l.i

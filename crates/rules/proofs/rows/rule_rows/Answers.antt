@@ -3,4 +3,4 @@ use Rattle.rules.specs.RowLaws.{all_folded}
 use Rattle.rules.proofs.rows.rule_rows.Goals as goal
 
 pub returns : goal.returns
-returns c = search all_folded
+returns g c = search all_folded

@@ -5,8 +5,8 @@ use Rattle.sheeting.proofs.counting.count_columns.Goals as goal
 pub returns-then-text-gt-MAX_INPUT_LEN : goal.returns-then-text-gt-MAX_INPUT_LEN
 returns-then-text-gt-MAX_INPUT_LEN c = search count_long
 
-pub returns-then-columns_differ : goal.returns-then-columns_differ
-returns-then-columns_differ c = search count_bad
+pub returns-then-differ : goal.returns-then-differ
+returns-then-differ c = search count_bad
 
 pub returns : goal.returns
 returns c = search count_good

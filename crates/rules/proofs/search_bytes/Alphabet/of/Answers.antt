@@ -3,4 +3,4 @@ use Rattle.rules.specs.ColumnLaws.{alphabet_is}
 use Rattle.rules.proofs.search_bytes.Alphabet.of.Goals as goal
 
 pub returns : goal.returns
-returns c = search alphabet_is
+returns g c = search alphabet_is

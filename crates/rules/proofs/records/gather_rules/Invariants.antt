@@ -1,12 +1,7 @@
 -- `gather_rules` meets its contract: a loop that gathers. Assumes nothing.
-use Prim.Native.Nat.{◌-◌, ◌/◌}
-use lib.ListN.{length}
 use Rattle.rules.specs.RecordLaws.{Gathering}
 use Rattle.rules.specs.ByteRules.{fence_rules_of}
-use Rattle.rules.proofs.runs.gather_rules.Given as goal
+use Rattle.rules.proofs.records.gather_rules.Given as goal
 
 abbrev pub invariant-loop-i : goal.invariant-loop-i
 invariant-loop-i l = Gathering (fence_rules_of l.rules) l.all l.i
-
-abbrev pub decreases-loop-i : goal.decreases-loop-i
-decreases-loop-i l = length l.rules / 2 - l.i

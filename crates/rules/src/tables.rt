@@ -1,0 +1,31 @@
+// The tables that rules are folded into once, so that a scan asks nothing else: the bytes it goes by, which lines open fences, and a row
+// for each byte.
+ghost use Rattle.rules.specs.Columns.{columns_of};
+ghost use Rattle.rules.specs.Tables.{TablesOf};
+
+use crate::columns::RuleColumns;
+use crate::rows::{Rows, rule_rows};
+use crate::search_bytes::Alphabet;
+use cells::Piece;
+use common::grammar::Grammar;
+use lines::fence_tests::fence_table;
+
+#[derive(Drop)]
+pub struct Tables {
+    pub alphabet: Alphabet,
+    pub fences: [u16; 256],
+    pub rows: Rows,
+}
+
+impl Tables {
+    // By rules given as columns.
+    pub fn of<T: Piece>(grammar: Grammar, rules: RuleColumns<T>) -> Self
+        ensures { TablesOf grammar (columns_of T.numbers rules.entry) result }
+    {
+        Tables {
+            alphabet: Alphabet::of(grammar, rules),
+            fences: fence_table(rules.fences, rules.mins),
+            rows: rule_rows(rules),
+        }
+    }
+}
