@@ -11,17 +11,18 @@ ghost use Rattle.search.specs.Promise.{Gives};
 ghost use Rattle.search.specs.Search.{one_of, Sought};
 ghost use Rattle.common.specs.Items.{leads};
 ghost use Rattle.common.specs.Kinds.{view};
+ghost use Rattle.common.specs.Later.{Unled, Looked};
 ghost use Rattle.block_marker.specs.Marker.{reading, make, HitSays};
 ghost use Rattle.block_marker.specs.MarkerLaws.{Lies};
 ghost use Rattle.block_marker.specs.MarkerRun.{lawful, fits};
 
-use common::items::{blank_at, leads_later};
+use common::items::{blank_at, leads_later, leads_line};
 use common::scan::{ItemIter, Kind, Lead, Step};
 use common::sets::accepts;
 use common::span::{Bounds, Span};
 use common::turn::Turn;
 use find::{find_any_of, find_byte, is_one_of};
-use search::{blank_end, byte_at, next_line};
+use search::{blank_end, byte_at, is_blank, next_line};
 
 // The kind of the marker items.
 #[derive(Clone, Copy)]
@@ -72,6 +73,18 @@ fn hit(g: &BlockMarkerIter, src: &[u8], p: usize, led: bool) -> Turn<Lead<u8>>
     Turn::Go(next_line(src.len(), find_byte(src, p, g.eol)))
 }
 
+// Whether `p` leads its line. No place need be kept where a walk back ends at the line end before, so that no line is walked twice; where
+// the line end is itself a separator or a tab it goes on, and a place that leads no line is kept.
+fn leads_here(g: &BlockMarkerIter, src: &[u8], p: usize, lost: &mut [usize; 1]) -> bool
+    ensures { Unled g.now.eol g.now.sep g.now.tab src.now lost.old → Looked g.now.eol g.now.sep g.now.tab src.now
+        (leads g.now.eol g.now.sep g.now.tab src.now p) result lost.new }
+{
+    if is_blank(g.eol, g.sep, g.tab) {
+        return leads_later(src, p, g.eol, g.sep, g.tab, lost);
+    }
+    leads_line(src, p, g.eol, g.sep, g.tab)
+}
+
 impl Kind for Marker {
     type Value = u8;
 
@@ -92,7 +105,7 @@ impl Kind for Marker {
         if p >= src.len() {
             return Turn::Stop(q);
         }
-        let led = leads_later(src, p, g.eol, g.sep, g.tab, lost);
+        let led = leads_here(g, src, p, lost);
         hit(g, src, p, led)
     }
 
