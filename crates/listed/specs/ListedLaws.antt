@@ -1,11 +1,13 @@
 -- Laws of the work sheet by a region list in bytes: that its promises leave one result, and the ways out of its functions. Assumes nothing.
-use Rattle.std.specs.Prelude.{◌≡◌, refl, Bool, true, false, ℕ, ◌/◌, ◌≤◌, ◌<◌, leb, length}
-use Rattle.std.proofs.Common.{sym, ap, subst, ◌∙◌, arith, ltb-false, ne_eqb}
+use Rattle.std.specs.Prelude.{◌≡◌, refl, Bool, true, false, ℕ, ◌/◌, ◌≤◌, ◌<◌, leb, length, Err, Ok, Result}
+use Rattle.std.proofs.Common.{sym, ap, subst, ◌∙◌, arith, le-leb, ltb-false, ne_eqb}
 use mathlib.Core.List.{List, [], ◌∷◌}
 use Rattle.search.specs.Promise.{Gives}
-use Rattle.common.specs.Entry.{rows, wide}
-use Rattle.common.specs.Lists.{Wrote}
-use Rattle.common.specs.Refusals.{Outcome, given, refused, refuse, too_long}
+use Rattle.common.specs.Entry.{flatten, rows, room, wide}
+use Rattle.common.specs.Lists.{Wrote, filled_answer}
+use Rattle.common.specs.RefusalLaws.{number_some}
+use Rattle.common.specs.Refusals.{Outcome, given, refused, refuse, number_of, told, too_long}
+use Rattle.common.specs.declared.refusal.Refusal.{Refusal}
 use Rattle.common.specs.Sets.{set_of}
 use Rattle.common.specs.declared.grammar.Grammar.{Grammar}
 use Rattle.cover.specs.Shape.{misshapen}
@@ -13,12 +15,14 @@ use Rattle.feed.specs.Feeds.{fresh_feed}
 use Rattle.feed.specs.declared.item.SheetItem.{SheetItem}
 use Rattle.feed.specs.declared.Feed.{Feed}
 use Rattle.sheet.specs.Sheet.{sheet_of, sheet_judged, sheet_answer}
-use Rattle.sheet.specs.Parts.{left}
+use Rattle.sheet.specs.Parts.{left, begun_within}
+use Rattle.sheet.specs.BeginLaws.{within_refused, within_judged, within_left}
+use Rattle.sheet.specs.declared.Walk.{Walk}
 use Rattle.sheet.specs.SheetLaws.{started_left, judged_long, judged-misshapen, judged_on}
 use Rattle.cells.specs.Bytes.{cells}
 use Rattle.cells.specs.Reply.{Replied}
 use Rattle.cells.specs.ReplyLaws.{replied_unique, refused_by}
-use Rattle.cells.specs.Poured.{ListRuns}
+use Rattle.cells.specs.Poured.{ListRuns, Poured}
 use Rattle.cells.specs.PouredLaws.{poured_unique, poured_off, pour_full, pour_done}
 use Rattle.sheeting.specs.Sheeting.{item_bytes, SheetPoured}
 use Rattle.listed.specs.Listed.{listed_items, ListedSheet, ListedCount}
@@ -110,3 +114,30 @@ module _ (g : Grammar) (mb db l : List ℕ) (n : ℕ) (s : List ℕ) (k : ℕ) w
 
     pub count_replied : (run run' : List ℕ) → Replied (given (length (sheet_of g markers delims (cells l) n s) ∷ [])) run run' r → ListedCount g mb db l n s run run' r
     count_replied run run' v = rw (judge_goes (cells l) n s k z j _) (subst (λ (x : List SheetItem). Replied (given (length x ∷ [])) run run' r) same-items v)
+
+-- ---- the ways out by what the beginning of the sheet told
+module _ (g : Grammar) (mb db l : List ℕ) (n : ℕ) (s : List ℕ) (markers delims : List Bool) (hm : Gives (set_of mb) markers) (hd : Gives (set_of db) delims) where
+  set-items : sheet_of g markers delims (cells l) n s ≡ listed_items g mb db l n s
+  set-items = ap (λ (x : List Bool). sheet_of g x delims (cells l) n s) hm.answer ∙ ap (λ (x : List Bool). sheet_of g (set_of mb) x (cells l) n s) hd.answer
+
+  pub count_listed_by : (a : Result ℕ Refusal) (run run' : List ℕ) (r : ℕ) → Gives (sheet_judged (cells l) n s (given (length (sheet_of g markers delims (cells l) n s) ∷ []))) (told a) → Replied (told a) run run' r → ListedCount g mb db l n s run run' r
+  count_listed_by a run run' r b v =
+      subst (λ (o : Outcome). Replied o run run' r) (b.answer ∙ ap (λ (x : List SheetItem). sheet_judged (cells l) n s (given (length x ∷ []))) set-items) v
+
+  module _ (most : ℕ) (lent : ListRuns) (m : Gives (length lent.list / 20) most) {a : Result Walk Refusal} (b : Gives (begun_within g markers delims (cells l) n s most) a) where
+    pub listed_off : (r : Refusal) (k : ℕ) → a ≡ Err r → Gives (number_of r) k → ListedSheet g mb db l n s lent lent k
+    listed_off r k e h =
+        let sets = ap (λ (x : List Bool). sheet_answer 20 g x delims (cells l) n s lent.list) hm.answer ∙ ap (λ (x : List Bool). sheet_answer 20 g (set_of mb) x (cells l) n s lent.list) hd.answer in
+        let z = sym sets ∙ within_refused g markers delims (cells l) n s most 20 lent.list m.answer b r e in
+        subst (λ (o : Outcome). Poured o (flatten item_bytes (listed_items g mb db l n s)) lent lent k) (sym z) (rw h.answer (poured_off (number_of r) (flatten item_bytes (listed_items g mb db l n s)) lent (number_some r)))
+
+    pub listed_done : (after : ListRuns) (r : ℕ) (w : Walk) → a ≡ Ok w → SheetPoured (left markers delims s (rows wide n (cells l)) w.feed) lent after r → ListedSheet g mb db l n s lent after r
+    unfolding sheet_answer
+    listed_done after r w e v =
+        rw (within_judged g markers delims (cells l) n s most w e b (filled_answer 20 (listed_items g mb db l n s) lent.list))
+        (subst (λ (x : List SheetItem). SheetPoured x lent after r) (within_left g markers delims (cells l) n s most w e b ∙ set-items) v)
+
+-- items written, and the answer run long enough
+pub fill_replied : (l : List SheetItem) (lent after : ListRuns) (m k r : ℕ) → length l ≤ room 20 lent.list → 1 < m → Gives (length lent.answer / 4) m → Wrote item_bytes l lent.list after.list k
+    → Replied (given (k ∷ [])) lent.answer after.answer r → SheetPoured l lent after r
+fill_replied l lent after m k r f q h v w = pour_done item_bytes 20 l lent true (record { answer = sym (le-leb (length l) (length lent.list / 20) f) }) after m k r refl q h v w

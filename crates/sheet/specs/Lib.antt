@@ -4,4 +4,5 @@ pub mod RunLaws
 pub mod LeftLaws
 pub mod ShowLaws
 pub mod SheetLaws
+pub mod BeginLaws
 pub mod PageSheet

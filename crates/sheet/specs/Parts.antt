@@ -1,11 +1,16 @@
 -- What the parts of a work sheet ask and promise. Assumes nothing.
 -- The page's sentences stand in Sheet.antt; here are its parts, a function each.
-use Rattle.std.specs.Prelude.{◌≡◌, Bool, true, false, List, [], ◌∷◌, map, ℕ, ◌≤◌, ◌<◌, length, Err, None, Ok, Option, Result, Some}
+use Rattle.std.specs.Prelude.{◌≡◌, Bool, true, false, List, [], ◌∷◌, map, ℕ, ◌≤◌, ◌<◌, ltb, cond, length, Err, None, Ok, Option, Result, Some}
 use Rattle.common.specs.Entry.{rows, room, Shaped, wide}
-use Rattle.cover.specs.Cursor.{Rising, Ended}
+use Rattle.common.specs.Refusals.{too_long}
+use Rattle.common.specs.declared.grammar.Grammar.{Grammar}
+use Rattle.common.specs.declared.refusal.Refusal.TheVariants.{TextTooLong, ListMisshapen, NoRoom}
+use Rattle.cover.specs.Cursor.{Rising, Ended, cover_answer, cover_next}
+use Rattle.cover.specs.Shape.{misshapen}
 use Rattle.feed.specs.Items.{tested_place}
 use Rattle.feed.specs.Ahead.{Within, ahead}
-use Rattle.sheet.specs.Sheet.{inside, outside}
+use Rattle.feed.specs.Feeds.{fresh_feed, taken}
+use Rattle.sheet.specs.Sheet.{inside, outside, sheet_of}
 use Rattle.feed.specs.declared.item.SheetItem.{SheetItem}
 use Rattle.feed.specs.declared.Feed.{Feed}
 use Rattle.sheet.specs.declared.Query.{Query}
@@ -62,7 +67,46 @@ pub record Hid (l : List ℕ) (n place : ℕ) (q : Query) : Type 0 where
   pub hidden : q.hidden ≡ inside (rows wide n l) place
   pub ended : Ended wide l n q.index place
 
+-- whether a list of ends has one
+unfoldable pub some : List ℕ → Bool
+some [] = false
+some (x ∷ l) = true
+
+-- what a query of an item answers: whether a region hides it, and the next index
+abbrev pub asked : List ℕ → ℕ → ℕ → SheetItem → Query
+asked l n index i = record {
+  hidden = some (cover_answer wide l n index (tested_place i)).values;
+  index = cover_next wide l n index (tested_place i);
+}
+
+-- what a turn answers from an index on, by the item that was taken, and by the scanners that are left
+abbrev pub turn_by : List ℕ → ℕ → ℕ → Feed → Option SheetItem → SheetStep
+turn_by l n index f None = record { seen = seen.End; rest = record { feed = f; index = index } }
+turn_by l n index f (Some i) =
+    let q = asked l n index i in
+    record { seen = cond q.hidden seen.Hidden (seen.Shown i); rest = record { feed = f; index = q.index } }
+
+-- scanners and a cursor at the beginning of a sheet, or refusal 1 or 5
+abbrev pub begun : Grammar → List Bool → List Bool → List ℕ → ℕ → List ℕ → Result Walk Refusal
+begun g markers delims l n s =
+    cond (too_long s) (Err TextTooLong)
+    (cond (misshapen l n (length s)) (Err ListMisshapen)
+    (Ok (record { feed = fresh_feed g markers delims s; index = 0 })))
+
+-- the same, or 3 where k items are more than there may be
+abbrev pub at_most : ℕ → ℕ → Result Walk Refusal → Result Walk Refusal
+at_most most k (Err r) = Err r
+at_most most k (Ok w) = cond (ltb most k) (Err NoRoom) (Ok w)
+
+-- that of a sheet that may have no more than `most` items
+abbrev pub begun_within : Grammar → List Bool → List Bool → List ℕ → ℕ → List ℕ → ℕ → Result Walk Refusal
+begun_within g markers delims l n s most = at_most most (length (sheet_of g markers delims l n s)) (begun g markers delims l n s)
+
 module _ (markers delims : List Bool) (l : List ℕ) (n : ℕ) (s : List ℕ) where
+  -- what a turn answers
+  abbrev pub turned : Walk → SheetStep
+  turned w = let t = taken markers delims s w.feed in turn_by l n w.index t.rest t.head
+
   -- scanners and a cursor that may go on
   pub record Ready (w : Walk) : Type 0 where
     pub low : ℕ

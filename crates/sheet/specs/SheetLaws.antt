@@ -45,7 +45,7 @@ module _ (g : Grammar) (markers delims : List Bool) (l : List ℕ) (n : ℕ) (s 
     ended = record { within = omega arith; before = λ j h. absurd (omega arith) };
   }
 
-  sheet-few : length (left markers delims s (rows wide n l) a) ≤ length s
+  pub sheet-few : length (left markers delims s (rows wide n l) a) ≤ length s
   sheet-few = left-few markers delims s (rows wide n l) 0 a (started_onward g markers delims s a w)
 
   module _ (out : List ℕ) (most : ℕ) (hm : most ≡ length out / 5) where

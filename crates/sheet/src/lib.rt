@@ -4,17 +4,15 @@
 
 pub mod item; // an item as a turn finds it, and written
 
-ghost use Rattle.std.specs.Prelude.{◌≡◌, false, ◌≤◌, length};
+ghost use Rattle.std.specs.Prelude.{[], ◌∷◌, ℕ, ◌≤◌, length};
 ghost use Rattle.search.specs.Promise.{Gives};
 ghost use Rattle.common.specs.Entry.{rows, room, wide};
-ghost use Rattle.common.specs.Lists.{Wrote, Filled};
-ghost use Rattle.common.specs.Refusals.{told};
-ghost use Rattle.cover.specs.Cursor.{Ended};
-ghost use Rattle.cover.specs.Shape.{misshapen};
-ghost use Rattle.feed.specs.Items.{tested_place};
-ghost use Rattle.sheet.specs.Sheet.{five, sheet_of, Sheeted};
-ghost use Rattle.sheet.specs.Parts.{is_at, SortedRows, Hid, left, Ready, TurnedBy};
+ghost use Rattle.common.specs.Lists.{Wrote};
+ghost use Rattle.common.specs.Refusals.{given, told};
+ghost use Rattle.sheet.specs.Sheet.{five, sheet_of, sheet_judged, Sheeted};
+ghost use Rattle.sheet.specs.Parts.{is_at, asked, turned, begun, begun_within, left, Ready};
 
+use cells::Piece;
 use common::grammar::Grammar;
 use common::refusal::Refusal;
 use common::span::MAX_INPUT_LEN;
@@ -49,38 +47,30 @@ pub struct SheetStep {
 pub fn is_at(found: Result<Option<usize>, Refusal>) -> bool
     ensures { Gives (is_at found) result }
 {
-    match found {
-        Ok(Some(_)) => true,
-        Ok(None) => false,
-        Err(_) => false,
-    }
+    matches!(found, Ok(Some(_)))
 }
 
 // Whether a region hides the item. The items come by rising places, so that the cursor's answer is plain coverage.
-fn hides(list: &[u32], count: usize, index: usize, item: SheetItem) -> Query
-    requires sorted_rows { SortedRows list.now count }
-    requires ended { Ended wide list.now count index (tested_place item) }
-    ensures { Hid list.now count (tested_place item) result }
+fn hides<T: Piece>(list: &[T], count: usize, index: usize, item: SheetItem) -> Query
+    ensures { Gives (asked (T.numbers list.now) count index item) result }
 {
     let cover = covering_end(list, count, index, tested_place(item));
-    let found = cover.found;
     Query {
-        hidden: is_at(found),
+        hidden: is_at(cover.found),
         index: cover.index,
     }
 }
 
 // Takes the next item, and tells whether it is shown.
-fn turn(
+pub fn turn<T: Piece>(
     w: Walk,
     src: &[u8],
     markers: &[bool; 256],
     delims: &[bool; 256],
-    list: &[u32],
+    list: &[T],
     count: usize,
 ) -> SheetStep
-    requires { Ready markers.now delims.now list.now count src.now w }
-    ensures { TurnedBy markers.now delims.now list.now count src.now w result }
+    ensures { Gives (turned markers.now delims.now (T.numbers list.now) count src.now w) result }
 {
     let taken = take(w.feed, src, markers, delims);
     let head = taken.head;
@@ -114,16 +104,16 @@ fn turn(
 }
 
 // How many items are shown.
-fn count_items(
+fn count_items<T: Piece>(
     walk: Walk,
     src: &[u8],
     markers: &[bool; 256],
     delims: &[bool; 256],
-    list: &[u32],
+    list: &[T],
     count: usize,
 ) -> usize
-    requires { Ready markers.now delims.now list.now count src.now walk }
-    ensures { Gives (length (left markers.now delims.now src.now (rows wide count list.now)
+    requires { Ready markers.now delims.now (T.numbers list.now) count src.now walk }
+    ensures { Gives (length (left markers.now delims.now src.now (rows wide count (T.numbers list.now))
         walk.feed)) result }
 {
     let mut w = walk;
@@ -147,19 +137,81 @@ fn count_items(
     }
 }
 
+// Both scanners and the cursor at the beginning of a sheet. Refusals: 1 the text is too long, 5 the list is misshapen.
+fn begin<T: Piece>(
+    src: &[u8],
+    g: Grammar,
+    markers: &[bool; 256],
+    delims: &[bool; 256],
+    list: &[T],
+    count: usize,
+) -> Result<Walk, Refusal>
+    ensures { Gives (begun g markers.now delims.now (T.numbers list.now) count src.now) result }
+{
+    if src.len() > MAX_INPUT_LEN {
+        return Err(Refusal::TextTooLong);
+    }
+    if is_misshapen(list, count, src.len()) {
+        return Err(Refusal::ListMisshapen);
+    }
+    Ok(Walk {
+        feed: start(g, src, markers, delims),
+        index: 0,
+    })
+}
+
+// How many items the sheet has, whatever the room. Refusals 1 and 5.
+pub fn count_sheet<T: Piece>(
+    src: &[u8],
+    g: Grammar,
+    markers: &[bool; 256],
+    delims: &[bool; 256],
+    list: &[T],
+    count: usize,
+) -> Result<usize, Refusal>
+    ensures { Gives (sheet_judged (T.numbers list.now) count src.now (given (length (sheet_of g markers.now delims.now (T.numbers list.now) count src.now) ∷ []))) (told result) }
+{
+    let walk = begin(src, g, markers, delims, list, count)?;
+    Ok(count_items(walk, src, markers, delims, list, count))
+}
+
+// The beginning of a sheet that may have no more than `most` items: the same refusals, and 3 where it has more. Where the room is surely
+// enough, since an item has two bytes before its content, so that each scanner finds at most half as many as there are bytes, no
+// counting pass runs.
+pub fn begin_within<T: Piece>(
+    src: &[u8],
+    g: Grammar,
+    markers: &[bool; 256],
+    delims: &[bool; 256],
+    list: &[T],
+    count: usize,
+    most: usize,
+) -> Result<Walk, Refusal>
+    ensures { Gives (begun_within g markers.now delims.now (T.numbers list.now) count src.now most) result }
+{
+    let walk = begin(src, g, markers, delims, list, count)?;
+    if src.len() <= most {
+        return Ok(walk);
+    }
+    if most < count_items(walk, src, markers, delims, list, count) {
+        return Err(Refusal::NoRoom);
+    }
+    Ok(walk)
+}
+
 // Writes the items that are shown over the front of `out`, which has room for them, and says how many there are.
-fn write_items(
+fn write_items<T: Piece>(
     walk: Walk,
     src: &[u8],
     markers: &[bool; 256],
     delims: &[bool; 256],
-    list: &[u32],
+    list: &[T],
     count: usize,
     out: &mut [u32],
 ) -> usize
-    requires ready { Ready markers.now delims.now list.now count src.now walk }
-    requires feed_len_bound { length (left markers.now delims.now src.now (rows wide count list.now) walk.feed) ≤ room 5 out.old }
-    ensures { Wrote five (left markers.now delims.now src.now (rows wide count list.now) walk.feed)
+    requires ready { Ready markers.now delims.now (T.numbers list.now) count src.now walk }
+    requires feed_len_bound { length (left markers.now delims.now src.now (rows wide count (T.numbers list.now)) walk.feed) ≤ room 5 out.old }
+    ensures { Wrote five (left markers.now delims.now src.now (rows wide count (T.numbers list.now)) walk.feed)
         out.old out.new result }
 {
     let mut w = walk;
@@ -183,59 +235,22 @@ fn write_items(
     }
 }
 
-// Writes the sheet of a text within the limit, by a list in order, or refuses where there is too little room. Where the room is surely
-// enough, since an item has two bytes before its content, so that each scanner finds at most half as many as there are bytes, no
-// counting pass runs.
-fn fill(
-    src: &[u8],
-    g: Grammar,
-    markers: &[bool; 256],
-    delims: &[bool; 256],
-    list: &[u32],
-    count: usize,
-    out: &mut [u32],
-) -> Result<usize, Refusal>
-    requires src_len_bound { length src.now ≤ 4294967295 }
-    requires src_value { misshapen list.now count (length src.now) ≡ false }
-    ensures { Filled five 5 (sheet_of g markers.now delims.now list.now count src.now)
-        out.old out.new (told result) }
-{
-    let most = out.len() / 5;
-    let walk = Walk {
-        feed: start(g, src, markers, delims),
-        index: 0,
-    };
-    if src.len() <= most {
-        return Ok(write_items(walk, src, markers, delims, list, count, out));
-    }
-    let n = count_items(walk, src, markers, delims, list, count);
-    if most < n {
-        return Err(Refusal::NoRoom);
-    }
-    Ok(write_items(walk, src, markers, delims, list, count, out))
-}
-
 // Writes the work sheet of a text: the marker and numbered items, by the bytes of two sets, whose marker or delimiter is in none of the
 // list's first `count` regions, by rising content start, the marker item first where two are equal. Item k goes to places 5k to 5k + 4 of `out`
 // (start, end, kind, accepted byte, number), the answer is how many there are, and nothing beyond them is changed. A refusal (1 the text
 // is too long, 5 the list is misshapen, 3 too little room) changes nothing.
-pub fn sheet(
+pub fn sheet<T: Piece>(
     src: &[u8],
     g: Grammar,
     markers: &[bool; 256],
     delims: &[bool; 256],
-    list: &[u32],
+    list: &[T],
     count: usize,
     out: &mut [u32],
 ) -> Result<usize, Refusal>
-    ensures { Sheeted g markers.now delims.now list.now count src.now out.old
+    ensures { Sheeted g markers.now delims.now (T.numbers list.now) count src.now out.old
         out.new (told result) }
 {
-    if src.len() > MAX_INPUT_LEN {
-        return Err(Refusal::TextTooLong);
-    }
-    if is_misshapen(list, count, src.len()) {
-        return Err(Refusal::ListMisshapen);
-    }
-    fill(src, g, markers, delims, list, count, out)
+    let walk = begin_within(src, g, markers, delims, list, count, out.len() / 5)?;
+    Ok(write_items(walk, src, markers, delims, list, count, out))
 }

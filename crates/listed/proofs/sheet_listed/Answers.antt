@@ -1,15 +1,16 @@
 -- `sheet_listed` meets its contract. Assumes nothing.
-use Rattle.listed.specs.ListedLaws.{judge_short, judge_shape, sheet-refused, sheet-filled}
+use Rattle.sheet.specs.BeginLaws.{within_ready, within_fits}
+use Rattle.listed.specs.ListedLaws.{listed_off, listed_done}
 use Rattle.listed.proofs.sheet_listed.Goals as goal
 
-pub returns-then-refusal-ne0 : goal.returns-then-refusal-ne0
-returns-then-refusal-ne0 c = search sheet-refused
+pub returns-in-Err : goal.returns-in-Err
+returns-in-Err c = search listed_off
 
-pub fill-requires-clause-text_len_bound : goal.fill-requires-clause-text_len_bound
-fill-requires-clause-text_len_bound c = search judge_short
+pub fill-requires-clause-ready : goal.fill-requires-clause-ready
+fill-requires-clause-ready c = search within_ready
 
-pub fill-requires-clause-text_value : goal.fill-requires-clause-text_value
-fill-requires-clause-text_value c = search judge_shape
+pub fill-requires-clause-feed_len_bound : goal.fill-requires-clause-feed_len_bound
+fill-requires-clause-feed_len_bound c = search within_fits
 
-pub returns : goal.returns
-returns c = search sheet-filled
+pub returns-in-Ok : goal.returns-in-Ok
+returns-in-Ok c = search listed_done

@@ -7,8 +7,8 @@ use Rattle.sheet.specs.LeftLaws.{Tallied}
 use Rattle.sheet.proofs.count_items.Given as goal
 
 abbrev pub invariant-loop-w : goal.invariant-loop-w
-invariant-loop-w l =
-    Tallied l.markers l.delims l.src (rows wide l.count l.list) (left l.markers l.delims l.src (rows wide l.count l.list) l.initial.w.feed) l.w.feed l.n × Ready l.markers l.delims l.list l.count l.src l.w
+invariant-loop-w g l =
+    Tallied l.markers l.delims l.src (rows wide l.count (g.T.Piece.numbers l.list)) (left l.markers l.delims l.src (rows wide l.count (g.T.Piece.numbers l.list)) l.initial.w.feed) l.w.feed l.n × Ready l.markers l.delims (g.T.Piece.numbers l.list) l.count l.src l.w
 
 abbrev pub decreases-loop-w : goal.decreases-loop-w
-decreases-loop-w l = length (ahead l.markers l.delims l.src l.w.feed)
+decreases-loop-w g l = length (ahead l.markers l.delims l.src l.w.feed)

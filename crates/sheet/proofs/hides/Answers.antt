@@ -1,6 +1,6 @@
 -- `hides` meets its contract. Assumes nothing.
-use Rattle.sheet.specs.ShowLaws.{hid}
+use Rattle.sheet.specs.ShowLaws.{query_asked}
 use Rattle.sheet.proofs.hides.Goals as goal
 
 pub returns : goal.returns
-returns c = search hid
+returns g c = search query_asked

@@ -1,16 +1,19 @@
 -- `sheet` meets its contract. Assumes nothing.
-use borrow.Author.Rules.{rules}
-use Rattle.sheet.specs.SheetLaws.{sheet_long, sheet-misshapen, sheet-filled, shape_told}
+use Rattle.std.proofs.lemmas.Result.{err_from_is_err_and}
+use Rattle.sheet.specs.BeginLaws.{sheet_off, within_ready, within_fits, sheet_done}
 use Rattle.sheet.proofs.sheet.Goals as goal
 
-pub returns-then-src-gt-MAX_INPUT_LEN : goal.returns-then-src-gt-MAX_INPUT_LEN
-returns-then-src-gt-MAX_INPUT_LEN c = search sheet_long
+pub returns-in_err-walk : goal.returns-in_err-walk
+returns-in_err-walk g c =
+    let p = err_from_is_err_and c.from_residual.result c.from_residual.ensures.1 in
+    let e = c.in_err-walk.was in
+    rw (p.1, p.2) (search sheet_off)
 
-pub returns-then-is_misshapen : goal.returns-then-is_misshapen
-returns-then-is_misshapen c = search sheet-misshapen
+pub write_items-requires-clause-ready : goal.write_items-requires-clause-ready
+write_items-requires-clause-ready g c = let e = c.in_ok-walk.was in search within_ready
 
-pub fill-requires : goal.fill-requires
-fill-requires c = search (shape_told, rules)
+pub write_items-requires-clause-feed_len_bound : goal.write_items-requires-clause-feed_len_bound
+write_items-requires-clause-feed_len_bound g c = let e = c.in_ok-walk.was in search within_fits
 
 pub returns : goal.returns
-returns c = search sheet-filled
+returns g c = let e = c.in_ok-walk.was in search sheet_done

@@ -8,8 +8,8 @@ use Rattle.sheet.specs.LeftLaws.{Writing}
 use Rattle.sheet.proofs.write_items.Given as goal
 
 abbrev pub invariant-loop-w : goal.invariant-loop-w
-invariant-loop-w l =
-    Writing l.markers l.delims l.src (rows wide l.count l.list) five 5 (left l.markers l.delims l.src (rows wide l.count l.list) l.initial.w.feed) l.initial.out l.w.feed l.out l.n × Ready l.markers l.delims l.list l.count l.src l.w
+invariant-loop-w g l =
+    Writing l.markers l.delims l.src (rows wide l.count (g.T.Piece.numbers l.list)) five 5 (left l.markers l.delims l.src (rows wide l.count (g.T.Piece.numbers l.list)) l.initial.w.feed) l.initial.out l.w.feed l.out l.n × Ready l.markers l.delims (g.T.Piece.numbers l.list) l.count l.src l.w
 
 abbrev pub decreases-loop-w : goal.decreases-loop-w
-decreases-loop-w l = length (ahead l.markers l.delims l.src l.w.feed)
+decreases-loop-w g l = length (ahead l.markers l.delims l.src l.w.feed)

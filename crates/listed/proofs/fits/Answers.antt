@@ -1,9 +1,0 @@
--- `fits` meets its contract. Assumes nothing.
-use Rattle.sheet.specs.LeftLaws.{fits_roomy, fits_counted}
-use Rattle.listed.proofs.fits.Goals as goal
-
-pub returns-then-text-most : goal.returns-then-text-most
-returns-then-text-most c = search fits_roomy
-
-pub returns : goal.returns
-returns c = search fits_counted
