@@ -57,6 +57,7 @@ fn find_mark(g: &BlockMarkerIter, src: &[u8], q: usize) -> usize
 
 // What a hit at `p` says; `led` tells whether it leads its line. A failed hit rules its whole line out, since a later hit on that line
 // would have this one before it: on to the next line, instead of rejecting the line's hits one by one.
+#[inline(always)]
 fn hit(g: &BlockMarkerIter, src: &[u8], p: usize, led: bool) -> Turn<Lead<u8>>
     requires p_in_bounds { p < length src.now }
     ensures { Gives (leads g.now.eol g.now.sep g.now.tab src.now p) led → HitSays g.now.eol g.now.sep g.now.tab src.now p (view make result) }
@@ -96,10 +97,12 @@ impl Kind for Marker {
 
     ghost lies = { Lies };
 
+    #[inline(always)]
     fn item(marker: u8, span: Span) -> MarkerItem {
         MarkerItem { marker, span }
     }
 
+    #[inline(always)]
     fn streamed(
         g: &BlockMarkerIter,
         src: &[u8],
@@ -114,6 +117,7 @@ impl Kind for Marker {
         hit(g, src, p, led)
     }
 
+    #[inline(always)]
     fn lined(g: &BlockMarkerIter, src: &[u8], q: usize, matches: &[bool; 256]) -> Turn<Lead<u8>> {
         if q >= src.len() {
             return Turn::Stop(q);
