@@ -57,6 +57,7 @@ fn find_mark(g: &BlockMarkerIter, src: &[u8], q: usize) -> usize
 
 // What a hit at `p` says; `led` tells whether it leads its line. A failed hit rules its whole line out, since a later hit on that line
 // would have this one before it: on to the next line, instead of rejecting the line's hits one by one.
+#[inline(always)]
 fn hit(g: &BlockMarkerIter, src: &[u8], p: usize, led: bool) -> Turn<Lead<u8>>
     requires p_in_bounds { p < length src.now }
     ensures { Gives (leads g.now.eol g.now.sep g.now.tab src.now p) led → HitSays g.now.eol g.now.sep g.now.tab src.now p (view make result) }
@@ -75,7 +76,7 @@ fn hit(g: &BlockMarkerIter, src: &[u8], p: usize, led: bool) -> Turn<Lead<u8>>
 
 // Whether `p` leads its line. No place need be kept where a walk back ends at the line end before, so that no line is walked twice; where
 // the line end is itself a separator or a tab it goes on, and a place that leads no line is kept.
-fn leads_here(g: &BlockMarkerIter, src: &[u8], p: usize, lost: &mut [usize; 1]) -> bool
+fn leads_here(g: &BlockMarkerIter, src: &[u8], p: usize, lost: &mut usize) -> bool
     ensures { Unled g.now.eol g.now.sep g.now.tab src.now lost.old → Looked g.now.eol g.now.sep g.now.tab src.now
         (leads g.now.eol g.now.sep g.now.tab src.now p) result lost.new }
 {
@@ -96,10 +97,12 @@ impl Kind for Marker {
 
     ghost lies = { Lies };
 
+    #[inline(always)]
     fn item(marker: u8, span: Span) -> MarkerItem {
         MarkerItem { marker, span }
     }
 
+    #[inline(always)]
     fn streamed(g: &BlockMarkerIter, src: &[u8], q: usize, lost: &mut usize) -> Turn<Lead<u8>> {
         let p = find_mark(g, src, q);
         if p >= src.len() {
@@ -109,6 +112,7 @@ impl Kind for Marker {
         hit(g, src, p, led)
     }
 
+    #[inline(always)]
     fn lined(g: &BlockMarkerIter, src: &[u8], q: usize, matches: &[bool; 256]) -> Turn<Lead<u8>> {
         if q >= src.len() {
             return Turn::Stop(q);

@@ -101,6 +101,7 @@ impl<K: Kind> ItemIter<K> {
         }
     }
 
+    #[inline(always)]
     fn at(self, pos: usize) -> Self
         ensures { Gives (at (scanner_of K K.reading) self pos) result }
     {
@@ -108,6 +109,7 @@ impl<K: Kind> ItemIter<K> {
     }
 
     // One turn of the scan that the state's flag says.
+    #[inline(always)]
     fn turn(
         &self,
         src: &[u8],
@@ -126,6 +128,7 @@ impl<K: Kind> ItemIter<K> {
     }
 
     // A step from a place within a text that is not too long: the first item from there on, or none, and where the scan goes on or stays.
+    #[inline(always)]
     fn served(self, src: &[u8], matches: &[bool; 256]) -> Step<K::Item, Self>
         requires place { self.pos ≤ length src.now }
         requires short { length src.now ≤ 4294967295 }
