@@ -1,6 +1,6 @@
 -- Laws of lists as rows of two numbers: the regions that rows say, and the rules of the loops that search and copy rows. Assumes nothing.
 use Rattle.std.specs.Prelude.{◌≡◌, refl, false, leb, length, get_or, take, drop}
-use Rattle.std.proofs.Common.{sym, subst, ◌∙◌, add-zero, get_or-take, get_or-drop}
+use Rattle.std.proofs.Common.{ltb, le-ltb, sym, subst, ◌∙◌, add-zero, get_or-take, get_or-drop}
 use Rattle.std.proofs.Math.Path.{ap}
 use mathlib.Core.List.{List, [], ◌∷◌, map}
 use Prim.Native.Nat.{ℕ, zero, suc, ◌+◌, ◌-◌, ◌*◌, ◌/◌, ◌≤◌, ◌<◌}
@@ -141,10 +141,10 @@ module _ (l : List ℕ) (n k low high : ℕ) (i : Halving l n k low high) where
 
 -- ---- the regions that reach a place: n of them start before it
 module _ (l : List ℕ) (count k n : ℕ) (w : Orderly l count 4294967295) (g : Gives (length (keep_before k (regions_in count l))) n) where
-  pub reached_none : n ≡ 0 → false ≡ reaches k (regions_in count l)
-  reached_none e = sym (reach_none k (regions_in count l) (omega (arith, g.answer)))
+  pub reached_none : n ≤ 0 → ltb 0 n ≡ reaches k (regions_in count l)
+  reached_none e = le-ltb 0 n e ∙ sym (reach_none k (regions_in count l) (omega (arith, g.answer)))
 
-  pub reached_last : (a : ℕ) → (n ≡ 0 → ⊥) → Gives (get_or l ((n - 1) * wide + 1) 0) a → leb k a ≡ reaches k (regions_in count l)
+  pub reached_last : (a : ℕ) → 0 < n → Gives (get_or l ((n - 1) * wide + 1) 0) a → leb k a ≡ reaches k (regions_in count l)
   reached_last a z h =
       let m : length (keep_before k (regions_in count l)) ≡ suc (n - 1) = omega (arith, g.answer) in
       let few = before_few k (regions_in count l) in
@@ -152,7 +152,7 @@ module _ (l : List ℕ) (count k n : ℕ) (w : Orderly l count 4294967295) (g : 
       ap (leb k) b ∙ sym (reach_last k nowhere 0 4294967295 (n - 1) (regions_in count l) w.order m)
 
   -- the last of them lies in the list
-  pub reached_inside : (n ≡ 0 → ⊥) → (n - 1) * wide + 1 < length l
+  pub reached_inside : 0 < n → (n - 1) * wide + 1 < length l
   reached_inside z = omega (arith, g.answer, before_few k (regions_in count l), listed_length count l, w.roomy)
 
 -- ---- regions written one after the other

@@ -16,10 +16,7 @@ fn reaches_place(list: &[u32], count: usize, k: usize) -> bool
     ensures { Gives (reaches k (regions_in count list.now)) result }
 {
     let n = starts_before(list, count, k);
-    if n == 0 {
-        return false;
-    }
-    k <= number(list, n - 1, END)
+    n > 0 && k <= number(list, n - 1, END)
 }
 
 // Whether `k` is a joint of the text with its list.
@@ -27,13 +24,7 @@ fn is_joint(src: &[u8], list: &[u32], count: usize, k: usize, eol: u8) -> bool
     requires { Orderly list.now count 4294967295 }
     ensures { Gives (joint eol src.now (regions_in count list.now) k) result }
 {
-    if after_empty_line(src, k, eol) {
-        if reaches_place(list, count, k) {
-            return false;
-        }
-        return true;
-    }
-    false
+    after_empty_line(src, k, eol) && !reaches_place(list, count, k)
 }
 
 // Whether a cut is not at a joint; the second may be the text's end.
@@ -48,14 +39,6 @@ pub(crate) fn is_off_joint(
     requires { Fair list.now count (length src.now) }
     ensures { Gives (off_joint eol src.now (regions_in count list.now) first second) result }
 {
-    if is_joint(src, list, count, first, eol) {
-        if src.len() <= second {
-            return false;
-        }
-        if is_joint(src, list, count, second, eol) {
-            return false;
-        }
-        return true;
-    }
-    true
+    !is_joint(src, list, count, first, eol)
+        || second < src.len() && !is_joint(src, list, count, second, eol)
 }

@@ -23,10 +23,7 @@ pub struct Counted {
 fn reached(already: bool, end: usize, len: usize) -> bool
     ensures { Gives (already || leb len end) result }
 {
-    if already {
-        return true;
-    }
-    len <= end
+    already || len <= end
 }
 
 // The regions of a text, counted.

@@ -1,7 +1,7 @@
 -- Laws of the regions as they come: the loop that moves on to the next one, and the ways out of the test. Assumes nothing.
-use Rattle.std.specs.Prelude.{◌≡◌, refl, false, List, [], ◌∷◌, map, ℕ, suc, ◌-◌, ◌≤◌, ◌<◌, ltb, leb, length, None, Option, Some}
+use Rattle.std.specs.Prelude.{◌≡◌, refl, false, List, [], ◌∷◌, map, ℕ, suc, ◌-◌, ◌≤◌, ◌<◌, leb, length, None, Option, Some}
 use Rattle.std.proofs.Math.Path.{sym}
-use Rattle.std.proofs.Common.{ap, ◌∙◌, arith, le-ltb, le-leb}
+use Rattle.std.proofs.Common.{ap, ◌∙◌, arith, le-ltb}
 use Rattle.std.proofs.Math.Bool.{and-false, or-false}
 use Rattle.std.proofs.lemmas.Bool.{lt-leb}
 use Rattle.search.specs.Promise.{Gives}
@@ -109,10 +109,3 @@ module _ (g : Gram) (s : List ℕ) where
               };
               sound = keeps_ended g s m h.next w.here v.sound d m' kept e;
             }
-
--- ---- the ways out of the test
-pub hides_from : (place a b : ℕ) → a ≤ place → ltb place b ≡ covers place (a ∷ b ∷ [])
-hides_from place a b h = rw (le-leb a place h)
-
-pub hides_before : (place a b : ℕ) → place < a → false ≡ covers place (a ∷ b ∷ [])
-hides_before place a b h = rw (lt-leb a place h)

@@ -59,8 +59,5 @@ pub(crate) fn pass(
 pub(crate) fn hides(h: Hider, place: usize) -> bool
     ensures { Gives (covers place (h.start ∷ h.stop ∷ [])) result }
 {
-    if h.start <= place {
-        return place < h.stop;
-    }
-    false
+    h.start <= place && place < h.stop
 }

@@ -1,22 +1,19 @@
 -- `is_off_joint` meets its contract. Assumes nothing.
 use Rattle.amend.specs.RowLaws.{fair_orderly}
-use Rattle.amend.specs.JointLaws.{cut-first, cut_end, cut_both, cut_second}
+use Rattle.amend.specs.JointLaws.{cut-first, cut_end, cut_on}
 use Rattle.amend.proofs.joints.is_off_joint.Goals as goal
 
 pub is_joint-requires : goal.is_joint-requires
 is_joint-requires c = search fair_orderly
 
-pub returns-then-src-second : goal.returns-then-src-second
-returns-then-src-second c = search cut_end
+pub is_joint-requires-then-second-src : goal.is_joint-requires-then-second-src
+is_joint-requires-then-second-src c = search fair_orderly
 
-pub is_joint-requires-then-is_joint : goal.is_joint-requires-then-is_joint
-is_joint-requires-then-is_joint c = search fair_orderly
+pub returns-then-not-is_joint : goal.returns-then-not-is_joint
+returns-then-not-is_joint c = search cut-first
 
-pub returns-then-is_joint-2 : goal.returns-then-is_joint-2
-returns-then-is_joint-2 c = search cut_both
+pub returns-then-second-src : goal.returns-then-second-src
+returns-then-second-src c = search cut_on
 
-pub returns-then-is_joint : goal.returns-then-is_joint
-returns-then-is_joint c = search cut_second
-
-pub returns : goal.returns
-returns c = search cut-first
+pub returns-else-second-src : goal.returns-else-second-src
+returns-else-second-src c = search cut_end
