@@ -19,17 +19,17 @@ ghost use Rattle.amending.specs.ByteParts.{Planned, SettledBytes};
 
 use amend::own::survey;
 use amend::{Cuts, Flaws, Split, judge_edit};
-use cover::shape::is_misshapen;
-use rules::runs::{columns_differ, rule_rows};
 use cells::{ROW, reply};
 use common::grammar::Grammar;
 use common::refusal::Refusal;
+use cover::shape::is_misshapen;
 use joint::{is_left_open, marks_line_end};
 use joints::is_off_joint;
 use lines::fence_tests::fence_table;
 use own::write_own;
 use rows::{copy_rows, starts_before};
 use rules::rows::Rows;
+use rules::runs::{columns_differ, rule_rows};
 use rules::search_bytes::Alphabet;
 
 // The refusals that the texts' lengths, the rules, the list, the cuts and the bytes before them decide, in the page's order.

@@ -11,10 +11,10 @@ ghost use Rattle.amend.specs.Parts.{Orderly, regions_between, Moves, Copies, Put
 ghost use Rattle.amending.specs.Amending.{listed_bytes};
 ghost use Rattle.amending.specs.ByteParts.{RowBytesFit};
 
-use cover::shape;
 use cells::ROW;
 use cells::reply::put_numbers;
 use common::list::{END, START, WIDE};
+use cover::shape;
 
 // The number at column `j` of row `i`.
 pub(crate) fn number(list: &[u8], i: usize, j: usize) -> usize
