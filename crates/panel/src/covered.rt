@@ -2,9 +2,9 @@
 ghost use Rattle.cells.specs.Reply.{Replied};
 ghost use Rattle.panel.specs.Covered.{covered};
 
-use cover::cursor::covering_end;
 use cells::reply;
 use common::refusal::Refusal;
+use cover::cursor::covering_end;
 
 // If a place is inside a region, that region's end, behind the index to go on from; the index alone where it is not.
 #[unsafe(no_mangle)]
