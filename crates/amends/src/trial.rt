@@ -3,7 +3,7 @@ use crate::tally::Tally;
 use crate::texts::Short;
 use common::grammar::Grammar;
 use common::refusal::Refusal;
-use rules::columns::{InlineColumns, InlineColumns, RuleColumns, RuleColumns};
+use rules::columns::{InlineColumns, RuleColumns};
 
 // The cells of a list, more than any of these texts needs. What isn't written keeps its mark.
 const CELLS: usize = 36;
