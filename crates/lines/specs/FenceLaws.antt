@@ -180,7 +180,7 @@ module _ (g : Grammar) (b count : ℕ) (s : List ℕ) where
         closing_byte j
         (⊎_elim (λ (u : ltb j (length s) ≡ true). holds_in (is b) s j (ltb-true j (length s) u) ∙ find_before (is b) s from j h (omega (arith, hq.here))) (λ u. holds-past (is b) s j (ltb-false j (length s) u)) (decide (ltb j (length s))))
 
-    close_none : length s ≤ q → length s ≤ first_place (shuts g b count s) from (length s)
+    pub close_none : length s ≤ q → length s ≤ first_place (shuts g b count s) from (length s)
     close_none l = by (decide (ltb from (length s)))
       where
         by : (ltb from (length s) ≡ true) ⊎ (ltb from (length s) ≡ false) → length s ≤ first_place (shuts g b count s) from (length s)
@@ -193,8 +193,12 @@ module _ (g : Grammar) (b count : ℕ) (s : List ℕ) where
       at_b : holds (is b) s q ≡ true
       at_b = holds_in (is b) s q inside ∙ (rw (← hq.here) at (find_at (is b) s from (omega (arith, hq.here))))
 
-      close_skip : y ≡ false → first_place (shuts g b count s) from (length s) ≡ first_place (shuts g b count s) (q + 1) (length s)
-      close_skip e = first-over (shuts g b count s) from (q + 1) (length s) (omega (arith, hq.low)) (omega arith) miss
+      pub close_skip : y ≡ false → (from < q + 1) × (q + 1 ≤ length s) × (first_place (shuts g b count s) from (length s) ≡ first_place (shuts g b count s) (q + 1) (length s))
+      close_skip e = (
+        omega (arith, hq.low),
+        omega arith,
+        first-over (shuts g b count s) from (q + 1) (length s) (omega (arith, hq.low)) (omega arith) miss,
+      )
         where
           miss : (j : ℕ) → from ≤ j → j < q + 1 → shuts g b count s j ≡ false
           miss j h l =
@@ -202,16 +206,22 @@ module _ (g : Grammar) (b count : ℕ) (s : List ℕ) where
               (λ u. let z : j ≡ q = omega (arith, ltb-false j q u) in rw z (closing_start q (sym hy.answer ∙ e))) (decide (ltb j q))
 
       module _ (start : y ≡ true) (e : ℕ) (he : Sought (is g.eol) s q e) (x : Bool) (hx : Gives (closes_to g b count s q e) x) where
-        close_hit : x ≡ true → first_place (shuts g b count s) from (length s) ≡ q
-        close_hit c =
-            first-over (shuts g b count s) from q (length s) hq.low (omega arith) before
-            ∙ first_here (shuts g b count s) q (length s) inside (closing_yes q (sym hy.answer ∙ start) at_b (rw he.here at (sym hx.answer ∙ c)))
+        pub close_hit : x ≡ true → (first_place (shuts g b count s) from (length s) ≡ q) × (q < length s) × (e ≡ line_end g.eol s q)
+        close_hit c = (
+          first-over (shuts g b count s) from q (length s) hq.low (omega arith) before
+              ∙ first_here (shuts g b count s) q (length s) inside (closing_yes q (sym hy.answer ∙ start) at_b (rw he.here at (sym hx.answer ∙ c))),
+          inside,
+          he.here,
+        )
 
         pub close_less : (n : ℕ) → Gives (next_line (length s) e) n → length s - n < length s - from
         close_less n hn = omega (arith, hq.low, he.low, hn.answer)
 
-        close_miss : (n : ℕ) → x ≡ false → Gives (next_line (length s) e) n → first_place (shuts g b count s) from (length s) ≡ first_place (shuts g b count s) n (length s)
-        close_miss n c hn = first-over (shuts g b count s) from n (length s) (omega (arith, hq.low, he.low, hn.answer)) (omega (arith, hn.answer)) miss
+        pub close_miss : (n : ℕ) → x ≡ false → Gives (next_line (length s) e) n → (from < n) × (n ≤ length s) × (first_place (shuts g b count s) from (length s) ≡ first_place (shuts g b count s) n (length s))
+        close_miss n c hn =
+            let h : from < n = omega (arith, hq.low, he.low, hn.answer) in
+            let l : n ≤ length s = omega (arith, hn.answer) in
+            (h, l, first-over (shuts g b count s) from n (length s) (omega arith) l miss)
           where
             miss : (j : ℕ) → from ≤ j → j < n → shuts g b count s j ≡ false
             miss j h l = by (decide (ltb j q)) (decide (ltb q j))
@@ -238,14 +248,14 @@ module _ (g : Grammar) (b count : ℕ) (s : List ℕ) (from j q : ℕ) (w : Clos
 
   module _ (inside : q < length s) (y : Bool) (hy : Gives (line_start g.eol s q) y) where
     pub closes_skip : y ≡ false → Closes (shuts g b count s) (length s) from (q + 1)
-    closes_skip e = record { same = w.same ∙ close_skip g b count s j q hq inside y hy e }
+    closes_skip e = record { same = w.same ∙ (close_skip g b count s j q hq inside y hy e).2 }
 
     module _ (start : y ≡ true) (e : ℕ) (he : Sought (is g.eol) s q e) (x : Bool) (hx : Gives (closes_to g b count s q e) x) where
       pub closes_found : x ≡ true → Some (q, e) ≡ close_scan g b count s from
       unfolding close_scan
-      closes_found c = simp (w.same, close_hit g b count s j q hq inside y hy start e he x hx c, lt-ltb q (length s) inside, he.here)
+      closes_found c = let v = close_hit g b count s j q hq inside y hy start e he x hx c in simp (w.same, v.0, lt-ltb q (length s) v.1, v.2)
 
       pub closes_again : (n : ℕ) → x ≡ false → Gives (next_line (length s) e) n → Closes (shuts g b count s) (length s) from n
-      closes_again n c hn = record { same = w.same ∙ close_miss g b count s j q hq inside y hy start e he x hx n c hn }
+      closes_again n c hn = record { same = w.same ∙ (close_miss g b count s j q hq inside y hy start e he x hx n c hn).2 }
 
 pub ruleset close_rules = (closes-first, closes_not, closes_skip, closes_found, closes_again, close_less)

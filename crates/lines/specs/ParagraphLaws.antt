@@ -75,7 +75,7 @@ module _ (eol : ℕ) (opens : ℕ → Bool) (s : List ℕ) (x j q : ℕ) (hq : S
   unfolding paragraph_end
   ends_here l e = none eol opens s x j q (first-is (ends_at eol opens s) j q (length s) hq.low l no_end e) no_sooner
 
-  next_past : length s ≤ q → next_in eol opens s x j ≡ hit.End q
+  pub next_past : length s ≤ q → next_in eol opens s x j ≡ hit.End q
   unfolding paragraph_end
   next_past l = none eol opens s x j q (by (decide (ltb j (length s)))) no_sooner
     where
@@ -89,7 +89,7 @@ module _ (eol : ℕ) (opens : ℕ → Bool) (s : List ℕ) (x j q : ℕ) (hq : S
           first_end (ends_at eol opens s) j (length s) h ∙ sym (hq.here ∙ find_end (either x eol) s j h)
 
   module _ (inside : q < length s) where
-    next-at : (get_or s q 0 ≡ eol → ⊥) → next_in eol opens s x j ≡ hit.At q
+    pub next-at : (get_or s q 0 ≡ eol → ⊥) → next_in eol opens s x j ≡ hit.At q
     unfolding next_in paragraph_end
     next-at d =
         let w = either_true x eol (get_or s q 0) (rw (← hq.here) at (find_at (either x eol) s j (omega (arith, hq.here)))) in
@@ -108,20 +108,23 @@ module _ (eol : ℕ) (opens : ℕ → Bool) (s : List ℕ) (x j q : ℕ) (hq : S
       at_eol : holds (is eol) s q ≡ true
       at_eol = holds_in (is eol) s q inside ∙ is_yes eol (get_or s q 0) e
 
-      next_last : length s ≤ q + 1 → next_in eol opens s x j ≡ hit.End q
+      pub next_last : length s ≤ q + 1 → next_in eol opens s x j ≡ hit.End q
       next_last l = ends_here inside (ends_last eol opens s q at_eol l)
 
-      next_empty : q + 1 < length s → get_or s (q + 1) 0 ≡ eol → next_in eol opens s x j ≡ hit.End q
+      pub next_empty : q + 1 < length s → get_or s (q + 1) 0 ≡ eol → next_in eol opens s x j ≡ hit.End q
       next_empty l f = ends_here inside (ends_empty eol opens s q at_eol (holds_in (is eol) s (q + 1) l ∙ is_yes eol (get_or s (q + 1) 0) f))
 
-      next_fence_lem : (y : Bool) → y ≡ true → Gives (opens (q + 1)) y → next_in eol opens s x j ≡ hit.End q
+      pub next_fence_lem : (y : Bool) → y ≡ true → Gives (opens (q + 1)) y → next_in eol opens s x j ≡ hit.End q
       next_fence_lem y u g = ends_here inside (ends_fence eol opens s q at_eol (sym g.answer ∙ u))
 
-      next_on : (y : Bool) → q + 1 < length s → (get_or s (q + 1) 0 ≡ eol → ⊥) → Gives (opens (q + 1)) y → y ≡ false → next_in eol opens s x j ≡ next_in eol opens s x (q + 1)
+      pub next_on : (y : Bool) → q + 1 < length s → (get_or s (q + 1) 0 ≡ eol → ⊥) → Gives (opens (q + 1)) y → y ≡ false → (j < q + 1) × (q + 1 ≤ length s) × (next_in eol opens s x j ≡ next_in eol opens s x (q + 1))
       unfolding paragraph_end
-      next_on y l d g u =
-          same eol opens s x j (q + 1) (first-over (ends_at eol opens s) j (q + 1) (length s) (omega (arith, hq.low)) (omega arith) miss)
-          (λ apart. find-over (is x) s j (q + 1) (omega (arith, hq.low)) (omega arith) (skipped apart))
+      next_on y l d g u = (
+        omega (arith, hq.low),
+        omega arith,
+        same eol opens s x j (q + 1) (first-over (ends_at eol opens s) j (q + 1) (length s) (omega (arith, hq.low)) (omega arith) miss)
+            (λ apart. find-over (is x) s j (q + 1) (omega (arith, hq.low)) (omega arith) (skipped apart)),
+      )
         where
           miss : (k : ℕ) → j ≤ k → k < q + 1 → ends_at eol opens s k ≡ false
           miss k a b =
@@ -161,6 +164,6 @@ module _ (eol : ℕ) (opens : ℕ → Bool) (s : List ℕ) (x from j q : ℕ) (w
       nexts_fence y u g = sym (w.same ∙ next_fence_lem eol opens s x j q hq inside e y u g)
 
       pub nexts_again : (y : Bool) → q + 1 < length s → (get_or s (q + 1) 0 ≡ eol → ⊥) → Gives (opens (q + 1)) y → y ≡ false → Nexts eol opens s x from (q + 1)
-      nexts_again y l d g u = record { same = w.same ∙ next_on eol opens s x j q hq inside e y l d g u }
+      nexts_again y l d g u = record { same = w.same ∙ (next_on eol opens s x j q hq inside e y l d g u).2 }
 
 pub ruleset next_rules = (nexts_first, nexts_past, nexts_at, nexts_last, nexts_empty, nexts_fence, nexts_again)
