@@ -190,33 +190,37 @@ module _ (g : FenceIter) (count : ℕ) (s : List ℕ) where
 
   -- the ways out of a turn: q is the next fence byte
   module _ (from q : ℕ) (hq : Sought (is g.byte) s from q) where
-    close_none : length s ≤ q → length s ≡ close_end g count s from
+    pub close_none : length s ≤ q → length s ≡ close_end g count s from
     unfolding closes
     close_none l = close_past from (first_gone g s (locks g count s) (locks-parts g count s) from q hq l)
 
     module _ (inside : q < length s) (y : Bool) (hy : Gives (line_start g.eol s q) y) where
-      close_skip : y ≡ false → close_end g count s from ≡ close_end g count s (q + 1)
+      pub close_skip : y ≡ false → (from < q + 1) × (q + 1 ≤ length s) × (close_end g count s from ≡ close_end g count s (q + 1))
       unfolding closes
-      close_skip e = close_at from (q + 1) (first_skip g s (locks g count s) (locks-parts g count s) from q hq inside (sym hy.answer ∙ e))
+      close_skip e = (
+        omega (arith, hq.low),
+        omega arith,
+        close_at from (q + 1) (first_skip g s (locks g count s) (locks-parts g count s) from q hq inside (sym hy.answer ∙ e)),
+      )
 
       -- its run ends at j, its line at e, and n is the place after it
       module _ (start : y ≡ true) (j : ℕ) (hj : Sought (other (is g.byte)) s q j) (e : ℕ) (he : Sought (is g.eol) s j e) (n : ℕ) (hn : Gives (next_line (length s) e) n) (c : ℕ) (hc : Gives (run_count q j) c) where
         pub close_less : length s - n < length s - from
         close_less = omega (arith, hq.low, hj.low, he.low, hn.answer)
 
-        close_miss : locks g count s q (whole_run_end g s q) (run_line g s q) ≡ false → close_end g count s from ≡ close_end g count s n
+        close_miss : locks g count s q (whole_run_end g s q) (run_line g s q) ≡ false → (from < n) × (n ≤ length s) × (close_end g count s from ≡ close_end g count s n)
         unfolding closes
         close_miss f =
             let z : n ≡ after_run_line g s q = hn.answer ∙ ap (next_line (length s)) (he.here ∙ ap (line_end g.eol s) hj.here) in
-            rw z (close_at from (after_run_line g s q) (first_miss g s (locks g count s) (locks-parts g count s) from q hq inside f))
+            (omega (arith, hq.low, hj.low, he.low, hn.answer), omega (arith, hn.answer), rw z (close_at from (after_run_line g s q) (first_miss g s (locks g count s) (locks-parts g count s) from q hq inside f)))
 
-        close_short : c < count → close_end g count s from ≡ close_end g count s n
+        pub close_short : c < count → (from < n) × (n ≤ length s) × (close_end g count s from ≡ close_end g count s n)
         close_short l = close_miss (simp (← hj.here, ← hc.answer, lt-leb count c l))
 
-        close_text : (z : Bool) → z ≡ false → Gives (leb e (find (other (either g.sep g.tab)) s j)) z → close_end g count s from ≡ close_end g count s n
+        pub close_text : (z : Bool) → z ≡ false → Gives (leb e (find (other (either g.sep g.tab)) s j)) z → (from < n) × (n ≤ length s) × (close_end g count s from ≡ close_end g count s n)
         close_text z k hz = close_miss (simp (← hj.here, ← he.here, ← hz.answer, k, and-false))
 
-        close_found : count ≤ c → (z : Bool) → z ≡ true → Gives (leb e (find (other (either g.sep g.tab)) s j)) z → n ≡ close_end g count s from
+        pub close_found : count ≤ c → (z : Bool) → z ≡ true → Gives (leb e (find (other (either g.sep g.tab)) s j)) z → n ≡ close_end g count s from
         unfolding closes
         close_found l z k hz =
             hn.answer
@@ -236,15 +240,15 @@ module _ (g : FenceIter) (count : ℕ) (s : List ℕ) (from q' q : ℕ) (w : Fen
 
   module _ (inside : q < length s) (y : Bool) (hy : Gives (line_start g.eol s q) y) where
     pub closes_skip : y ≡ false → FenceCloses g count s from (q + 1)
-    closes_skip e = record { same = w.same ∙ close_skip g count s q' q hq inside y hy e }
+    closes_skip e = record { same = w.same ∙ (close_skip g count s q' q hq inside y hy e).2 }
 
     module _ (start : y ≡ true) (j : ℕ) (hj : Sought (other (is g.byte)) s q j) (e : ℕ) (he : Sought (is g.eol) s j e) (n : ℕ) (hn : Gives (next_line (length s) e) n) (c : ℕ) (hc : Gives (run_count q j) c) where
       pub closes_short : c < count → FenceCloses g count s from n
-      closes_short l = record { same = w.same ∙ close_short g count s q' q hq inside y hy start j hj e he n hn c hc l }
+      closes_short l = record { same = w.same ∙ (close_short g count s q' q hq inside y hy start j hj e he n hn c hc l).2 }
 
       module _ (z : Bool) (hz : Gives (leb e (find (other (either g.sep g.tab)) s j)) z) where
         pub closes_text : z ≡ false → FenceCloses g count s from n
-        closes_text k = record { same = w.same ∙ close_text g count s q' q hq inside y hy start j hj e he n hn c hc z k hz }
+        closes_text k = record { same = w.same ∙ (close_text g count s q' q hq inside y hy start j hj e he n hn c hc z k hz).2 }
 
         pub closes_found : count ≤ c → z ≡ true → n ≡ close_end g count s from
         closes_found l k = close_found g count s q' q hq inside y hy start j hj e he n hn c hc l z k hz ∙ sym w.same
