@@ -53,11 +53,17 @@ module _ {S A : Type 0} (c : Scanner S A) where
     unfolding answer state
     next_past l h = step_past c.values (at c) g s (c.fields g).pos (first c g set s) l h
 
+  -- by what a `match` told of the code's value d of the scan's answer; `view` says which answer such a value stands for
+  pub next-told : {D : Type 0} (view : D → Turn A) (g : S) (set : List Bool) (s : List ℕ) → (c.fields g).pos ≤ length s → length s ≤ 4294967295
+      → (d e : D) (o : Outcome) (n : S) → d ≡ e → Gives (first c g set s) (view d) → o ≡ said c.values (view e) → Gives (at c g (place_of (view e))) n → Keeps c g set s o n
+  unfolding answer state
+  next-told view g set s l h = step_seen c.values (at c) g s (c.fields g).pos (first c g set s) l h view
+
   -- by the first turn that does not only go on
   module _ (g : S) (set : List Bool) (s : List ℕ) (l : (c.fields g).pos ≤ length s) (h : length s ≤ 4294967295) where
     served_by : (t : Turn A) (n : S) → t ≡ first_turn (turn c g set s) (length s) (c.fields g).pos → Gives (at c g (place_of t)) n → Keeps c g set s (said c.values t) n
-    unfolding answer state first
-    served_by t n e = step_seen c.values (at c) g s (c.fields g).pos (first c g set s) l h (λ (t : Turn A). t) t t (said c.values t) n refl (record { answer = e }) refl
+    unfolding first
+    served_by t n e = next-told (λ (t : Turn A). t) g set s l h t t (said c.values t) n refl (record { answer = e }) refl
 
     pub served_stop : (v : ℕ) (n : S) → stop v ≡ first_turn (turn c g set s) (length s) (c.fields g).pos → Gives (at c g v) n → Keeps c g set s (given []) n
     served_stop v = served_by (stop v)
