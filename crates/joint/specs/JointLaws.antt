@@ -1,13 +1,19 @@
--- Laws of the test of the marks: the ways out of the function that makes it. Assumes nothing.
-use Rattle.std.specs.Prelude.{◌≡◌, Bool, true, false, List, ℕ, ◌⊎◌, eqb, length}
+-- Laws of a replacement's end and of the test of the marks: ways out of the functions that make these tests. Assumes nothing.
+use Rattle.std.specs.Prelude.{◌≡◌, Bool, true, false, not, ◌&&◌, List, ℕ, ◌⊎◌, eqb, length}
 use Rattle.std.specs.List.{list_any}
-use Rattle.std.proofs.Common.{sym, ◌∙◌, inl, inr, arith, ltb-true, ltb-false}
+use Rattle.std.proofs.Common.{sym, ap, ◌∙◌, inl, inr, arith, ltb-true, ltb-false}
 use Rattle.std.proofs.lemmas.Grind.{get_or_default_zero}
 use Rattle.std.proofs.lemmas.List.Folds.{list_any_at, list_any_none}
+use Rattle.search.specs.Promise.{Gives}
 use Rattle.search.specs.Search.{is, find}
 use Rattle.search.specs.SearchLaws.{decide, is_yes, is_no, find_at, find_before}
 use Rattle.common.specs.Rules.{has_rule}
-use Rattle.joint.specs.Joint.{line_end_is_mark}
+use Rattle.joint.specs.Joint.{after_empty_line, open_end, line_end_is_mark}
+
+-- ---- a replacement's end
+module _ (eol : ℕ) (follows : Bool) (r : List ℕ) (reaching : Bool) (e : follows ≡ true) (y : Bool) where
+  pub open_line_lem : y ≡ false → Gives (after_empty_line eol r (length r)) y → true ≡ open_end eol follows r reaching
+  open_line_lem d g = sym (ap (λ (b : Bool). b && not (after_empty_line eol r (length r) && not reaching)) e ∙ ap (λ (b : Bool). not (b && not reaching)) (sym g.answer ∙ d))
 
 -- ---- a line end that escapes or opens
 -- the library's word for a byte that a list has, and the rules'
