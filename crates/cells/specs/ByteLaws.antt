@@ -1,11 +1,13 @@
--- Laws of numbers as bytes: what is laid over a run, and that a number is read back. Assumes nothing.
-use Rattle.std.specs.Prelude.{◌≡◌, length, get_or, take, set}
+-- Laws of numbers as bytes: four for each, what is laid over a run, and that a number is read back. Assumes nothing.
+use Rattle.std.specs.Prelude.{◌≡◌, true, false, ◌⊎◌, eqb, length, get_or, take, set}
 use Rattle.std.proofs.Math.Path.{refl, ap}
-use Rattle.std.proofs.Common.{sym, ◌∙◌, div-add-mod', mod-eq_of_lt, add-one, take-suc, take_all, length-take-le}
+use Rattle.std.proofs.Common.{sym, ◌∙◌, inl, inr, div-add-mod', mod-eq_of_lt, add-one, take-suc, take_all, length-take-le}
 use mathlib.Core.List.{List, [], ◌∷◌, ◌++◌, append-nil, append_assoc}
 use Prim.Native.Nat.{ℕ, zero, suc, ◌+◌, ◌*◌, ◌/◌, ◌%◌, ◌≤◌, ◌<◌}
 use Rattle.std.proofs.Math.Nat.{div-div-eq-div-mul}
 use native.Mathlib.Omega.{arith}
+use borrow.Author.Tests.{eq-eqb, ne_eqb, eqb-true, eqb-false}
+use Rattle.search.specs.SearchLaws.{decide}
 use Rattle.common.specs.Entry.{flatten, put_at}
 use Rattle.common.specs.EntryLaws.{length-flatten, length_put, put_append, put_front, put_four}
 use Rattle.common.specs.Rules.{tabulate}
@@ -13,6 +15,18 @@ use Rattle.common.specs.TableLaws.{length-tabulate}
 use Rattle.common.specs.Sets.{Index}
 use Rattle.cells.specs.Bytes.{four, from_four}
 use Rattle.cells.specs.Reply.{LaidAt}
+
+-- ---- four bytes for each number
+module _ (len count : ℕ) where
+  pub fourfold_count : (len / 4 ≡ count → ⊥) → false ≡ eqb len (count * 4)
+  fourfold_count h = sym (ne_eqb len (count * 4) (λ e. h (omega arith)))
+
+  pub fourfold-rest : len / 4 ≡ count → eqb (len % 4) 0 ≡ eqb len (count * 4)
+  fourfold-rest h = by (decide (eqb (len % 4) 0))
+    where
+      by : (eqb (len % 4) 0 ≡ true) ⊎ (eqb (len % 4) 0 ≡ false) → eqb (len % 4) 0 ≡ eqb len (count * 4)
+      by (inl t) = t ∙ sym (eq-eqb len (count * 4) (omega (arith, eqb-true (len % 4) 0 t)))
+      by (inr t) = t ∙ sym (ne_eqb len (count * 4) (λ e. eqb-false (len % 4) 0 t (omega arith)))
 
 -- a number of 32 bits is read back from its four bytes: no other number is written so
 pub four-back : (n : ℕ) → n < 4294967296 → from_four (four n) ≡ n
