@@ -37,9 +37,13 @@ module _ (m : Framing) (s : List ℕ) where
   unfolding mark_at
   mark_here e p y h g = record { answer = rw (lt-ltb p e h) g.answer }
 
-  pub mark-past : (e p : ℕ) → e ≤ p → Gives (mark_at m s e p) (ltb p e)
+  pub mark-past : (e p : ℕ) → e ≤ p → Gives (mark_at m s e p) false
   unfolding mark_at
   mark-past e p h = record { answer = rw (le-ltb p e h) }
+
+  -- so the test that failed is the answer
+  pub mark-failed : (e p : ℕ) → e ≤ p → Gives (mark_at m s e p) (ltb p e)
+  mark-failed e p h = rw (le-ltb p e h) (mark-past e p h)
 
   pub after_gt : (e p : ℕ) → p < after_mark m s e p
   unfolding after_mark

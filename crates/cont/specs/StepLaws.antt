@@ -16,7 +16,7 @@ use Rattle.cont.specs.declared.ContIter.{ContIter}
 use Rattle.cont.specs.declared.ContStep.{ContStep}
 use Rattle.cont.specs.Frames.{frame}
 use Rattle.common.specs.Entry.{put_at}
-use Rattle.cont.specs.Cont.{framing_of, closed_frames, first_shut, standing, changed, drained, drained_or_end, stepped, span_of, state_of, misplaced_by, misplaced, answer, state, fresh}
+use Rattle.cont.specs.Cont.{Counts, framing_of, closed_frames, first_shut, standing, changed, drained, drained_or_end, stepped, span_of, state_of, misplaced_by, misplaced, answer, state, fresh}
 use Rattle.cont.specs.Steps.{closed_view, Scanned, Served, Kept}
 use Rattle.cont.specs.TurnLaws.{closing-length}
 
@@ -36,9 +36,9 @@ module _ (g : ContIter) (s : List ℕ) (a b c : Bool) (ea : a ≡ (ltb (length s
   misplaced_before e = or_holds (ltb g.pending_len g.pending_idx) e refl ∙ sym tests
 
 -- the last test
-pub misplaced_last : (g : ContIter) (s : List ℕ) → g.pos ≤ length s → g.cap ≤ 32 → g.open_len ≤ 32 → g.pending_len ≤ 32 → Gives (misplaced g s) (ltb g.pending_len g.pending_idx)
+pub misplaced_last : (c : Counts) → c.pos ≤ c.len → c.cap ≤ 32 → c.open_len ≤ 32 → c.pending_len ≤ 32 → Gives (misplaced_by c) (ltb c.pending_len c.pending_idx)
 unfolding misplaced_by
-misplaced_last g s inside nests opens waits = record { answer = simp (le-ltb (length s) g.pos inside, le-ltb 32 g.cap nests, le-ltb 32 g.open_len opens, le-ltb 32 g.pending_len waits) }
+misplaced_last c inside nests opens waits = record { answer = simp (le-ltb c.len c.pos inside, le-ltb 32 c.cap nests, le-ltb 32 c.open_len opens, le-ltb 32 c.pending_len waits) }
 
 -- the state that the code has once the closed frames r, which are p, are pending, with the cells o
 abbrev filled : ContIter → Closed → List ℕ → List Span → ContIter
@@ -63,7 +63,7 @@ module _ (g : ContIter) (s : List ℕ) where
 
   unrefused : Served g s → misplaced g s ≡ false
   unrefused v =
-      sym (misplaced_last g s v.inside v.nests v.opens v.waits).answer
+      sym (misplaced_last _ v.inside v.nests v.opens v.waits).answer
       ∙ le-ltb g.pending_len g.pending_idx v.drawn
 
   -- ---- the step, by the ways that it takes

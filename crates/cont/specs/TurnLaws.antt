@@ -43,11 +43,11 @@ module _ {o : List ℕ} {from n e : ℕ} {old : List Span} where
   closing-first = record { cells = refl; sum = omega arith }
 
   module _ {new : List Span} {i k : ℕ} (w : Closing o from n e old new i k) where
-    closing_again : from < i → Closing o from n e old (set new k (frame (get_or o (i - 1) 0) e)) (i - 1) (k + 1)
+    pub closing_again : from < i → Closing o from n e old (set new k (frame (get_or o (i - 1) 0) e)) (i - 1) (k + 1)
     closing_again h =
         record { cells = ap (λ (x : List Span). put_at k x new) (sym (closing-next o e from i h)) ∙ w.cells; sum = omega (arith, w.sum) }
 
-    closing_end : i ≤ from → Gives (put_at 0 (closed_frames o e from (n - from)) old) new
+    pub closing_end : i ≤ from → Gives (put_at 0 (closed_frames o e from (n - from)) old) new
     closing_end h =
         let z : i - from ≡ 0 = omega arith in
         record { answer = ap (λ (x : ℕ). put_at k (closed_frames o e from x) new) (sym z) ∙ w.cells }
