@@ -35,7 +35,7 @@ module _ (w : ℕ) (l : List ℕ) (count index place : ℕ) where
     unfolding passed
     passes_found stop h g m = sym (k.same ∙ first_here (ends_after w l place) i count h (lt-ltb place (stop_at w l i) (omega (arith, g.answer))))
 
-    passes_end : count ≤ i → i ≡ passed w l count index place
+    pub passes_end : count ≤ i → i ≡ passed w l count index place
     unfolding passed
     passes_end h = sym (k.same ∙ first_end (ends_after w l place) i count h)
 
