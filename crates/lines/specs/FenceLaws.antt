@@ -18,9 +18,13 @@ use Rattle.common.specs.declared.grammar.Grammar.{Grammar}
 
 -- ---- a line that closes: its run ends at j, within the line, and is c long
 module _ (g : Grammar) (b count : ℕ) (s : List ℕ) (q e j c : ℕ) (hj : Gives (min (find (other (is b)) s q) e) j) (hc : Gives (run_count q j) c) where
-  pub closes-short : c < count → leb count c ≡ closes_to g b count s q e
+  pub closes-short : c < count → false ≡ closes_to g b count s q e
   unfolding closes_to
   closes-short l = simp (← hj.answer, ← hc.answer, lt-leb count c l)
+
+  -- so the test that failed is the answer
+  pub closes-failed : c < count → leb count c ≡ closes_to g b count s q e
+  closes-failed l = lt-leb count c l ∙ closes-short l
 
   pub closes-rest : (y : Bool) → count ≤ c → Gives (leb e (find (other (either g.sep g.tab)) s j)) y → y ≡ closes_to g b count s q e
   unfolding closes_to
