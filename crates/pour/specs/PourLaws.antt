@@ -45,7 +45,7 @@ module _ (g : Grammar) (c : ColumnRuns) (s : List ℕ) (t : Tables) (w : TablesO
       subst (λ (x : ℕ). Replied (given (x ∷ [])) run run' r) e d
 
 -- by the rules that are kept of those that byte runs hold
-poured_rules : (g : Grammar) (c : RuleRuns) (s : List ℕ) (before after : ListRuns) (f : Gathered) (r : ℕ) → AllGathered (fence_rules_of c.fence_rules) f
+pub poured_rules : (g : Grammar) (c : RuleRuns) (s : List ℕ) (before after : ListRuns) (f : Gathered) (r : ℕ) → AllGathered (fence_rules_of c.fence_rules) f
     → PouredBy g (columns_in (record { fence_bytes = kept_bytes f; fence_mins = kept_mins f; inline = c.inline })) s before after r → PouredBy g (rule_columns_in c) s before after r
 unfolding columns_in rule_columns_in
 poured_rules g c s before after f r w v =
