@@ -89,31 +89,43 @@ module _ {S : Type 0} {step : S → Step (List ℕ) S} where
       pub going_same : length out ≡ length out₀
       going_same = ap length i.list ∙ length_put n₀ i.done out₀
 
--- ---- the ways through a loop over a scanner: f is a step's answer, o what it found, a refusal counted as nothing, e what a `match` told that o is,
--- and `told` what such an answer says
+-- ---- the ways through a loop over a scanner: f is a step's answer, e what a `match` told that it is, and `told` what such a value says
+module _ (S : Type 0) {F : Type 0} (told : F → Outcome) (answer : S → Outcome) (state : S → S) where
+  value_step_lem : (g : S) {n : S} {f e : F} → f ≡ e → Steps (answer g) (state g) (told f) n → value_step answer state g ≡ step_for (λ v. v) (told e).values n
+  unfolding value_step
+  value_step_lem g {n} m w = ap (step_for (λ v. v) (answer g).values) (sym w.next) ∙ ap (λ (o : Outcome). step_for (λ v. v) o.values n) (sym w.answer) ∙ ap (λ (f : F). step_for (λ v. v) (told f).values n) m
+
+  module _ {letter : ℕ} {row : List ℕ → List ℕ} {all : List ℕ} {n₀ k : ℕ} {out₀ out : List ℕ} {g : S} (i : Going (value_step answer state) letter row all n₀ out₀ g out k) {f e : F} {n : S} (m : f ≡ e)
+      (w : Steps (answer g) (state g) (told f) n) where
+    pub lines_again : step_for (λ v. v) (told e).values n ≡ yields (told e).values n → {b k' : ℕ} {out' : List ℕ} → LaidWithin b (line letter (row (told e).values)) k out out' k' → Going (value_step answer state) letter row all n₀ out₀ n out' k'
+    lines_again y v = going_again i (value_step_lem g m w ∙ y) v
+
+    pub lines_less : step_for (λ v. v) (told e).values n ≡ yields (told e).values n → {b k' : ℕ} {out' : List ℕ} → LaidWithin b (line letter (row (told e).values)) k out out' k' → 1000000 - k' < 1000000 - k
+    lines_less y v = going_less i (value_step_lem g m w ∙ y) v
+
+    pub lines_end : step_for (λ v. v) (told e).values n ≡ ends n → Laid all n₀ out₀ out k
+    lines_end y = going_end i (value_step_lem g m w ∙ y)
+
+-- ---- the same where a refusal is counted as nothing: f is a step's answer, o what it found, e what a `match` told that o is
 module _ (S : Type 0) {A : Type 0} (told : Result (Option A) Refusal → Outcome) (denied : (r : Refusal) → (told (Err r)).values ≡ (told (Ok None)).values) (answer : S → Outcome) (state : S → S) where
   told_values : (f : Result (Option A) Refusal) {o : Option A} → o ≡ result_unwrap_or f None → (told f).values ≡ (told (Ok o)).values
   told_values (Ok x) q = ap (λ (o : Option A). (told (Ok o)).values) (sym q)
   told_values (Err r) q = denied r ∙ ap (λ (o : Option A). (told (Ok o)).values) (sym q)
 
-  value_step_lem : (g : S) {n : S} {f : Result (Option A) Refusal} {o e : Option A} → o ≡ result_unwrap_or f None → o ≡ e → Steps (answer g) (state g) (told f) n → value_step answer state g ≡ step_for (λ v. v) (told (Ok e)).values n
-  unfolding value_step
-  value_step_lem g {n} {f} q m w =
-      ap (step_for (λ v. v) (answer g).values) (sym w.next)
-      ∙ ap (λ (o : Outcome). step_for (λ v. v) o.values n) (sym w.answer)
-      ∙ ap (λ (v : List ℕ). step_for (λ v. v) v n) (told_values f q ∙ ap (λ (o : Option A). (told (Ok o)).values) m)
-
   module _ {letter : ℕ} {row : List ℕ → List ℕ} {all : List ℕ} {n₀ k : ℕ} {out₀ out : List ℕ} {g : S} (i : Going (value_step answer state) letter row all n₀ out₀ g out k) {f : Result (Option A) Refusal} {o e : Option A} {n : S}
       (q : o ≡ result_unwrap_or f None) (m : o ≡ e) (w : Steps (answer g) (state g) (told f) n) where
-    pub lines_again : step_for (λ v. v) (told (Ok e)).values n ≡ yields (told (Ok e)).values n → {b k' : ℕ} {out' : List ℕ} → LaidWithin b (line letter (row (told (Ok e)).values)) k out out' k'
+    same_values : (told f).values ≡ (told (Ok e)).values
+    same_values = told_values f q ∙ ap (λ (o : Option A). (told (Ok o)).values) m
+
+    pub unwrapped_again : step_for (λ v. v) (told (Ok e)).values n ≡ yields (told (Ok e)).values n → {b k' : ℕ} {out' : List ℕ} → LaidWithin b (line letter (row (told (Ok e)).values)) k out out' k'
         → Going (value_step answer state) letter row all n₀ out₀ n out' k'
-    lines_again y v = going_again i (value_step_lem g q m w ∙ y) v
+    unwrapped_again y v = lines_again S told answer state i refl w (rw same_values y) (rw (← same_values) at v)
 
-    pub lines_less : step_for (λ v. v) (told (Ok e)).values n ≡ yields (told (Ok e)).values n → {b k' : ℕ} {out' : List ℕ} → LaidWithin b (line letter (row (told (Ok e)).values)) k out out' k' → 1000000 - k' < 1000000 - k
-    lines_less y v = going_less i (value_step_lem g q m w ∙ y) v
+    pub unwrapped_less : step_for (λ v. v) (told (Ok e)).values n ≡ yields (told (Ok e)).values n → {b k' : ℕ} {out' : List ℕ} → LaidWithin b (line letter (row (told (Ok e)).values)) k out out' k' → 1000000 - k' < 1000000 - k
+    unwrapped_less y v = lines_less S told answer state i refl w (rw same_values y) (rw (← same_values) at v)
 
-    pub lines_end : step_for (λ v. v) (told (Ok e)).values n ≡ ends n → Laid all n₀ out₀ out k
-    lines_end y = going_end i (value_step_lem g q m w ∙ y)
+    pub unwrapped_end : step_for (λ v. v) (told (Ok e)).values n ≡ ends n → Laid all n₀ out₀ out k
+    unwrapped_end y = lines_end S told answer state i refl w (rw same_values y)
 
 -- ---- the beginning of such a loop, of things that have values and are read back from them
 module _ {S A : Type 0} (values : A → List ℕ) (back : List ℕ → A) where

@@ -3,7 +3,7 @@ use Rattle.std.specs.Prelude.{refl}
 use Rattle.common.specs.Refusals.{told_span}
 use Rattle.fence.specs.declared.FenceIter.{FenceIter}
 use Rattle.listing.specs.ScannerLines.{fences-first}
-use Rattle.listing.specs.GoingLaws.{going_here, lines_less, lines_again, lines_end}
+use Rattle.listing.specs.GoingLaws.{going_here, unwrapped_less, unwrapped_again, unwrapped_end}
 use borrow.Author.Rules.{rules}
 use Rattle.listing.proofs.scans.put_fences_of.Goals as goal
 
@@ -14,10 +14,10 @@ pub put_three-k-requires : goal.put_three-k-requires
 put_three-k-requires c = search going_here
 
 pub loop-s-smaller : goal.loop-s-smaller
-loop-s-smaller c = search (lines_less FenceIter told_span (λ r. refl))
+loop-s-smaller c = search (unwrapped_less FenceIter told_span (λ r. refl))
 
 pub loop-s-preserved : goal.loop-s-preserved
-loop-s-preserved c = search (lines_again FenceIter told_span (λ r. refl))
+loop-s-preserved c = search (unwrapped_again FenceIter told_span (λ r. refl))
 
 pub returns-in_default : goal.returns-in_default
-returns-in_default c = search (lines_end FenceIter told_span (λ r. refl))
+returns-in_default c = search (unwrapped_end FenceIter told_span (λ r. refl))

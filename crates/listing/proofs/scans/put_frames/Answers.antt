@@ -3,7 +3,7 @@ use Rattle.std.specs.Prelude.{refl}
 use Rattle.common.specs.Refusals.{told_span}
 use Rattle.cont.specs.declared.ContIter.{ContIter}
 use Rattle.listing.specs.ScannerLines.{frames-first}
-use Rattle.listing.specs.GoingLaws.{going_here, lines_less, lines_again, lines_end}
+use Rattle.listing.specs.GoingLaws.{going_here, unwrapped_less, unwrapped_again, unwrapped_end}
 use borrow.Author.Rules.{rules}
 use Rattle.listing.proofs.scans.put_frames.Goals as goal
 
@@ -14,10 +14,10 @@ pub put_two-k-requires : goal.put_two-k-requires
 put_two-k-requires c = search going_here
 
 pub loop-s-smaller : goal.loop-s-smaller
-loop-s-smaller c = search (lines_less ContIter told_span (λ r. refl))
+loop-s-smaller c = search (unwrapped_less ContIter told_span (λ r. refl))
 
 pub loop-s-preserved : goal.loop-s-preserved
-loop-s-preserved c = search (lines_again ContIter told_span (λ r. refl))
+loop-s-preserved c = search (unwrapped_again ContIter told_span (λ r. refl))
 
 pub returns-in_default : goal.returns-in_default
-returns-in_default c = search (lines_end ContIter told_span (λ r. refl))
+returns-in_default c = search (unwrapped_end ContIter told_span (λ r. refl))
