@@ -9,7 +9,7 @@ use Rattle.common.specs.Turn.{Turn, go, found, Step}
 use Rattle.common.specs.Items.{ItemGrammar, grammar, blank, has, leading, beyond, leads, item_from, items_of, read_turn, hit_turn, step_for}
 use Rattle.common.specs.Scanning.{Scanner, Keeps, KeepsFrom, on_from, of_line}
 use Rattle.common.specs.Scanning as scanning
-use Rattle.common.specs.Kinds.{Reading, scanner_of, told_by}
+use Rattle.common.specs.Kinds.{ItemReading, scanner_of, told_by}
 use Rattle.common.specs.declared.scan.ItemIter.{ItemIter}
 use Rattle.common.specs.declared.scan.Step as code
 use Rattle.common.specs.declared.span.Span.{Span}
@@ -58,7 +58,7 @@ abbrev pub values : MarkerItem → List ℕ
 values i = i.span.start ∷ i.span.end ∷ i.marker ∷ []
 
 -- how its items are read
-abbrev pub reading : Reading MarkerItem
+abbrev pub reading : ItemReading MarkerItem
 reading = record { streams = stream_turn; lines = line_turn; values = values; back = λ l. mark (get_or l 2 0) (get_or l 0 0) (get_or l 1 0) }
 
 -- a state, and the scanner

@@ -17,7 +17,7 @@ ghost use Rattle.block_marker.specs.MarkerLaws.{Lies};
 ghost use Rattle.block_marker.specs.MarkerRun.{lawful, fits};
 
 use common::items::{blank_at, leads_later, leads_line};
-use common::scan::{ItemIter, Kind, Lead, Step};
+use common::scan::{ItemIter, ItemKind, ItemLead, Step};
 use common::sets::accepts;
 use common::span::{Bounds, Span};
 use common::turn::Turn;
@@ -58,14 +58,14 @@ fn find_mark(g: &BlockMarkerIter, src: &[u8], q: usize) -> usize
 // What a hit at `p` says; `led` tells whether it leads its line. A failed hit rules its whole line out, since a later hit on that line
 // would have this one before it: on to the next line, instead of rejecting the line's hits one by one.
 #[inline(always)]
-fn hit(g: &BlockMarkerIter, src: &[u8], p: usize, led: bool) -> Turn<Lead<u8>>
+fn hit(g: &BlockMarkerIter, src: &[u8], p: usize, led: bool) -> Turn<ItemLead<u8>>
     requires p_in_bounds { p < length src.now }
     ensures { Gives (leads g.now.eol g.now.sep g.now.tab src.now p) led → HitSays g.now.eol g.now.sep g.now.tab src.now p (view make result) }
 {
     if led && blank_at(src, p + 1, g.sep, g.tab) {
         let start = p + 2;
         let end = find_byte(src, start, g.eol);
-        let lead = Lead {
+        let lead = ItemLead {
             value: byte_at(src, p),
             content: Bounds { start, end },
         };
@@ -86,7 +86,7 @@ fn leads_here(g: &BlockMarkerIter, src: &[u8], p: usize, lost: &mut usize) -> bo
     leads_line(src, p, g.eol, g.sep, g.tab)
 }
 
-impl Kind for Marker {
+impl ItemKind for Marker {
     type Value = u8;
 
     type Item = MarkerItem;
@@ -103,7 +103,7 @@ impl Kind for Marker {
     }
 
     #[inline(always)]
-    fn streamed(g: &BlockMarkerIter, src: &[u8], q: usize, lost: &mut usize) -> Turn<Lead<u8>> {
+    fn streamed(g: &BlockMarkerIter, src: &[u8], q: usize, lost: &mut usize) -> Turn<ItemLead<u8>> {
         let p = find_mark(g, src, q);
         if p >= src.len() {
             return Turn::Stop(q);
@@ -113,7 +113,12 @@ impl Kind for Marker {
     }
 
     #[inline(always)]
-    fn lined(g: &BlockMarkerIter, src: &[u8], q: usize, matches: &[bool; 256]) -> Turn<Lead<u8>> {
+    fn lined(
+        g: &BlockMarkerIter,
+        src: &[u8],
+        q: usize,
+        matches: &[bool; 256],
+    ) -> Turn<ItemLead<u8>> {
         if q >= src.len() {
             return Turn::Stop(q);
         }
@@ -127,7 +132,7 @@ impl Kind for Marker {
         let value = byte_at(line, p);
         if accepts(matches, value) && blank_at(line, p + 1, g.sep, g.tab) {
             let content = Bounds { start: p + 2, end };
-            return Turn::Found(Lead { value, content }, n);
+            return Turn::Found(ItemLead { value, content }, n);
         }
         Turn::Go(n)
     }

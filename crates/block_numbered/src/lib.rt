@@ -17,7 +17,7 @@ ghost use Rattle.block_numbered.specs.NumberedLaws.{Lies};
 ghost use Rattle.block_numbered.specs.NumberedRun.{lawful, fits};
 
 use common::items::{blank_at, leads_later};
-use common::scan::{ItemIter, Kind, Lead, Step};
+use common::scan::{ItemIter, ItemKind, ItemLead, Step};
 use common::sets::accepts;
 use common::span::{Bounds, Span};
 use common::turn::Turn;
@@ -157,7 +157,7 @@ pub fn read_digits(line: &[u8], from: usize) -> DigitRun
     DigitRun { number, end: i }
 }
 
-impl Kind for Numbered {
+impl ItemKind for Numbered {
     type Value = Head;
 
     type Item = NumberedItem;
@@ -178,7 +178,12 @@ impl Kind for Numbered {
 
     // A failed hit is rejected in place, and the scan goes on from the next byte: delimiters in prose are few on a line, so that one look
     // back at each is cheaper than a search for every line's end.
-    fn streamed(g: &BlockNumberedIter, src: &[u8], q: usize, lost: &mut usize) -> Turn<Lead<Head>> {
+    fn streamed(
+        g: &BlockNumberedIter,
+        src: &[u8],
+        q: usize,
+        lost: &mut usize,
+    ) -> Turn<ItemLead<Head>> {
         let len = src.len();
         let needles = g.needles;
         let p = find_any_of(&needles, g.nn, src, q);
@@ -200,7 +205,7 @@ impl Kind for Numbered {
                 delimiter: byte_at(src, p),
             };
             let content = Bounds { start, end };
-            return Turn::Found(Lead { value, content }, next_line(len, end));
+            return Turn::Found(ItemLead { value, content }, next_line(len, end));
         }
         Turn::Go(nxt) // in place
     }
@@ -210,7 +215,7 @@ impl Kind for Numbered {
         src: &[u8],
         q: usize,
         matches: &[bool; 256],
-    ) -> Turn<Lead<Head>> {
+    ) -> Turn<ItemLead<Head>> {
         if q >= src.len() {
             return Turn::Stop(q);
         }
@@ -233,7 +238,7 @@ impl Kind for Numbered {
                 delimiter,
             };
             let content = Bounds { start: j + 2, end };
-            return Turn::Found(Lead { value, content }, n);
+            return Turn::Found(ItemLead { value, content }, n);
         }
         Turn::Go(n)
     }

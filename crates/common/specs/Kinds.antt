@@ -6,14 +6,14 @@ use Rattle.common.specs.Items.{ItemGrammar}
 use Rattle.common.specs.Scanning.{Fields, Scanner}
 use Rattle.common.specs.declared.refusal.Refusal.{Refusal}
 use Rattle.common.specs.declared.scan.ItemIter.{ItemIter}
-use Rattle.common.specs.declared.scan.Lead.{Lead}
+use Rattle.common.specs.declared.scan.ItemLead.{ItemLead}
 use Rattle.common.specs.declared.span.Span.{Span}
 use Rattle.common.specs.declared.turn.Turn as code
 use Rattle.common.specs.declared.turn.Turn.TheVariants.{Go, Stop, Found}
 
 -- how a kind's items are read: one turn of its streaming scan and of its line scan, by what they read by; an item's values, and the item of
 -- such values
-pub record Reading (A : Type 0) : Type 0 where
+pub record ItemReading (A : Type 0) : Type 0 where
   pub streams : ItemGrammar → List ℕ → ℕ → Turn A
   pub lines : ItemGrammar → List ℕ → ℕ → Turn A
   pub values : A → List ℕ
@@ -28,19 +28,19 @@ module _ (K : Type 0) where
   made_of f = record { eol = f.eol; sep = f.sep; tab = f.tab; pos = f.pos; needles = f.needles; nn = f.nn; streaming = f.streaming; kind = record {} }
 
   -- the scanner of a kind's items
-  abbrev pub scanner_of : {A : Type 0} → Reading A → Scanner (ItemIter K) A
+  abbrev pub scanner_of : {A : Type 0} → ItemReading A → Scanner (ItemIter K) A
   scanner_of r = record { fields = fields_of; made = made_of; streams = r.streams; lines = r.lines; values = r.values; back = r.back }
 
 -- ---- what the code's values stand for, where `make` makes an item of what leads its line and of its span
 module _ {V A : Type 0} (make : V → Span → A) where
-  abbrev pub item_of : Lead V → A
-  item_of l = make l.value (record { start = l.content.start; end = l.content.end })
+  abbrev pub made_item : ItemLead V → A
+  made_item l = make l.value (record { start = l.content.start; end = l.content.end })
 
   -- a turn
-  abbrev pub view : code.Turn (Lead V) → Turn A
+  abbrev pub view : code.Turn (ItemLead V) → Turn A
   view (Go n) = go n
   view (Stop v) = stop v
-  view (Found l n) = found (item_of l) n
+  view (Found l n) = found (made_item l) n
 
 -- what a step's answer says, by the values of an item
 abbrev pub told_by : {A : Type 0} → (A → List ℕ) → Result (Option A) Refusal → Outcome

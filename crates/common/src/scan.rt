@@ -2,7 +2,7 @@
 // kind's.
 ghost use Rattle.std.specs.Prelude.{◌≡◌, ◌≤◌, ℕ, List, length};
 ghost use Rattle.search.specs.Promise.{Gives, Steps};
-ghost use Rattle.common.specs.Kinds.{Reading, scanner_of, view, told_by};
+ghost use Rattle.common.specs.Kinds.{ItemReading, scanner_of, view, told_by};
 ghost use Rattle.common.specs.Later.{Unled, Looked};
 ghost use Rattle.common.specs.Scanning.{by_needles, by_set, fresh, at, turn, answer, state};
 ghost use Rattle.common.specs.ScanningLaws.{Lawful};
@@ -30,7 +30,7 @@ pub struct ItemIter<K> {
 
 // What leads an item's line, and where its content lies.
 #[derive(Clone, Copy)]
-pub struct Lead<V> {
+pub struct ItemLead<V> {
     pub value: V,
     pub content: Bounds,
 }
@@ -43,12 +43,12 @@ pub struct Step<T, S> {
 }
 
 // A kind of items.
-pub trait Kind: Copy {
+pub trait ItemKind: Copy {
     type Value: Copy;
 
     type Item: Copy;
 
-    ghost reading: { Reading Self.Item };
+    ghost reading: { ItemReading Self.Item };
 
     ghost make: { Self.Value → Span → Self.Item };
 
@@ -64,7 +64,7 @@ pub trait Kind: Copy {
         src: &[u8],
         q: usize,
         lost: &mut usize,
-    ) -> Turn<Lead<Self::Value>>
+    ) -> Turn<ItemLead<Self::Value>>
         ensures { Unled g.now.eol g.now.sep g.now.tab src.now lost.old → Looked g.now.eol g.now.sep g.now.tab src.now
             (reading.streams (by_needles ((scanner_of Self reading).fields g.now)) src.now q) (view make result) lost.new };
 
@@ -74,7 +74,7 @@ pub trait Kind: Copy {
         src: &[u8],
         q: usize,
         matches: &[bool; 256],
-    ) -> Turn<Lead<Self::Value>>
+    ) -> Turn<ItemLead<Self::Value>>
         ensures { Gives (reading.lines (by_set ((scanner_of Self reading).fields g.now) matches.now) src.now q)
             (view make result) };
 
@@ -83,7 +83,7 @@ pub trait Kind: Copy {
     ghost fits: { (q n : ℕ) (v : Self.Value) (s : Span) → lies q n (make v s) → (s.start ≤ n) × (s.end ≤ n) };
 }
 
-impl<K: Kind> ItemIter<K> {
+impl<K: ItemKind> ItemIter<K> {
     pub fn new(eol: u8, sep: u8, tab: u8, matches: &[bool; 256]) -> Self
         ensures { Gives (fresh (scanner_of K K.reading) eol sep tab matches.now) result }
     {
@@ -116,7 +116,7 @@ impl<K: Kind> ItemIter<K> {
         q: usize,
         matches: &[bool; 256],
         lost: &mut usize,
-    ) -> Turn<Lead<K::Value>>
+    ) -> Turn<ItemLead<K::Value>>
         requires { Unled self.now.eol self.now.sep self.now.tab src.now lost.old }
         ensures { Looked self.now.eol self.now.sep self.now.tab src.now
             (turn (scanner_of K K.reading) self.now matches.now src.now q) (view K.make result) lost.new }

@@ -13,7 +13,7 @@ use Rattle.common.specs.Items.{step_for}
 use Rattle.common.specs.Scanning.{Scanner, answer, state, Keeps, items}
 use Rattle.common.specs.ScanningLaws.{Lawful, step_items, step_inside}
 use Rattle.common.specs.declared.grammar.Grammar.{Grammar}
-use Rattle.common.specs.Kinds.{Reading, scanner_of, told_by}
+use Rattle.common.specs.Kinds.{ItemReading, scanner_of, told_by}
 use Rattle.common.specs.declared.scan.ItemIter.{ItemIter}
 use Rattle.common.specs.declared.scan.Step as code
 use Rattle.block_marker.specs.declared.Marker.{Marker}
@@ -32,7 +32,7 @@ use Rattle.feed.specs.Ahead.{headed, Within, ahead}
 use Rattle.feed.specs.declared.item.SheetItem.{SheetItem}
 use Rattle.feed.specs.declared.Pick.{Pick}
 use Rattle.feed.specs.declared.Pick.TheVariants as pick
-use Rattle.feed.specs.declared.Ahead.{Ahead}
+use Rattle.feed.specs.declared.ItemsAhead.{ItemsAhead}
 use Rattle.feed.specs.declared.Feed.{Feed}
 use Rattle.feed.specs.declared.Taken.{Taken}
 use Rattle.common.specs.declared.refusal.Refusal.{Refusal}
@@ -65,7 +65,7 @@ module _ {S A : Type 0} {c : Scanner S A} {Lies : ℕ → ℕ → A → Type 0} 
       record { same = ap (map shown) (step_items w set s short g o n l kept) ∙ yields_head o.values n; inside = step_inside w set s short g o n l kept }
 
 -- what a step found, a refusal counted as nothing, makes the head that its values make
-module _ (K : Type 0) {A : Type 0} (r : Reading A) (shown : A → SheetItem) (reads : (a : A) (n : ItemIter K) → step_for r.back (r.values a) n ≡ yields a n) (set : List Bool) (s : List ℕ) (g : ItemIter K) where
+module _ (K : Type 0) {A : Type 0} (r : ItemReading A) (shown : A → SheetItem) (reads : (a : A) (n : ItemIter K) → step_for r.back (r.values a) n ≡ yields a n) (set : List Bool) (s : List ℕ) (g : ItemIter K) where
   step_head : Step A (ItemIter K) → Option SheetItem
   step_head (yields a n) = Some (shown a)
   step_head (ends n) = None
@@ -167,14 +167,14 @@ pub record Took (markers delims : List Bool) (s : List ℕ) (f : Feed) (t : Take
 
 module _ (markers delims : List Bool) (s : List ℕ) (f : Feed) where
   -- the ways out of the function that takes it
-  pub take-mark : (p : Option Pick) (x : SheetItem) (m : Ahead Marker) → p ≡ Some (pick.Mark x) → Gives (picked f.marks.head f.numbers.head) p → Gives (marks_after markers s f.marks.rest) m
+  pub take-mark : (p : Option Pick) (x : SheetItem) (m : ItemsAhead Marker) → p ≡ Some (pick.Mark x) → Gives (picked f.marks.head f.numbers.head) p → Gives (marks_after markers s f.marks.rest) m
       → Gives (taken markers delims s f) (record { head = Some x; rest = record { marks = m; numbers = f.numbers } })
   unfolding taken
   take-mark p x m e g w =
       let u : picked f.marks.head f.numbers.head ≡ Some (pick.Mark x) = sym g.answer ∙ e in
       record { answer = rw (u, w.answer) }
 
-  pub take_number : (p : Option Pick) (y : SheetItem) (m : Ahead Numbered) → p ≡ Some (pick.Number y) → Gives (picked f.marks.head f.numbers.head) p → Gives (numbers_after delims s f.numbers.rest) m
+  pub take_number : (p : Option Pick) (y : SheetItem) (m : ItemsAhead Numbered) → p ≡ Some (pick.Number y) → Gives (picked f.marks.head f.numbers.head) p → Gives (numbers_after delims s f.numbers.rest) m
       → Gives (taken markers delims s f) (record { head = Some y; rest = record { marks = f.marks; numbers = m } })
   unfolding taken
   take_number p y m e g w =
@@ -218,7 +218,7 @@ module _ (markers delims : List Bool) (s : List ℕ) (f : Feed) where
   took t g w = subst (Took markers delims s f) (sym g.answer) (took_by (picked f.marks.head f.numbers.head) refl w)
 
 -- ---- the beginning
-pub start_told : (g : Grammar) (markers delims : List Bool) (s : List ℕ) (a : BlockMarkerIter) (b : BlockNumberedIter) (m : Ahead Marker) (n : Ahead Numbered) → Gives (marker.fresh g.eol g.sep g.tab markers) a
+pub start_told : (g : Grammar) (markers delims : List Bool) (s : List ℕ) (a : BlockMarkerIter) (b : BlockNumberedIter) (m : ItemsAhead Marker) (n : ItemsAhead Numbered) → Gives (marker.fresh g.eol g.sep g.tab markers) a
     → Gives (numbered.fresh g.eol g.sep g.tab delims) b → Gives (marks_after markers s a) m → Gives (numbers_after delims s b) n → Gives (fresh_feed g markers delims s) (record { marks = m; numbers = n })
 unfolding fresh_feed
 start_told g markers delims s a b m n ga gb gm gn = record { answer = rw (gm.answer, gn.answer, ga.answer, gb.answer) }

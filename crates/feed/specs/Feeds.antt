@@ -3,7 +3,7 @@
 use Rattle.std.specs.Prelude.{Bool, cond, List, ℕ, ltb, None, Option, Some}
 use Rattle.common.specs.Refusals.{unless_none}
 use Rattle.common.specs.declared.grammar.Grammar.{Grammar}
-use Rattle.common.specs.Kinds.{Reading, scanner_of}
+use Rattle.common.specs.Kinds.{ItemReading, scanner_of}
 use Rattle.common.specs.Scanning.{answer, state}
 use Rattle.common.specs.declared.scan.ItemIter.{ItemIter}
 use Rattle.block_marker.specs.declared.Marker.{Marker}
@@ -16,7 +16,7 @@ use Rattle.feed.specs.Items.{marked, counted}
 use Rattle.feed.specs.declared.item.SheetItem.{SheetItem}
 use Rattle.feed.specs.declared.Pick.{Pick}
 use Rattle.feed.specs.declared.Pick.TheVariants as pick
-use Rattle.feed.specs.declared.Ahead.{Ahead}
+use Rattle.feed.specs.declared.ItemsAhead.{ItemsAhead}
 use Rattle.feed.specs.declared.Feed.{Feed}
 use Rattle.feed.specs.declared.Taken.{Taken}
 
@@ -25,18 +25,18 @@ use Rattle.feed.specs.declared.Taken.{Taken}
 abbrev pub head_by : (List ℕ → SheetItem) → List ℕ → Option SheetItem
 head_by shown = unless_none None (λ l. Some (shown l))
 
-module _ (K : Type 0) {A : Type 0} (r : Reading A) (shown : A → SheetItem) where
+module _ (K : Type 0) {A : Type 0} (r : ItemReading A) (shown : A → SheetItem) where
   abbrev pub shown_head : List ℕ → Option SheetItem
   shown_head = head_by (λ l. shown (r.back l))
 
   -- what a state's step answers as the head, and the state after it
-  unfoldable pub after : List Bool → List ℕ → ItemIter K → Ahead K
+  unfoldable pub after : List Bool → List ℕ → ItemIter K → ItemsAhead K
   after set s g = record { head = shown_head (answer (scanner_of K r) g set s).values; rest = state (scanner_of K r) g set s }
 
-abbrev pub marks_after : List Bool → List ℕ → BlockMarkerIter → Ahead Marker
+abbrev pub marks_after : List Bool → List ℕ → BlockMarkerIter → ItemsAhead Marker
 marks_after = after Marker marker.reading marked
 
-abbrev pub numbers_after : List Bool → List ℕ → BlockNumberedIter → Ahead Numbered
+abbrev pub numbers_after : List Bool → List ℕ → BlockNumberedIter → ItemsAhead Numbered
 numbers_after = after Numbered numbered.reading counted
 
 -- ---- both

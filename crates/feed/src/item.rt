@@ -6,7 +6,7 @@ ghost use Rattle.feed.specs.declared.item.SheetItem.{SheetItem};
 
 use block_marker::{Marker, MarkerItem};
 use block_numbered::{Numbered, NumberedItem};
-use common::scan::Kind;
+use common::scan::ItemKind;
 
 // Where the content starts and ends, the kind (0 marker, 1 numbered), the accepted byte, and the number (0 for a marker).
 #[derive(Clone, Copy)]
@@ -19,7 +19,7 @@ pub struct SheetItem {
 }
 
 // A kind of items that a sheet has.
-pub trait Listed: Kind {
+pub trait SheetKind: ItemKind {
     ghost shown: { Self.Item → SheetItem };
 
     // The sheet's item.
@@ -27,7 +27,7 @@ pub trait Listed: Kind {
         ensures { result ≡ shown item };
 }
 
-impl Listed for Marker {
+impl SheetKind for Marker {
     ghost shown = { marked };
 
     fn shown(i: MarkerItem) -> SheetItem {
@@ -41,7 +41,7 @@ impl Listed for Marker {
     }
 }
 
-impl Listed for Numbered {
+impl SheetKind for Numbered {
     ghost shown = { counted };
 
     fn shown(i: NumberedItem) -> SheetItem {

@@ -11,11 +11,11 @@ use block_marker::{BlockMarkerIter, Marker};
 use block_numbered::{BlockNumberedIter, Numbered};
 use common::grammar::Grammar;
 use common::scan::ItemIter;
-use item::{Listed, SheetItem};
+use item::{SheetItem, SheetKind};
 
 // A scanner, one item ahead.
 #[derive(Clone, Copy)]
-pub struct Ahead<K> {
+pub struct ItemsAhead<K> {
     pub head: Option<SheetItem>,
     pub rest: ItemIter<K>,
 }
@@ -23,8 +23,8 @@ pub struct Ahead<K> {
 // Both.
 #[derive(Clone, Copy)]
 pub struct Feed {
-    pub marks: Ahead<Marker>,
-    pub numbers: Ahead<Numbered>,
+    pub marks: ItemsAhead<Marker>,
+    pub numbers: ItemsAhead<Numbered>,
 }
 
 // The next item of both, and what comes after it.
@@ -42,17 +42,17 @@ enum Pick {
 }
 
 // A scanner's next item; its refusal counts as its end.
-fn next_item<K: Listed>(g: ItemIter<K>, src: &[u8], set: &[bool; 256]) -> Ahead<K>
+fn next_item<K: SheetKind>(g: ItemIter<K>, src: &[u8], set: &[bool; 256]) -> ItemsAhead<K>
     ensures { Gives (after K K.reading K.shown set.now src.now g) result }
 {
     let step = g.next(src, set);
     let rest = step.next;
     match step.found.unwrap_or(None) {
-        Some(i) => Ahead {
+        Some(i) => ItemsAhead {
             head: Some(K::shown(i)),
             rest,
         },
-        None => Ahead { head: None, rest },
+        None => ItemsAhead { head: None, rest },
     }
 }
 

@@ -12,7 +12,7 @@ use crate::put_line::{put_four, put_three, put_two};
 use block_marker::{Marker, MarkerItem};
 use block_numbered::{Numbered, NumberedItem};
 use common::grammar::Grammar;
-use common::scan::{ItemIter, Kind};
+use common::scan::{ItemIter, ItemKind};
 use cont::ContIter;
 use fence::FenceIter;
 
@@ -75,7 +75,7 @@ fn put_frames(text: &[u8], out: &mut [u8], n: usize) -> usize
 }
 
 // A kind of items that are listed.
-trait Listed: Kind {
+trait ListingKind: ItemKind {
     ghost letter: { ℕ };
 
     // The line of an item.
@@ -84,7 +84,7 @@ trait Listed: Kind {
         ensures { LaidWithin 46 (line letter (Self.reading.values item)) n out.old out.new result };
 }
 
-impl Listed for Marker {
+impl ListingKind for Marker {
     ghost letter = { 77 };
 
     fn put(item: MarkerItem, out: &mut [u8], n: usize) -> usize {
@@ -93,7 +93,7 @@ impl Listed for Marker {
     }
 }
 
-impl Listed for Numbered {
+impl ListingKind for Numbered {
     ghost letter = { 78 };
 
     fn put(item: NumberedItem, out: &mut [u8], n: usize) -> usize {
@@ -111,7 +111,7 @@ impl Listed for Numbered {
 }
 
 // The items of a kind.
-fn put_items_of<K: Listed>(text: &[u8], set: &[bool; 256], out: &mut [u8], n: usize) -> usize
+fn put_items_of<K: ListingKind>(text: &[u8], set: &[bool; 256], out: &mut [u8], n: usize) -> usize
     requires text_len_bound { length text.now ≤ 8192 }
     requires room { Room n (item_lines_of (scanner_of K K.reading) K.letter set.now text.now) }
     ensures { Laid (item_lines_of (scanner_of K K.reading) K.letter set.now text.now) n out.old out.new result }

@@ -1,19 +1,19 @@
 // What the two item scanners share, sections 3 and 4: their questions, and a state in a list's terms.
 use crate::answers;
 use common::refusal::Refusal;
-use common::scan::{ItemIter, Kind};
+use common::scan::{ItemIter, ItemKind};
 use common::sets;
 use std::marker::PhantomData;
 use stored::asked::Asked;
 use stored::numbers::Numbers;
 
 // A kind whose items can be told in a list's terms.
-pub(crate) trait Told: Kind {
+pub(crate) trait ToldKind: ItemKind {
     fn told(item: Self::Item, reply: Numbers) -> Numbers;
 }
 
 // A fresh state, all items that it yields, or a step of a handmade state at a place.
-pub(crate) fn ask<K: Told>(asked: Asked<'_>, reply: Numbers) -> Numbers {
+pub(crate) fn ask<K: ToldKind>(asked: Asked<'_>, reply: Numbers) -> Numbers {
     let set = sets::byte_set(asked.bytes(0));
     match asked.letter() {
         b'f' => said(fresh::<K>(asked, &set), reply.and(1)),
@@ -27,11 +27,11 @@ pub(crate) fn ask<K: Told>(asked: Asked<'_>, reply: Numbers) -> Numbers {
     }
 }
 
-fn fresh<K: Kind>(asked: Asked<'_>, set: &[bool; 256]) -> ItemIter<K> {
+fn fresh<K: ItemKind>(asked: Asked<'_>, set: &[bool; 256]) -> ItemIter<K> {
     ItemIter::new(asked.byte(0), asked.byte(1), asked.byte(2), set)
 }
 
-fn handmade<K: Kind>(asked: Asked<'_>) -> ItemIter<K> {
+fn handmade<K: ItemKind>(asked: Asked<'_>) -> ItemIter<K> {
     ItemIter {
         eol: asked.byte(2),
         sep: asked.byte(3),
@@ -45,7 +45,7 @@ fn handmade<K: Kind>(asked: Asked<'_>) -> ItemIter<K> {
 }
 
 // The state behind a step that found an item, and that item; nothing at the end.
-fn entry<K: Told>(
+fn entry<K: ToldKind>(
     state: ItemIter<K>,
     text: &[u8],
     set: &[bool; 256],
@@ -57,7 +57,7 @@ fn entry<K: Told>(
 }
 
 // What a step found.
-fn found<K: Told>(found: Result<Option<K::Item>, Refusal>, reply: Numbers) -> Numbers {
+fn found<K: ToldKind>(found: Result<Option<K::Item>, Refusal>, reply: Numbers) -> Numbers {
     match found {
         Ok(Some(item)) => K::told(item, reply.and(1)),
         Ok(None) => reply.and(2),
@@ -65,7 +65,7 @@ fn found<K: Told>(found: Result<Option<K::Item>, Refusal>, reply: Numbers) -> Nu
     }
 }
 
-fn said<K: Kind>(state: ItemIter<K>, reply: Numbers) -> Numbers {
+fn said<K: ItemKind>(state: ItemIter<K>, reply: Numbers) -> Numbers {
     reply
         .byte(state.eol)
         .byte(state.sep)

@@ -80,9 +80,9 @@ asked l n index i = record {
 }
 
 -- what a turn answers from an index on, by the item that was taken, and by the scanners that are left
-abbrev pub turn_by : List ℕ → ℕ → ℕ → Feed → Option SheetItem → SheetStep
-turn_by l n index f None = record { seen = seen.End; rest = record { feed = f; index = index } }
-turn_by l n index f (Some i) =
+abbrev pub seen_by : List ℕ → ℕ → ℕ → Feed → Option SheetItem → SheetStep
+seen_by l n index f None = record { seen = seen.End; rest = record { feed = f; index = index } }
+seen_by l n index f (Some i) =
     let q = asked l n index i in
     record { seen = cond q.hidden seen.Hidden (seen.Shown i); rest = record { feed = f; index = q.index } }
 
@@ -105,7 +105,7 @@ begun_within g markers delims l n s most = at_most most (length (sheet_of g mark
 module _ (markers delims : List Bool) (l : List ℕ) (n : ℕ) (s : List ℕ) where
   -- what a turn answers
   abbrev pub turned : Walk → SheetStep
-  turned w = let t = taken markers delims s w.feed in turn_by l n w.index t.rest t.head
+  turned w = let t = taken markers delims s w.feed in seen_by l n w.index t.rest t.head
 
   -- scanners and a cursor that may go on
   pub record Ready (w : Walk) : Type 0 where

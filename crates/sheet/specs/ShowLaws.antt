@@ -11,7 +11,7 @@ use Rattle.cover.specs.declared.cursor.Cover.{Cover}
 use Rattle.feed.specs.Items.{tested_place}
 use Rattle.sheet.specs.Sheet.{inside}
 use Rattle.feed.specs.Feeds.{taken}
-use Rattle.sheet.specs.Parts.{SortedRows, is_at, Hid, some, asked, turn_by, turned, Ready, TurnedBy}
+use Rattle.sheet.specs.Parts.{SortedRows, is_at, Hid, some, asked, seen_by, turned, Ready, TurnedBy}
 use Rattle.sheet.specs.LeftLaws.{item_later, item-onward, left_end, left_hidden, left-shown}
 use Rattle.feed.specs.declared.item.SheetItem.{SheetItem}
 use Rattle.feed.specs.declared.Taken.{Taken}
@@ -97,14 +97,14 @@ module _ (markers delims : List Bool) (l : List ℕ) (n : ℕ) (s : List ℕ) (f
 
 -- what a turn answers keeps its promise
 module _ (markers delims : List Bool) (l : List ℕ) (n : ℕ) (s : List ℕ) (f : Walk) (r : Ready markers delims l n s f) where
-  turn_at : (h : Option SheetItem) → (taken markers delims s f.feed).head ≡ h → TurnedBy markers delims l n s f (turn_by l n f.index (taken markers delims s f.feed).rest h)
+  turn_at : (h : Option SheetItem) → (taken markers delims s f.feed).head ≡ h → TurnedBy markers delims l n s f (seen_by l n f.index (taken markers delims s f.feed).rest h)
   turn_at None e = turned_end markers delims l n s f (taken markers delims s f.feed) f.index e (record { answer = refl }) r
   turn_at (Some i) e = by (decide (asked l n f.index i).hidden)
     where
       h : Hid l n (tested_place i) (asked l n f.index i)
       h = asked_hides l n f.index i r.orderly (item_ended markers delims l n s f (taken markers delims s f.feed) i e (record { answer = refl }) r)
 
-      by : ((asked l n f.index i).hidden ≡ true) ⊎ ((asked l n f.index i).hidden ≡ false) → TurnedBy markers delims l n s f (turn_by l n f.index (taken markers delims s f.feed).rest (Some i))
+      by : ((asked l n f.index i).hidden ≡ true) ⊎ ((asked l n f.index i).hidden ≡ false) → TurnedBy markers delims l n s f (seen_by l n f.index (taken markers delims s f.feed).rest (Some i))
       by (inl u) = rw u (turned_hidden markers delims l n s f (taken markers delims s f.feed) i e (record { answer = refl }) r (asked l n f.index i) h u)
       by (inr u) = rw u (turned_shown markers delims l n s f (taken markers delims s f.feed) i e (record { answer = refl }) r (asked l n f.index i) h u)
 
@@ -113,11 +113,11 @@ module _ (markers delims : List Bool) (l : List ℕ) (n : ℕ) (s : List ℕ) (f
 
 -- the ways out of a turn
 module _ (markers delims : List Bool) (l : List ℕ) (n : ℕ) (s : List ℕ) (f : Walk) (t : Taken) (g : Gives (taken markers delims s f.feed) t) where
-  turn_same : turn_by l n f.index t.rest t.head ≡ turned markers delims l n s f
-  turn_same = ap (λ (x : Taken). turn_by l n f.index x.rest x.head) g.answer
+  turn_same : seen_by l n f.index t.rest t.head ≡ turned markers delims l n s f
+  turn_same = ap (λ (x : Taken). seen_by l n f.index x.rest x.head) g.answer
 
   pub turn_end : t.head ≡ None → Gives (turned markers delims l n s f) (record { seen = seen.End; rest = record { feed = t.rest; index = f.index } })
-  turn_end e = record { answer = sym (ap (turn_by l n f.index t.rest) e) ∙ turn_same }
+  turn_end e = record { answer = sym (ap (seen_by l n f.index t.rest) e) ∙ turn_same }
 
   module _ (i : SheetItem) (e : t.head ≡ Some i) (q : Query) (a : Gives (asked l n f.index i) q) where
     turn_item : (x : Seen) → cond q.hidden seen.Hidden (seen.Shown i) ≡ x → Gives (turned markers delims l n s f) (record { seen = x; rest = record { feed = t.rest; index = q.index } })
@@ -125,7 +125,7 @@ module _ (markers delims : List Bool) (l : List ℕ) (n : ℕ) (s : List ℕ) (f
       answer =
           ap (λ (y : Seen). record { seen = y; rest = record { feed = t.rest; index = q.index } }) (sym h)
           ∙ ap (λ (q : Query). record { seen = cond q.hidden seen.Hidden (seen.Shown i); rest = record { feed = t.rest; index = q.index } }) a.answer
-          ∙ sym (ap (turn_by l n f.index t.rest) e) ∙ turn_same;
+          ∙ sym (ap (seen_by l n f.index t.rest) e) ∙ turn_same;
     }
 
     pub turn_hidden : q.hidden ≡ true → Gives (turned markers delims l n s f) (record { seen = seen.Hidden; rest = record { feed = t.rest; index = q.index } })

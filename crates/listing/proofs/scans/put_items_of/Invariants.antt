@@ -7,7 +7,7 @@ use Rattle.listing.proofs.scans.put_items_of.Given as goal
 
 abbrev pub invariant-loop-i : goal.invariant-loop-i
 invariant-loop-i g l =
-    ItemsGoing (scanner_of g.row.K.Denot g.K.Kind.reading) l.set l.text g.K.Listed.letter (item_lines_of (scanner_of g.row.K.Denot g.K.Kind.reading) g.K.Listed.letter l.set l.text) l.n l.initial.out l.state l.out l.k
+    ItemsGoing (scanner_of g.row.K.Denot g.K.ItemKind.reading) l.set l.text g.K.ListingKind.letter (item_lines_of (scanner_of g.row.K.Denot g.K.ItemKind.reading) g.K.ListingKind.letter l.set l.text) l.n l.initial.out l.state l.out l.k
 
 abbrev pub decreases-loop-i : goal.decreases-loop-i
 decreases-loop-i g l = 1000000 - l.k

@@ -6,16 +6,16 @@ use Rattle.common.specs.TurnLaws.{stands_first, stands_less, stands_again, stand
 use Rattle.common.proofs.scan.ItemIter.served.Goals as goal
 
 pub loop-n-init : goal.loop-n-init
-loop-n-init g c = search (stands_first, turn_adv g.met.K.Kind.lawful, unled_first)
+loop-n-init g c = search (stands_first, turn_adv g.met.K.ItemKind.lawful, unled_first)
 
 pub loop-n-smaller : goal.loop-n-smaller
-loop-n-smaller g c = search (stands_less (view g.K.Kind.make))
+loop-n-smaller g c = search (stands_less (view g.K.ItemKind.make))
 
 pub loop-n-preserved : goal.loop-n-preserved
-loop-n-preserved g c = search (stands_again (view g.K.Kind.make))
+loop-n-preserved g c = search (stands_again (view g.K.ItemKind.make))
 
 pub returns-in-Stop : goal.returns-in-Stop
-returns-in-Stop g c = search (served_stop (scanner_of g.row.K.Denot g.K.Kind.reading), stands_stop (view g.K.Kind.make))
+returns-in-Stop g c = search (served_stop (scanner_of g.row.K.Denot g.K.ItemKind.reading), stands_stop (view g.K.ItemKind.make))
 
 pub returns-in-Found : goal.returns-in-Found
-returns-in-Found g c = search (served_found (scanner_of g.row.K.Denot g.K.Kind.reading), stands_found (view g.K.Kind.make))
+returns-in-Found g c = search (served_found (scanner_of g.row.K.Denot g.K.ItemKind.reading), stands_found (view g.K.ItemKind.make))

@@ -9,7 +9,7 @@ use Rattle.common.proofs.scan.ItemIter.served.Given as goal
 
 abbrev pub invariant-loop-n : goal.invariant-loop-n
 invariant-loop-n g l =
-    Stands g.K.Kind.lies (turn (scanner_of g.row.K.Denot g.K.Kind.reading) l.self l.matches l.src) (length l.src) l.self.pos l.q × Unled l.self.eol l.self.sep l.self.tab l.src l.lost
+    Stands g.K.ItemKind.lies (turn (scanner_of g.row.K.Denot g.K.ItemKind.reading) l.self l.matches l.src) (length l.src) l.self.pos l.q × Unled l.self.eol l.self.sep l.self.tab l.src l.lost
 
 abbrev pub decreases-loop-n : goal.decreases-loop-n
 decreases-loop-n g l = length l.src - l.q

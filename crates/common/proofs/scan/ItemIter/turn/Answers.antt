@@ -5,7 +5,7 @@ use Rattle.common.specs.ScanningLaws.{turn_stream, turn-line}
 use Rattle.common.proofs.scan.ItemIter.turn.Goals as goal
 
 pub returns-then-self : goal.returns-then-self
-returns-then-self g c = search (turn_stream (scanner_of g.row.K.Denot g.K.Kind.reading), rules)
+returns-then-self g c = search (turn_stream (scanner_of g.row.K.Denot g.K.ItemKind.reading), rules)
 
 pub returns : goal.returns
-returns g c = search (turn-line (scanner_of g.row.K.Denot g.K.Kind.reading), rules)
+returns g c = search (turn-line (scanner_of g.row.K.Denot g.K.ItemKind.reading), rules)

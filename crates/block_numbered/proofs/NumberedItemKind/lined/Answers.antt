@@ -1,8 +1,8 @@
 -- `lined` meets its contract. Assumes nothing.
 use Rattle.common.specs.ItemLaws.{line_size}
 use Rattle.block_numbered.specs.NumberedLaws.{line_rules}
-use Rattle.block_numbered.proofs.NumberedKind.lined.Goals as goal
-use Rattle.block_numbered.proofs.NumberedKind.lined.Goals.{else-accepts-via-then-accepts+else-blank_at, else-accepts-via-else-accepts}
+use Rattle.block_numbered.proofs.NumberedItemKind.lined.Goals as goal
+use Rattle.block_numbered.proofs.NumberedItemKind.lined.Goals.{else-accepts-via-then-accepts+else-blank_at, else-accepts-via-else-accepts}
 
 pub returns-then-q-src : goal.returns-then-q-src
 returns-then-q-src c = search line_rules

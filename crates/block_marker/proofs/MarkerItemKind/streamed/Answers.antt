@@ -1,6 +1,6 @@
 -- `streamed` meets its contract. Assumes nothing.
 use Rattle.block_marker.specs.MarkerLaws.{stream_rules}
-use Rattle.block_marker.proofs.MarkerKind.streamed.Goals as goal
+use Rattle.block_marker.proofs.MarkerItemKind.streamed.Goals as goal
 
 pub returns-then-p-src : goal.returns-then-p-src
 returns-then-p-src c = λ u. search stream_rules

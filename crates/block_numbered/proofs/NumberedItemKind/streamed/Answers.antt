@@ -2,8 +2,8 @@
 use Rattle.block_numbered.specs.DigitLaws.{few-within}
 use Rattle.block_numbered.specs.NumberedLaws.{stream_rules}
 use Rattle.common.specs.LaterLaws.{led_rules}
-use Rattle.block_numbered.proofs.NumberedKind.streamed.Goals as goal
-use Rattle.block_numbered.proofs.NumberedKind.streamed.Goals.{else-leads_later-via-then-leads_later+else-blank_at, else-leads_later-via-else-leads_later}
+use Rattle.block_numbered.proofs.NumberedItemKind.streamed.Goals as goal
+use Rattle.block_numbered.proofs.NumberedItemKind.streamed.Goals.{else-leads_later-via-then-leads_later+else-blank_at, else-leads_later-via-else-leads_later}
 
 pub returns-then-p-len : goal.returns-then-p-len
 returns-then-p-len c = λ u. search (stream_rules, led_rules)
