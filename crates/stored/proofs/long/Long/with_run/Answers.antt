@@ -1,10 +1,12 @@
 -- `Long::with_run` meets its contract. Assumes nothing.
-use Rattle.std.proofs.Common.{◌∙◌, sym}
-use Rattle.stored.specs.LongLaws.{run_again, run_over}
+use Rattle.stored.specs.LongLaws.{run_first, run_again, run_over}
 use Rattle.stored.proofs.long.Long.with_run.Goals as goal
 
+pub loop-init : goal.loop-init
+loop-init c = search run_first
+
 pub loop-preserved : goal.loop-preserved
-loop-preserved c = c.loop.invariant ∙ run_again _ _ _ _ _ c.loop-test.true c.with_byte-text.ensures
+loop-preserved c = search run_again
 
 pub returns : goal.returns
-returns c = record { answer = run_over _ _ _ _ c.loop-test.false ∙ sym c.loop.invariant }
+returns c = search run_over
