@@ -37,7 +37,7 @@ fn of_all<S: Sections>(asked: Asked<'_>) -> Sums {
     // A proved loop has to end, so it ends at a number that no block has.
     for turn in 0..usize::MAX {
         let spot = texts::spot_of(turn, asked.question.places, length);
-        let Some(text) = texts::nth(spot.number, asked.text, length) else {
+        let Ok(text) = texts::nth(spot.number, asked.text, length) else {
             break;
         };
         sums = of_text::<S>(asked.of(part(&text, 0, length), spot.place), sums);

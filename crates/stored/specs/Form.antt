@@ -7,7 +7,7 @@ use Rattle.stored.specs.declared.form.Form.{Form}
 use Rattle.stored.specs.declared.form.Question.{Question}
 use Rattle.stored.specs.declared.form.Way.{Way}
 use Rattle.stored.specs.declared.texts.Places.{Places}
-use Rattle.stored.specs.declared.texts.Places.TheVariants.{Whole, FromStart, FromSecond, Beyond, Nowhere}
+use Rattle.stored.specs.declared.texts.Places.TheVariants.{Whole, FromStart, FromSecond, Beyond, Nowhere, AtStart}
 use Rattle.stored.specs.declared.form.Way.TheVariants.{One, Runs, All, Drawn, Unknown}
 
 -- ---- forms
@@ -64,6 +64,7 @@ has_places FromStart = true
 has_places FromSecond = true
 has_places Beyond = true
 has_places Nowhere = false
+has_places AtStart = true
 
 abbrev pub is_sound : Form → List ℕ → Question → Bool → Bool
 is_sound f asked q runs = has_places f.places && (are_bytes (numbers_between asked f.wide f.singles) false && (are_bytes (part_of q asked 7) runs && lists_sound f asked q))
@@ -76,6 +77,7 @@ behind_one FromStart = 1
 behind_one FromSecond = 1
 behind_one Beyond = 1
 behind_one Nowhere = 1
+behind_one AtStart = 1
 
 abbrev pub behind_text : Form → Bool → Bool → ℕ
 behind_text f capital starred = cond capital (cond starred 3 1) (behind_one f.places)

@@ -4,7 +4,7 @@
 use Rattle.std.specs.Prelude.{Bool, cond, List, ℕ, ◌+◌, ◌*◌, ◌%◌, min, length}
 use Rattle.std.specs.List.{fold}
 use Rattle.stored.specs.declared.texts.Places.{Places}
-use Rattle.stored.specs.declared.texts.Places.TheVariants.{Whole, FromStart, FromSecond, Beyond, Nowhere}
+use Rattle.stored.specs.declared.texts.Places.TheVariants.{Whole, FromStart, FromSecond, Beyond, Nowhere, AtStart}
 use Rattle.stored.specs.declared.sums.Sums.{Sums}
 
 -- a length or a place as a number of a list: one that is too large is cut
@@ -34,6 +34,7 @@ fed_question s t FromStart p = fed (fed_text s t) (clipped p)
 fed_question s t FromSecond p = fed (fed_text s t) (clipped p)
 fed_question s t Beyond p = fed (fed_text s t) (clipped p)
 fed_question s t Nowhere p = fed (fed_text s t) (clipped p)
+fed_question s t AtStart p = fed (fed_text s t) (clipped p)
 
 -- a number of an answer, unless a refusal came before it; what one more in an earlier count adds moves on with it
 abbrev pub fed_answer : Sums → ℕ → Bool → Sums

@@ -1,11 +1,11 @@
 -- Laws of the texts of a block. Assumes nothing.
-use Rattle.std.specs.Prelude.{◌≡◌, Bool, true, false, cond, Option, Some, None, List, ℕ, ◌+◌, ◌≤◌, ◌<◌, min, length, set, replicate}
+use Rattle.std.specs.Prelude.{◌≡◌, Bool, true, false, cond, Result, Ok, Err, List, ℕ, zero, suc, ◌+◌, ◌≤◌, ◌<◌, eqb, min, length, set, replicate}
 use Rattle.std.proofs.Math.Path.{refl, sym, ap}
-use Rattle.std.proofs.Common.{◌∙◌, add-one, arith}
+use Rattle.std.proofs.Common.{◌∙◌, add-one, arith, ne_eqb}
 use Rattle.search.specs.Promise.{Gives}
 use Rattle.stored.specs.Parts.{front}
 use Rattle.stored.specs.PartLaws.{Fronts, fronts_first, fronts_again, fronts_all}
-use Rattle.stored.specs.Texts.{name_in, without_digit, shifted, letter, is_over, text_of}
+use Rattle.stored.specs.Texts.{name_in, without_digit, shifted, letter, is_over, text_of, of_number, least_place, places_of}
 
 -- a loop that has written the first i bytes of a text
 pub record Spells (alphabet : List ℕ) (n e : ℕ) (bytes : List ℕ) (left i : ℕ) : Type 0 where
@@ -29,13 +29,34 @@ module _ (alphabet : List ℕ) (n e : ℕ) where
       told : over ≡ is_over (shifted (length alphabet) n (min len 8)) (length alphabet) len
       told = let z : i ≡ e = omega (arith, w.written.within) in k.answer ∙ ap (λ (m : ℕ). is_over m (length alphabet) len) (w.rest ∙ ap (shifted (length alphabet) n) (z ∙ g))
 
-      abbrev text : Bool → Option (List ℕ)
-      text y = cond y None (Some (front (letter alphabet n) (min len 8) 8))
+      spelt : bytes ≡ front (letter alphabet n) (min len 8) 8
+      spelt = fronts_all (letter alphabet n) e 8 bytes i h w.written ∙ ap (λ (m : ℕ). front (letter alphabet n) m 8) g
 
-      pub text_none : over ≡ true → None ≡ text_of n alphabet len
-      text_none o = sym (ap text o) ∙ ap text told
+      abbrev text : Bool → Result (List ℕ) (List ℕ)
+      text y = cond y (Err (front (letter alphabet n) (min len 8) 8)) (Ok (front (letter alphabet n) (min len 8) 8))
 
-      pub text_some : over ≡ false → Some bytes ≡ text_of n alphabet len
-      text_some o =
-          let b : bytes ≡ front (letter alphabet n) (min len 8) 8 = fronts_all (letter alphabet n) e 8 bytes i h w.written ∙ ap (λ (m : ℕ). front (letter alphabet n) m 8) g in
-          ap (λ (l : List ℕ). Some l) b ∙ sym (ap text o) ∙ ap text told
+      pub text_none : over ≡ true → Err bytes ≡ text_of n alphabet len
+      text_none o = ap (λ (l : List ℕ). Err l) spelt ∙ sym (ap text o) ∙ ap text told
+
+      pub text_some : over ≡ false → Ok bytes ≡ text_of n alphabet len
+      text_some o = ap (λ (l : List ℕ). Ok l) spelt ∙ sym (ap text o) ∙ ap text told
+
+-- ---- what the number of a kind of places says: none from 5 on is one of the first five
+pub above : (n k : ℕ) → k < 5 → eqb (suc (suc (suc (suc (suc n))))) k ≡ false
+above n k h = ne_eqb (suc (suc (suc (suc (suc n))))) k (λ d. omega (arith, d, h))
+
+pub places_by_number : (n len : ℕ) → places_of (of_number n) len ≡ cond (eqb n 1) (min len 8 + 1) (cond (eqb n 2) (min len 8) (cond (eqb n 3) (min len 8 + 2) 1))
+places_by_number zero len = refl
+places_by_number (suc zero) len = refl
+places_by_number (suc (suc zero)) len = refl
+places_by_number (suc (suc (suc zero))) len = refl
+places_by_number (suc (suc (suc (suc zero)))) len = refl
+places_by_number (suc (suc (suc (suc (suc n))))) len = simp (above n 0 (omega arith), above n 1 (omega arith), above n 2 (omega arith), above n 3 (omega arith), above n 4 (omega arith))
+
+pub least_by_number : (n : ℕ) → least_place (of_number n) ≡ cond (eqb n 2) 1 0
+least_by_number zero = refl
+least_by_number (suc zero) = refl
+least_by_number (suc (suc zero)) = refl
+least_by_number (suc (suc (suc zero))) = refl
+least_by_number (suc (suc (suc (suc zero)))) = refl
+least_by_number (suc (suc (suc (suc (suc n))))) = simp (above n 0 (omega arith), above n 1 (omega arith), above n 2 (omega arith), above n 3 (omega arith), above n 4 (omega arith))

@@ -1,6 +1,6 @@
 // The texts of a block: all of one length over an alphabet, the first byte changing fastest, each at all its places.
 ghost use Rattle.search.specs.Promise.{Gives};
-ghost use Rattle.stored.specs.Texts.{name_in, without_digit, is_over, text_of, least_place, places_of, spot_of};
+ghost use Rattle.stored.specs.Texts.{name_in, without_digit, is_over, text_of, of_number, least_place, places_of, spot_of};
 
 use search::byte_at;
 
@@ -8,7 +8,7 @@ use search::byte_at;
 pub const LONGEST: usize = 8;
 
 // Where a text is asked of: as a whole; at each place from its start, from its second byte on, or from its start to one past its end. A
-// letter that asks nothing asks nowhere.
+// letter that asks nothing asks nowhere. A question may also be asked at its start alone, and name that place.
 #[derive(Clone, Copy)]
 pub enum Places {
     Whole,
@@ -16,6 +16,25 @@ pub enum Places {
     FromSecond,
     Beyond,
     Nowhere,
+    AtStart,
+}
+
+// Each kind has its number, and every other number is the last kind's.
+impl From<u8> for Places {
+    ghost use Rattle.std.specs.Prelude.{◌≡◌};
+
+    ghost from_gives = { λ n places. places ≡ of_number n };
+
+    fn from(n: u8) -> Places {
+        match n {
+            0 => Places::Whole,
+            1 => Places::FromStart,
+            2 => Places::FromSecond,
+            3 => Places::Beyond,
+            4 => Places::Nowhere,
+            _ => Places::AtStart,
+        }
+    }
 }
 
 // A question of a block: the number of its text, and the place.
@@ -48,9 +67,9 @@ fn is_over(left: usize, size: usize, length: usize) -> bool
     size == 0 || length > LONGEST || left > 0
 }
 
-// The text whose bytes are named by the digits of a number, to the base of the alphabet's size, and 0 behind them; nothing where there is
-// no text of that number.
-pub fn nth(number: usize, alphabet: &[u8], length: usize) -> Option<[u8; LONGEST]>
+// The text whose bytes are named by the digits of a number, to the base of the alphabet's size, and 0 behind them. Where there is no text
+// of that number these bytes are the error.
+pub fn nth(number: usize, alphabet: &[u8], length: usize) -> Result<[u8; LONGEST], [u8; LONGEST]>
     ensures { Gives (text_of number alphabet.now length) result }
 {
     let mut bytes = [0u8; LONGEST];
@@ -60,9 +79,9 @@ pub fn nth(number: usize, alphabet: &[u8], length: usize) -> Option<[u8; LONGEST
         left = without_digit(left, alphabet.len());
     }
     if is_over(left, alphabet.len(), length) {
-        None
+        Err(bytes)
     } else {
-        Some(bytes)
+        Ok(bytes)
     }
 }
 
@@ -85,7 +104,7 @@ fn places_of(places: Places, length: usize) -> u8
         Places::FromStart => bytes + 1,
         Places::FromSecond => bytes,
         Places::Beyond => bytes + 2,
-        Places::Whole | Places::Nowhere => 1,
+        Places::Whole | Places::Nowhere | Places::AtStart => 1,
     }
 }
 
