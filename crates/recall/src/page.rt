@@ -1,23 +1,20 @@
 // Section 0: what the page says by itself, here of refusals by number, the cursor, building, stretches of text, the house grammar and
 // byte sets.
-use crate::sections::Recall;
+use crate::question;
 use common::grammar::Grammar;
 use common::refusal::Refusal;
 use common::span::Span;
 use common::{sets, span};
-use replaying::question;
-use replaying::sections::Page;
 use stored::numbers::Numbers;
 
-impl Page for Recall {
-    fn reply(letter: u8, numbers: &[u32]) -> Numbers {
-        match letter {
-            b'v' | b'w' => question::reply::<Recall>(7, letter, false, numbers),
-            b'o' => question::reply::<Recall>(6, b'c', false, numbers),
-            b'u' => question::reply::<Recall>(8, b'c', false, numbers),
-            b'b' => question::reply::<Recall>(0, letter, false, numbers),
-            _ => plain(letter, numbers),
-        }
+// What ours answer; no number where that is no question of this section.
+pub(crate) fn reply(letter: u8, numbers: &[u32]) -> Numbers {
+    match letter {
+        b'v' | b'w' => question::reply(7, letter, false, numbers),
+        b'o' => question::reply(6, b'c', false, numbers),
+        b'u' => question::reply(8, b'c', false, numbers),
+        b'b' => question::reply(0, letter, false, numbers),
+        _ => plain(letter, numbers),
     }
 }
 

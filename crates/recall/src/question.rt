@@ -1,5 +1,5 @@
 // A question, asked of its text or of the texts of a block.
-use crate::sections::Sections;
+use crate::sections;
 use stored::asked::Asked;
 use stored::form::{TEXT, Way, small};
 use stored::numbers::Numbers;
@@ -8,30 +8,30 @@ use stored::sums::Sums;
 use stored::{long, texts};
 
 // What ours answer; no number where the section has no such question. The numbers that ask are handed on as they are and as bytes.
-pub fn reply<S: Sections>(section: u32, letter: u8, starred: bool, numbers: &[u32]) -> Numbers {
-    let form = S::form(section, small(letter));
+pub(crate) fn reply(section: u32, letter: u8, starred: bool, numbers: &[u32]) -> Numbers {
+    let form = sections::form(section, small(letter));
     let question = form.question(section, letter, numbers);
     let cells = as_bytes(numbers);
     let asked = Asked::new(question, numbers, &cells);
     match form.way(letter, starred, numbers, question) {
-        Way::One => S::ask(asked, Numbers::none()),
-        Way::Runs => in_runs::<S>(asked),
-        Way::All => Numbers::of_block(of_all::<S>(asked)),
-        Way::Drawn => Numbers::of_block(of_drawn::<S>(asked)),
+        Way::One => sections::ask(asked, Numbers::none()),
+        Way::Runs => in_runs(asked),
+        Way::All => Numbers::of_block(of_all(asked)),
+        Way::Drawn => Numbers::of_block(of_drawn(asked)),
         Way::Unknown => Numbers::none(),
     }
 }
 
-fn in_runs<S: Sections>(asked: Asked<'_>) -> Numbers {
+fn in_runs(asked: Asked<'_>) -> Numbers {
     let text = long::in_runs(asked.list(TEXT));
-    S::ask(
+    sections::ask(
         asked.of(part(&text.bytes, 0, text.size), asked.place),
         Numbers::none(),
     )
 }
 
 // All texts of a length over an alphabet, which stands where the text stands otherwise.
-fn of_all<S: Sections>(asked: Asked<'_>) -> Sums {
+fn of_all(asked: Asked<'_>) -> Sums {
     let length = asked.behind(0) as usize;
     let mut sums = Sums::new();
     // A proved loop has to end, so it ends at a number that no block has.
@@ -40,28 +40,28 @@ fn of_all<S: Sections>(asked: Asked<'_>) -> Sums {
         let Ok(text) = texts::nth(spot.number, asked.text, length) else {
             break;
         };
-        sums = of_text::<S>(asked.of(part(&text, 0, length), spot.place), sums);
+        sums = of_text(asked.of(part(&text, 0, length), spot.place), sums);
     }
     sums
 }
 
 // Texts of a length that are drawn one after the other.
-fn of_drawn<S: Sections>(asked: Asked<'_>) -> Sums {
+fn of_drawn(asked: Asked<'_>) -> Sums {
     let length = asked.behind(0) as usize;
     let mut sums = Sums::new();
     let mut draw = asked.behind(1);
     for _ in 0..asked.behind(2) {
         let text = long::draw_text(draw, asked.text, length);
-        sums = of_text::<S>(asked.of(part(&text.bytes, 0, length), 0), sums);
+        sums = of_text(asked.of(part(&text.bytes, 0, length), 0), sums);
         draw = text.last;
     }
     sums
 }
 
 // A text of a block, and the place where the question has one.
-fn of_text<S: Sections>(asked: Asked<'_>, before: Sums) -> Sums {
+fn of_text(asked: Asked<'_>, before: Sums) -> Sums {
     let fed = before.question(asked.text, asked.question.places, asked.place);
-    let reply = S::ask(asked, Numbers::after(fed));
+    let reply = sections::ask(asked, Numbers::after(fed));
     let sums = reply.sums;
     sums.asked()
 }
