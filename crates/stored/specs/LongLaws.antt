@@ -1,8 +1,8 @@
 -- Laws of texts that are too long for a line. Assumes nothing.
 use Rattle.std.specs.Prelude.{◌≡◌, List, [], ◌∷◌, length, take, drop, set, replicate}
 use Rattle.std.proofs.Math.Path.{refl, sym, ap}
-use Rattle.std.proofs.Common.{◌∙◌, not-suc-le-zero, take_all}
-use Prim.Native.Nat.{ℕ, zero, suc, ◌+◌, ◌-◌, ◌%◌, ◌≤◌, ◌<◌, min}
+use Rattle.std.proofs.Common.{◌∙◌, take_all}
+use Prim.Native.Nat.{ℕ, suc, ◌+◌, ◌-◌, ◌%◌, ◌≤◌, ◌<◌, min}
 use Rattle.std.proofs.Math.Numerals.{add-one}
 use native.Mathlib.Omega.{arith}
 use Rattle.std.proofs.Math.ListN.{get_or}
@@ -12,7 +12,17 @@ use Rattle.stored.specs.PartLaws.{Fronts, fronts_first, fronts_again, fronts_all
 use Rattle.stored.specs.Long.{long_with_byte, with_run, in_runs, next_draw, draw_after, drawn_byte, drawn_at, drawn_text}
 use Rattle.stored.specs.declared.long.Long.{Long}
 
--- ---- a run: a loop that has so many bytes left
+-- ---- a run: a loop that has put k of its n bytes
+module _ (now : Long) (b n k : ℕ) where
+  pub run_again : (more : Long) → k < n → Gives (long_with_byte now b) more → with_run now b (n - k) ≡ with_run more b (n - (k + 1))
+  unfolding with_run
+  run_again more h g = let e : n - k ≡ suc (n - (k + 1)) = omega arith in rw e (ap (λ (t : Long). with_run t b (n - (k + 1))) (sym g.answer))
+
+  pub run_over : n ≤ k → now ≡ with_run now b (n - k)
+  unfolding with_run
+  run_over h = let e : n - k ≡ 0 = omega arith in rw e
+
+-- a loop that has so many bytes left
 pub record Runs (t : Long) (b n : ℕ) (now : Long) (left : ℕ) : Type 0 where
   pub same : with_run t b n ≡ with_run now b left
 
@@ -21,27 +31,21 @@ module _ (t : Long) (b n : ℕ) where
   runs_first = record { same = refl }
 
   pub runs_again : (now : Long) (left : ℕ) (more : Long) → 0 < left → Gives (long_with_byte now b) more → Runs t b n now left → Runs t b n more (left - 1)
-  unfolding with_run
-  runs_again now left more h g w = record { same = w.same ∙ by left h }
-    where
-      by : (m : ℕ) → 0 < m → with_run now b m ≡ with_run more b (m - 1)
-      by zero k = absurd (not-suc-le-zero k)
-      by (suc m) k = let z : suc m - 1 ≡ m = omega arith in rw (z, ← g.answer)
+  runs_again now left more h g w = record { same = let z : left - 0 ≡ left = omega arith in w.same ∙ rw z at (run_again now b left 0 more h g) }
 
   pub runs_all : (now : Long) (left : ℕ) → left ≤ 0 → Runs t b n now left → now ≡ with_run t b n
-  unfolding with_run
-  runs_all now left h w = let z : left ≡ 0 = omega arith in sym (w.same ∙ rw z)
+  runs_all now left h w = let z : left - 0 ≡ left = omega arith in rw z at (run_over now b left 0 h) ∙ sym w.same
 
-  -- the same of a loop that counts the bytes that it has put
-  pub run_first : Runs t b n t (n - 0)
-  run_first = let e : n - 0 ≡ n = omega arith in rw e runs_first
+  -- one that counts those that it has put
+  pub counted_first : Runs t b n t (n - 0)
+  counted_first = let z : n - 0 ≡ n = omega arith in rw z runs_first
 
   module _ (now : Long) (k : ℕ) (w : Runs t b n now (n - k)) where
-    pub run_again : (more : Long) → k < n → Gives (long_with_byte now b) more → Runs t b n more (n - (k + 1))
-    run_again more h g = let e : n - k - 1 ≡ n - (k + 1) = omega arith in rw e at (runs_again now (n - k) more (omega (arith, h)) g w)
+    pub counted_again : (more : Long) → k < n → Gives (long_with_byte now b) more → Runs t b n more (n - (k + 1))
+    counted_again more h g = let z : n - k - 1 ≡ n - (k + 1) = omega arith in rw z at (runs_again now (n - k) more (omega (arith, h)) g w)
 
-    pub run_over : n ≤ k → now ≡ with_run t b n
-    run_over h = runs_all now (n - k) (omega (arith, h)) w
+    pub counted_over : n ≤ k → now ≡ with_run t b n
+    counted_over h = runs_all now (n - k) (omega (arith, h)) w
 
 -- ---- all runs: a loop that has those of a list left
 pub pairs_again : (now : Long) (l : List ℕ) (more : Long) → 2 ≤ length l → Gives (with_run now (get_or l 0 0 % 256) (get_or l 1 0)) more
