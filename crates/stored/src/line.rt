@@ -54,8 +54,8 @@ impl Reading {
         }
     }
 
-    fn digit(self, d: u8) -> Self
-        ensures { Gives (with_digit self d) result }
+    fn digit(&mut self, d: u8)
+        ensures { Gives (with_digit self.old d) self.new }
     {
         let before = self.number.unwrap_or(0);
         // One that is too large already stays so.
@@ -64,48 +64,39 @@ impl Reading {
         } else {
             before * 10 + d as u64
         };
-        Reading {
-            number: Some(number),
-            ..self
-        }
+        self.number = Some(number);
     }
 
     // Keeps the number that ends here, if one does.
-    fn parted(self) -> Self
-        ensures { Gives (parted_off self) result }
+    fn parted(&mut self)
+        ensures { Gives (parted_off self.old) self.new }
     {
-        let Some(number) = self.number else {
-            return self;
-        };
-        Reading {
-            numbers: kept(self.numbers, number),
-            number: None,
-            ..self
+        if let Some(number) = self.number {
+            self.numbers = kept(self.numbers, number);
+            self.number = None;
         }
     }
 
-    fn equals_sign(self) -> Self
-        ensures { Gives (with_equals self) result }
+    fn equals_sign(&mut self)
+        ensures { Gives (with_equals self.old) self.new }
     {
-        Reading {
-            asked: self.numbers.count,
-            equals: if self.equals < 2 {
-                self.equals + 1
-            } else {
-                self.equals
-            },
-            ..self
+        self.asked = self.numbers.count;
+        if self.equals < 2 {
+            self.equals += 1;
         }
     }
 
-    // Takes in the next byte.
+    // Takes in the next byte. It is written in place: a copy of the numbers for each byte takes its time.
     #[tactic(auto, unfolding(search::specs::Search::digit))]
-    fn byte(self, b: u8) -> Self
-        ensures { Gives (after_byte self b) result }
+    fn byte(&mut self, b: u8)
+        ensures { Gives (after_byte self.old b) self.new }
     {
         match b {
             b'0'..=b'9' => self.digit(b - b'0'),
-            b'=' => self.parted().equals_sign(),
+            b'=' => {
+                self.parted();
+                self.equals_sign();
+            }
             _ => self.parted(),
         }
     }
@@ -128,16 +119,17 @@ fn kept(numbers: Numbers, number: u64) -> Numbers
 pub fn read(text: &[u8]) -> Line
     ensures { Gives (line_of text.now) result }
 {
-    let reading = text
-        .iter()
-        .fold(Reading::new(), |reading, b| reading.byte(*b));
-    let all = reading.parted();
+    let mut reading = Reading::new();
+    for b in text {
+        reading.byte(*b);
+    }
+    reading.parted();
     Line {
         letter: byte_at(text, 0),
         starred: is_at(text, 1, b'*'),
-        numbers: all.numbers,
-        asked: all.asked,
-        equals: all.equals,
+        numbers: reading.numbers,
+        asked: reading.asked,
+        equals: reading.equals,
     }
 }
 

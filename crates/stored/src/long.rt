@@ -30,26 +30,22 @@ impl Long {
         }
     }
 
-    // What finds no room is lost.
-    fn with_byte(self, byte: u8) -> Self
-        ensures { Gives (long_with_byte self byte) result }
+    // What finds no room is lost. The room is written in place: a copy of it for each byte takes its time.
+    fn with_byte(&mut self, byte: u8)
+        ensures { Gives (long_with_byte self.old byte) self.new }
     {
-        let mut text = self;
-        if text.size < ROOM {
-            text.bytes[text.size] = byte;
-            text.size += 1;
+        if self.size < ROOM {
+            self.bytes[self.size] = byte;
+            self.size += 1;
         }
-        text
     }
 
-    fn with_run(self, byte: u8, times: u32) -> Self
-        ensures { Gives (with_run self byte times) result }
+    fn with_run(&mut self, byte: u8, times: u32)
+        ensures { Gives (with_run self.old byte times) self.new }
     {
-        let mut text = self;
         for _ in 0..times {
-            text = text.with_byte(byte);
+            self.with_byte(byte);
         }
-        text
     }
 }
 
@@ -60,7 +56,7 @@ pub fn in_runs(runs: &[u32]) -> Long
     let mut text = Long::new();
     let mut left = runs;
     while let [byte, times, rest @ ..] = left {
-        text = text.with_run((*byte % 256) as u8, *times);
+        text.with_run((*byte % 256) as u8, *times);
         left = rest;
     }
     text

@@ -4,4 +4,4 @@ use Rattle.stored.specs.LongLaws.{Runs}
 use Rattle.stored.proofs.long.Long.with_run.Given as goal
 
 abbrev pub invariant-loop : goal.invariant-loop
-invariant-loop l = Runs l.fn.self l.byte l.times l.text (l.times - l.counter)
+invariant-loop l = Runs l.initial.self l.byte l.times l.self (l.times - l.counter)
