@@ -1,12 +1,12 @@
 -- Laws of the work sheet by a region list in bytes: that its promises leave one result, and the ways out of its functions. Assumes nothing.
-use Rattle.std.specs.Prelude.{◌≡◌, refl, Bool, true, false, ℕ, ◌/◌, ◌≤◌, ◌<◌, leb, length, Err, Ok, Result}
+use Rattle.std.specs.Prelude.{◌≡◌, refl, Bool, true, false, ℕ, ◌/◌, ◌≤◌, ◌<◌, leb, length, Err, Ok, Result, Some}
 use Rattle.std.proofs.Common.{sym, ap, subst, ◌∙◌, arith, le-leb, ltb-false, ne_eqb}
 use mathlib.Core.List.{List, [], ◌∷◌}
 use Rattle.search.specs.Promise.{Gives}
 use Rattle.common.specs.Entry.{flatten, rows, room, wide}
 use Rattle.common.specs.Lists.{Wrote, filled_answer}
 use Rattle.common.specs.RefusalLaws.{number_some}
-use Rattle.common.specs.Refusals.{Outcome, given, refused, refuse, number_of, told, too_long}
+use Rattle.common.specs.Refusals.{Outcome, given, refused, refuse, number_of, too_long}
 use Rattle.common.specs.declared.refusal.Refusal.{Refusal}
 use Rattle.common.specs.Sets.{set_of}
 use Rattle.common.specs.declared.grammar.Grammar.{Grammar}
@@ -15,8 +15,8 @@ use Rattle.feed.specs.Feeds.{fresh_feed}
 use Rattle.feed.specs.declared.item.SheetItem.{SheetItem}
 use Rattle.feed.specs.declared.Feed.{Feed}
 use Rattle.sheet.specs.Sheet.{sheet_of, sheet_judged, sheet_answer}
-use Rattle.sheet.specs.Parts.{left, begun_within}
-use Rattle.sheet.specs.BeginLaws.{within_refused, within_judged, within_left}
+use Rattle.sheet.specs.Parts.{left, judgement, begun_within}
+use Rattle.sheet.specs.BeginLaws.{judged_off, within_refused, within_fits, within_left}
 use Rattle.sheet.specs.declared.Walk.{Walk}
 use Rattle.sheet.specs.SheetLaws.{started_left, judged_long, judged-misshapen, judged_on}
 use Rattle.cells.specs.Bytes.{cells}
@@ -115,29 +115,48 @@ module _ (g : Grammar) (mb db l : List ℕ) (n : ℕ) (s : List ℕ) (k : ℕ) w
     pub count_replied : (run run' : List ℕ) → Replied (given (length (sheet_of g markers delims (cells l) n s) ∷ [])) run run' r → ListedCount g mb db l n s run run' r
     count_replied run run' v = rw (judge_goes (cells l) n s k z j _) (subst (λ (x : List SheetItem). Replied (given (length x ∷ [])) run run' r) same-items v)
 
--- ---- the ways out by what the beginning of the sheet told
-module _ (g : Grammar) (mb db l : List ℕ) (n : ℕ) (s : List ℕ) (markers delims : List Bool) (hm : Gives (set_of mb) markers) (hd : Gives (set_of db) delims) where
-  set-items : sheet_of g markers delims (cells l) n s ≡ listed_items g mb db l n s
-  set-items = ap (λ (x : List Bool). sheet_of g x delims (cells l) n s) hm.answer ∙ ap (λ (x : List Bool). sheet_of g (set_of mb) x (cells l) n s) hd.answer
-
-  pub count_listed_by : (a : Result ℕ Refusal) (run run' : List ℕ) (r : ℕ) → Gives (sheet_judged (cells l) n s (given (length (sheet_of g markers delims (cells l) n s) ∷ []))) (told a) → Replied (told a) run run' r → ListedCount g mb db l n s run run' r
-  count_listed_by a run run' r b v =
-      subst (λ (o : Outcome). Replied o run run' r) (b.answer ∙ ap (λ (x : List SheetItem). sheet_judged (cells l) n s (given (length x ∷ []))) set-items) v
-
-  module _ (most : ℕ) (lent : ListRuns) (m : Gives (length lent.list / 20) most) {a : Result Walk Refusal} (b : Gives (begun_within g markers delims (cells l) n s most) a) where
-    pub listed_off : (r : Refusal) (k : ℕ) → a ≡ Err r → Gives (number_of r) k → ListedSheet g mb db l n s lent lent k
-    listed_off r k e h =
-        let sets = ap (λ (x : List Bool). sheet_answer 20 g x delims (cells l) n s lent.list) hm.answer ∙ ap (λ (x : List Bool). sheet_answer 20 g (set_of mb) x (cells l) n s lent.list) hd.answer in
-        let z = sym sets ∙ within_refused g markers delims (cells l) n s most 20 lent.list m.answer b r e in
-        subst (λ (o : Outcome). Poured o (flatten item_bytes (listed_items g mb db l n s)) lent lent k) (sym z) (rw h.answer (poured_off (number_of r) (flatten item_bytes (listed_items g mb db l n s)) lent (number_some r)))
-
-    pub listed_done : (after : ListRuns) (r : ℕ) (w : Walk) → a ≡ Ok w → SheetPoured (left markers delims s (rows wide n (cells l)) w.feed) lent after r → ListedSheet g mb db l n s lent after r
+-- ---- the ways out by what judging told
+module _ (g : Grammar) (mb db l : List ℕ) (n : ℕ) (s : List ℕ) where
+  module _ (r : Refusal) (k : ℕ) (j : judgement (cells l) n s ≡ Some r) (h : Gives (number_of r) k) where
+    pub listed_off : (lent : ListRuns) → ListedSheet g mb db l n s lent lent k
     unfolding sheet_answer
-    listed_done after r w e v =
-        rw (within_judged g markers delims (cells l) n s most w e b (filled_answer 20 (listed_items g mb db l n s) lent.list))
-        (subst (λ (x : List SheetItem). SheetPoured x lent after r) (within_left g markers delims (cells l) n s most w e b ∙ set-items) v)
+    listed_off lent =
+        let items = listed_items g mb db l n s in
+        let z = judged_off (cells l) n s r j (filled_answer 20 items lent.list) in
+        subst (λ (o : Outcome). Poured o (flatten item_bytes items) lent lent k) (sym z) (rw h.answer (poured_off (number_of r) (flatten item_bytes items) lent (number_some r)))
+
+    pub count_off : (run : List ℕ) → ListedCount g mb db l n s run run k
+    count_off run =
+        let z = judged_off (cells l) n s r j (given (length (listed_items g mb db l n s) ∷ [])) in
+        subst (λ (o : Outcome). Replied o run run k) (sym z) (rw h.answer (refused_by (number_of r) run (number_some r)))
+
+  module _ (short : length s ≤ 4294967295) (shaped : misshapen (cells l) n (length s) ≡ false) where
+    accepted : Gives (sheet_judged (cells l) n s (given [])).number 0
+    accepted = record { answer = judge_none (cells l) n s short false refl (record { answer = sym shaped }) }
+
+    module _ (markers delims : List Bool) (r : ℕ) (hm : Gives (set_of mb) markers) (hd : Gives (set_of db) delims) where
+      pub listed_on : (lent after : ListRuns) → SheetPoured (sheet_of g markers delims (cells l) n s) lent after r → ListedSheet g mb db l n s lent after r
+      listed_on lent after v = sheet-filled g mb db l n s 0 refl accepted markers delims r hm hd lent after v
+
+      pub count_on : (run run' : List ℕ) (k : ℕ) → Gives (length (sheet_of g markers delims (cells l) n s)) k → Replied (given (k ∷ [])) run run' r → ListedCount g mb db l n s run run' r
+      count_on run run' k c v = count_replied g mb db l n s 0 refl accepted markers delims r hm hd run run' (subst (λ (x : ℕ). Replied (given (x ∷ [])) run run' r) c.answer v)
 
 -- items written, and the answer run long enough
 pub fill_replied : (l : List SheetItem) (lent after : ListRuns) (m k r : ℕ) → length l ≤ room 20 lent.list → 1 < m → Gives (length lent.answer / 4) m → Wrote item_bytes l lent.list after.list k
     → Replied (given (k ∷ [])) lent.answer after.answer r → SheetPoured l lent after r
 fill_replied l lent after m k r f q h v w = pour_done item_bytes 20 l lent true (record { answer = sym (le-leb (length l) (length lent.list / 20) f) }) after m k r refl q h v w
+
+-- ---- the ways out of filling, by what the beginning of the sheet told
+module _ (g : Grammar) (markers delims : List Bool) (l : List ℕ) (n : ℕ) (s : List ℕ) (most : ℕ) (lent : ListRuns) (m : Gives (length lent.list / 20) most) {a : Result Walk Refusal} (b : Gives (begun_within g markers delims l n s most) a) where
+  pub fill_off : (r : Refusal) (k : ℕ) → a ≡ Err r → Gives (number_of r) k → length s ≤ 4294967295 → misshapen l n (length s) ≡ false → SheetPoured (sheet_of g markers delims l n s) lent lent k
+  unfolding sheet_answer
+  fill_off r k e h short shaped =
+      let items = sheet_of g markers delims l n s in
+      let z = sym (judged_on l n s (filled_answer 20 items lent.list) short false refl (record { answer = sym shaped })) ∙ within_refused g markers delims l n s most 20 lent.list m.answer b r e in
+      subst (λ (o : Outcome). Poured o (flatten item_bytes items) lent lent k) (sym z) (rw h.answer (poured_off (number_of r) (flatten item_bytes items) lent (number_some r)))
+
+  pub fill_on : (after : ListRuns) (j k r : ℕ) (w : Walk) → a ≡ Ok w → 1 < j → Gives (length lent.answer / 4) j → Wrote item_bytes (left markers delims s (rows wide n l) w.feed) lent.list after.list k
+      → Replied (given (k ∷ [])) lent.answer after.answer r → SheetPoured (sheet_of g markers delims l n s) lent after r
+  fill_on after j k r w e q h v d =
+      let f = within_fits g markers delims l n s most 20 lent.list m.answer b w e in
+      subst (λ (x : List SheetItem). SheetPoured x lent after r) (within_left g markers delims l n s most w e b) (fill_replied (left markers delims s (rows wide n l) w.feed) lent after j k r f q h v d)

@@ -5,6 +5,7 @@
 ghost use Rattle.std.specs.Prelude.{◌≤◌, length};
 ghost use Rattle.common.specs.Entry.{rows, room, wide};
 ghost use Rattle.common.specs.Lists.{Wrote};
+ghost use Rattle.sheet.specs.Sheet.{sheet_of};
 ghost use Rattle.sheet.specs.Parts.{left, Ready};
 ghost use Rattle.cells.specs.Bytes.{cells};
 ghost use Rattle.sheeting.specs.Sheeting.{item_bytes, SheetPoured};
@@ -14,7 +15,7 @@ use cells::reply;
 use common::grammar::Grammar;
 use common::sets::byte_set;
 use sheet::item::Seen;
-use sheet::{Walk, begin_within, count_sheet, turn};
+use sheet::{Judged, Walk, judge, turn};
 use sheeting::{item_room, put_item};
 
 // Writes the items that are shown over the front of `out`, which has room for them, and says how many there are.
@@ -53,26 +54,37 @@ fn write_items(
     }
 }
 
-// Writes the items that are shown, and replies how many they are; or refuses where the answer run is too short.
+// Writes the sheet of a text and a list that were judged, and replies how many items there are; or refuses where the answer run or `out` is
+// too short. The answer run is looked at first, so that nothing is counted where it is too short.
 fn fill(
-    walk: Walk,
-    text: &[u8],
+    judged: &Judged<u8>,
+    g: Grammar,
     markers: &[bool; 256],
     delims: &[bool; 256],
-    list: &[u8],
-    count: usize,
     out: &mut [u8],
     answer: &mut [u8],
 ) -> u32
-    requires ready { Ready markers.now delims.now (cells list.now) count text.now walk }
-    requires feed_len_bound { length (left markers.now delims.now text.now (rows wide count (cells list.now)) walk.feed) ≤ room 20 out.old }
-    ensures { SheetPoured (left markers.now delims.now text.now (rows wide count (cells list.now)) walk.feed)
+    ensures { SheetPoured (sheet_of g markers.now delims.now (cells judged.now.list.now) judged.now.count judged.now.src.now)
         (record { list = out.old; answer = answer.old })
         (record { list = out.new; answer = answer.new }) result }
 {
     if 1 < reply::room_of(answer.len()) {
-        let all = [write_items(walk, text, markers, delims, list, count, out)];
-        return reply::values(&all, answer);
+        let most = item_room(out.len());
+        return match judged.begin_within(g, markers, delims, most) {
+            Err(r) => r.number(),
+            Ok(walk) => {
+                let all = [write_items(
+                    walk,
+                    judged.src,
+                    markers,
+                    delims,
+                    judged.list,
+                    judged.count,
+                    out,
+                )];
+                reply::values(&all, answer)
+            }
+        };
     }
     3
 }
@@ -97,6 +109,10 @@ pub fn sheet_listed(
         list.now count text.now (record { list = out.old; answer = answer.old })
         (record { list = out.new; answer = answer.new }) result }
 {
+    let judged = match judge(text, list, count) {
+        Err(r) => return r.number(),
+        Ok(judged) => judged,
+    };
     let g = Grammar {
         eol,
         escape,
@@ -105,20 +121,7 @@ pub fn sheet_listed(
     };
     let marker_set = byte_set(markers);
     let delim_set = byte_set(delims);
-    let most = item_room(out.len());
-    match begin_within(text, g, &marker_set, &delim_set, list, count, most) {
-        Err(r) => r.number(),
-        Ok(walk) => fill(
-            walk,
-            text,
-            &marker_set,
-            &delim_set,
-            list,
-            count,
-            out,
-            answer,
-        ),
-    }
+    fill(&judged, g, &marker_set, &delim_set, out, answer)
 }
 
 // How many items that sheet has: what to ask before room is lent. Refusals: 1 and 5 as there, and 3 where the answer run is too short.
@@ -137,6 +140,10 @@ pub fn count_listed(
     ensures { ListedCount (record { eol = eol; escape = escape; sep = sep; tab = tab }) markers.now delims.now
         list.now count text.now answer.old answer.new result }
 {
+    let judged = match judge(text, list, count) {
+        Err(r) => return r.number(),
+        Ok(judged) => judged,
+    };
     let g = Grammar {
         eol,
         escape,
@@ -145,6 +152,6 @@ pub fn count_listed(
     };
     let marker_set = byte_set(markers);
     let delim_set = byte_set(delims);
-    let found = count_sheet(text, g, &marker_set, &delim_set, list, count);
-    reply::number(found, answer)
+    let all = [judged.count_items(g, &marker_set, &delim_set)];
+    reply::values(&all, answer)
 }

@@ -1,5 +1,5 @@
--- Laws of the beginning of a work sheet: its ways out, and what it tells. Assumes nothing.
-use Rattle.std.specs.Prelude.{◌≡◌, refl, Bool, true, false, List, [], ◌∷◌, ◌⊎◌, ℕ, ◌/◌, ◌≤◌, ◌<◌, ltb, length, Err, Ok, Result}
+-- Laws of judging a text and a list, and of the beginning of a work sheet: the ways out, and what it tells. Assumes nothing.
+use Rattle.std.specs.Prelude.{◌≡◌, refl, Bool, true, false, List, [], ◌∷◌, ◌⊎◌, ℕ, ◌/◌, ◌≤◌, ◌<◌, ltb, length, Err, None, Ok, Option, Result, Some}
 use Rattle.std.proofs.Common.{sym, ap, subst, ◌∙◌, inl, inr, arith, lt-ltb, le-ltb, ltb-false}
 use Rattle.search.specs.Promise.{Gives}
 use Rattle.search.specs.SearchLaws.{decide}
@@ -13,11 +13,45 @@ use Rattle.common.specs.declared.refusal.Refusal.TheVariants.{NoRoom}
 use Rattle.cover.specs.Shape.{misshapen}
 use Rattle.feed.specs.Feeds.{fresh_feed}
 use Rattle.sheet.specs.Sheet.{five, sheet_of, sheet_judged, sheet_answer, sheet_list, Sheeted}
-use Rattle.sheet.specs.Parts.{left, begun, at_most, begun_within, Ready}
+use Rattle.sheet.specs.Parts.{left, judgement, begun, at_most, begun_within, Ready}
 use Rattle.sheet.specs.SheetLaws.{started_ready, started_left, sheet-few}
 use Rattle.sheet.specs.declared.Walk.{Walk}
 
+-- ---- what judging tells
+module _ (l : List ℕ) (n : ℕ) (s : List ℕ) where
+  abbrev Tells : Option Refusal → Type 0
+  Tells (Some r) = ((o : Outcome) → sheet_judged l n s o ≡ refused (number_of r)) × ((g : Grammar) (markers delims : List Bool) → begun g markers delims l n s ≡ Err r)
+  Tells None = Unit {0}
+
+  tells : Tells (judgement l n s)
+  unfolding sheet_judged
+  tells = by (decide (too_long s)) (decide (misshapen l n (length s)))
+    where
+      by : (too_long s ≡ true) ⊎ (too_long s ≡ false) → (misshapen l n (length s) ≡ true) ⊎ (misshapen l n (length s) ≡ false) → Tells (judgement l n s)
+      by (inl u) v = rw u ((λ (o : Outcome). rw u), (λ (g : Grammar) (markers delims : List Bool). rw u))
+      by (inr u) (inl v) = rw (u, v) ((λ (o : Outcome). rw (u, v)), (λ (g : Grammar) (markers delims : List Bool). rw (u, v)))
+      by (inr u) (inr v) = rw (u, v) tt
+
+  -- a refusal
+  module _ (r : Refusal) (h : judgement l n s ≡ Some r) where
+    told_off : Tells (Some r)
+    told_off = subst Tells h tells
+
+    pub judged_off : (o : Outcome) → sheet_judged l n s o ≡ refused (number_of r)
+    judged_off = told_off.0
+
+    pub counted_off : (o : Outcome) → Gives (sheet_judged l n s o) (refused (number_of r))
+    counted_off o = record { answer = sym (judged_off o) }
+
+    pub within_off : (g : Grammar) (markers delims : List Bool) (most : ℕ) → Gives (begun_within g markers delims l n s most) (Err r)
+    within_off g markers delims most = record { answer = sym (ap (at_most most (length (sheet_of g markers delims l n s))) (told_off.1 g markers delims)) }
+
 module _ (g : Grammar) (markers delims : List Bool) (l : List ℕ) (n : ℕ) (s : List ℕ) where
+  -- how many items there are, told of what was judged
+  pub counted_on : length s ≤ 4294967295 → misshapen l n (length s) ≡ false → (k : ℕ) → Gives (length (sheet_of g markers delims l n s)) k → Gives (sheet_judged l n s (given (length (sheet_of g markers delims l n s) ∷ []))) (given (k ∷ []))
+  unfolding sheet_judged
+  counted_on short shaped k c = record { answer = rw (c.answer, le-ltb 4294967295 (length s) short, shaped) }
+
   -- ---- what the beginning tells
   abbrev pub Begins : Result Walk Refusal → Type 0
   Begins (Ok w) = (length s ≤ 4294967295) × (misshapen l n (length s) ≡ false) × (w ≡ record { feed = fresh_feed g markers delims s; index = 0 })
@@ -32,24 +66,13 @@ module _ (g : Grammar) (markers delims : List Bool) (l : List ℕ) (n : ℕ) (s 
       by (inr u) (inl v) = rw (u, v) (λ (o : Outcome). rw (u, v))
       by (inr u) (inr v) = let k = ltb-false 4294967295 (length s) u in rw (u, v) (k, v, refl)
 
-  begins_as : {r e : Result Walk Refusal} → r ≡ e → Gives (begun g markers delims l n s) r → Begins e
-  begins_as e b = subst Begins (sym b.answer ∙ e) begins
-
-  -- a refusal
-  module _ {a : Result Walk Refusal} (r : Refusal) (e : a ≡ Err r) (b : Gives (begun g markers delims l n s) a) where
-    pub begun_off : (o : Outcome) → sheet_judged l n s o ≡ refused (number_of r)
-    begun_off = begins_as e b
-
-    pub counted_off : (o : Outcome) → Gives (sheet_judged l n s o) (refused (number_of r))
-    counted_off o = record { answer = sym (begun_off o) }
-
   -- scanners and a cursor
-  module _ {a : Result Walk Refusal} (w : Walk) (e : a ≡ Ok w) (b : Gives (begun g markers delims l n s) a) where
+  module _ (w : Walk) (b : Gives (begun g markers delims l n s) (Ok w)) where
     fresh : Walk
     fresh = record { feed = fresh_feed g markers delims s; index = 0 }
 
     told_on : (length s ≤ 4294967295) × (misshapen l n (length s) ≡ false) × (w ≡ record { feed = fresh_feed g markers delims s; index = 0 })
-    told_on = begins_as e b
+    told_on = subst Begins (sym b.answer) begins
 
     pub begun_ready : Ready markers delims l n s w
     begun_ready = subst (Ready markers delims l n s) (sym told_on.2) (started_ready g markers delims l n s (fresh_feed g markers delims s) told_on.0 (record { answer = refl }) told_on.1)
@@ -60,19 +83,18 @@ module _ (g : Grammar) (markers delims : List Bool) (l : List ℕ) (n : ℕ) (s 
     pub begun_few : length (sheet_of g markers delims l n s) ≤ length s
     begun_few = rw (← started_left g markers delims l n s (fresh_feed g markers delims s) told_on.0 (record { answer = refl })) (sheet-few g markers delims l n s (fresh_feed g markers delims s) told_on.0 (record { answer = refl }))
 
-    pub counted_on : (k : ℕ) → Gives (length (left markers delims s (rows wide n l) w.feed)) k → Gives (sheet_judged l n s (given (length (sheet_of g markers delims l n s) ∷ []))) (given (k ∷ []))
-    unfolding sheet_judged
-    counted_on k c = record { answer = rw (c.answer, begun_left, le-ltb 4294967295 (length s) told_on.0, told_on.1) }
+    pub all_counted : (k : ℕ) → Gives (length (left markers delims s (rows wide n l) w.feed)) k → Gives (length (sheet_of g markers delims l n s)) k
+    all_counted k c = record { answer = c.answer ∙ ap length begun_left }
 
     within_is : (most : ℕ) → begun_within g markers delims l n s most ≡ at_most most (length (sheet_of g markers delims l n s)) (Ok w)
-    within_is most = ap (at_most most (length (sheet_of g markers delims l n s))) (sym b.answer ∙ e)
+    within_is most = ap (at_most most (length (sheet_of g markers delims l n s))) (sym b.answer)
 
     pub within_roomy : (most : ℕ) → length s ≤ most → Gives (begun_within g markers delims l n s most) (Ok w)
     within_roomy most h = let k : length (sheet_of g markers delims l n s) ≤ most = omega (arith, begun_few) in record { answer = sym (within_is most ∙ rw (le-ltb most (length (sheet_of g markers delims l n s)) k)) }
 
     module _ (most k : ℕ) (c : Gives (length (left markers delims s (rows wide n l) w.feed)) k) where
       k-is : k ≡ length (sheet_of g markers delims l n s)
-      k-is = c.answer ∙ ap length begun_left
+      k-is = (all_counted k c).answer
 
       pub within_full : most < k → Gives (begun_within g markers delims l n s most) (Err NoRoom)
       within_full h = let z : most < length (sheet_of g markers delims l n s) = omega (arith, k-is) in record { answer = sym (within_is most ∙ rw (lt-ltb most (length (sheet_of g markers delims l n s)) z)) }
@@ -92,14 +114,14 @@ module _ (g : Grammar) (markers delims : List Bool) (l : List ℕ) (n : ℕ) (s 
       where
         by : (b : Result Walk Refusal) → begun g markers delims l n s ≡ b → (ltb most (length (sheet_of g markers delims l n s)) ≡ true) ⊎ (ltb most (length (sheet_of g markers delims l n s)) ≡ false)
             → BeginsWithin (at_most most (length (sheet_of g markers delims l n s)) b)
-        by (Err r) e v = λ (width : ℕ) (out : List ℕ) (m : most ≡ length out / width). begins_as {r = begun g markers delims l n s} e (record { answer = refl }) (filled_answer width (sheet_of g markers delims l n s) out)
+        by (Err r) e v = λ (width : ℕ) (out : List ℕ) (m : most ≡ length out / width). subst Begins e begins (filled_answer width (sheet_of g markers delims l n s) out)
         by (Ok w) e (inl v) =
-            let t = told_on w e (record { answer = refl }) in
+            let t = told_on w (record { answer = sym e }) in
             rw v (λ (width : ℕ) (out : List ℕ) (m : most ≡ length out / width). rw (le-ltb 4294967295 (length s) t.0, t.1, ← m, v))
         by (Ok w) e (inr v) =
-            let t = told_on w e (record { answer = refl }) in
+            let t = told_on w (record { answer = sym e }) in
             let k = ltb-false most (length (sheet_of g markers delims l n s)) v in
-            rw v (begun_ready w e (record { answer = refl }), begun_left w e (record { answer = refl }), k, t.0, t.1)
+            rw v (begun_ready w (record { answer = sym e }), begun_left w (record { answer = sym e }), k, t.0, t.1)
 
     pub within_told : {r e : Result Walk Refusal} → r ≡ e → Gives (begun_within g markers delims l n s most) r → BeginsWithin e
     within_told e b = subst BeginsWithin (sym b.answer ∙ e) begins_within

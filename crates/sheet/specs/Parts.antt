@@ -86,6 +86,15 @@ seen_by l n index f (Some i) =
     let q = asked l n index i in
     record { seen = cond q.hidden seen.Hidden (seen.Shown i); rest = record { feed = f; index = q.index } }
 
+-- the refusal that the text and the list decide, 1 or 5, if any
+abbrev pub judgement : List ℕ → ℕ → List ℕ → Option Refusal
+judgement l n s = cond (too_long s) (Some TextTooLong) (cond (misshapen l n (length s)) (Some ListMisshapen) None)
+
+-- the promise of judging them: that refusal, or something that keeps P
+abbrev pub Judges : {J : Type 0} → (J → Type 0) → List ℕ → ℕ → List ℕ → Result J Refusal → Type 0
+Judges P l n s (Ok j) = P j
+Judges P l n s (Err r) = judgement l n s ≡ Some r
+
 -- scanners and a cursor at the beginning of a sheet, or refusal 1 or 5
 abbrev pub begun : Grammar → List Bool → List Bool → List ℕ → ℕ → List ℕ → Result Walk Refusal
 begun g markers delims l n s =

@@ -4,13 +4,14 @@
 
 pub mod item; // an item as a turn finds it, and written
 
-ghost use Rattle.std.specs.Prelude.{[], ◌∷◌, ℕ, ◌≤◌, length};
+ghost use Rattle.std.specs.Prelude.{◌≡◌, false, [], ◌∷◌, ℕ, ◌≤◌, length, Ok};
 ghost use Rattle.search.specs.Promise.{Gives};
 ghost use Rattle.common.specs.Entry.{rows, room, wide};
 ghost use Rattle.common.specs.Lists.{Wrote};
 ghost use Rattle.common.specs.Refusals.{given, told};
+ghost use Rattle.cover.specs.Shape.{misshapen};
 ghost use Rattle.sheet.specs.Sheet.{five, sheet_of, sheet_judged, Sheeted};
-ghost use Rattle.sheet.specs.Parts.{is_at, asked, turned, begun, begun_within, left, Ready};
+ghost use Rattle.sheet.specs.Parts.{is_at, asked, turned, Judges, begun, begun_within, left, Ready};
 
 use cells::Piece;
 use common::grammar::Grammar;
@@ -137,16 +138,23 @@ fn count_items<T: Piece>(
     }
 }
 
-// Both scanners and the cursor at the beginning of a sheet. Refusals: 1 the text is too long, 5 the list is misshapen.
-fn begin<T: Piece>(
-    src: &[u8],
-    g: Grammar,
-    markers: &[bool; 256],
-    delims: &[bool; 256],
-    list: &[T],
+// A text and a list that a sheet takes: the text is within the limit, and the list's first `count` regions are in order within it.
+#[derive(Drop)]
+pub struct Judged<'a, T: Piece> {
+    pub src: &'a [u8],
+    pub list: &'a [T],
+    pub count: usize,
+    pub ghost short: { length src.now ≤ 4294967295 },
+    pub ghost shaped: { misshapen (T.numbers list.now) count (length src.now) ≡ false },
+}
+
+// Judges a text and a list. Refusals: 1 the text is too long, 5 the list is misshapen.
+pub fn judge<'a, T: Piece>(
+    src: &'a [u8],
+    list: &'a [T],
     count: usize,
-) -> Result<Walk, Refusal>
-    ensures { Gives (begun g markers.now delims.now (T.numbers list.now) count src.now) result }
+) -> Result<Judged<'a, T>, Refusal>
+    ensures { Judges (λ j. (j.list.now ≡ list.now) × (j.count ≡ count) × (j.src.now ≡ src.now)) (T.numbers list.now) count src.now result }
 {
     if src.len() > MAX_INPUT_LEN {
         return Err(Refusal::TextTooLong);
@@ -154,10 +162,48 @@ fn begin<T: Piece>(
     if is_misshapen(list, count, src.len()) {
         return Err(Refusal::ListMisshapen);
     }
-    Ok(Walk {
-        feed: start(g, src, markers, delims),
-        index: 0,
-    })
+    Ok(Judged { src, list, count })
+}
+
+impl<T: Piece> Judged<'_, T> {
+    // Both scanners and the cursor at the beginning of the sheet.
+    fn begin(&self, g: Grammar, markers: &[bool; 256], delims: &[bool; 256]) -> Walk
+        ensures { Gives (begun g markers.now delims.now (T.numbers self.now.list.now) self.now.count self.now.src.now) (Ok result) }
+    {
+        Walk {
+            feed: start(g, self.src, markers, delims),
+            index: 0,
+        }
+    }
+
+    // How many items the sheet has, whatever the room.
+    pub fn count_items(&self, g: Grammar, markers: &[bool; 256], delims: &[bool; 256]) -> usize
+        ensures { Gives (length (sheet_of g markers.now delims.now (T.numbers self.now.list.now) self.now.count self.now.src.now)) result }
+    {
+        let walk = self.begin(g, markers, delims);
+        count_items(walk, self.src, markers, delims, self.list, self.count)
+    }
+
+    // The beginning of a sheet that may have no more than `most` items; 3 where it has more. Where the room is surely enough, since an
+    // item has two bytes before its content, so that each scanner finds at most half as many as there are bytes, no counting pass runs.
+    pub fn begin_within(
+        &self,
+        g: Grammar,
+        markers: &[bool; 256],
+        delims: &[bool; 256],
+        most: usize,
+    ) -> Result<Walk, Refusal>
+        ensures { Gives (begun_within g markers.now delims.now (T.numbers self.now.list.now) self.now.count self.now.src.now most) result }
+    {
+        let walk = self.begin(g, markers, delims);
+        if self.src.len() <= most {
+            return Ok(walk);
+        }
+        if most < count_items(walk, self.src, markers, delims, self.list, self.count) {
+            return Err(Refusal::NoRoom);
+        }
+        Ok(walk)
+    }
 }
 
 // How many items the sheet has, whatever the room. Refusals 1 and 5.
@@ -171,13 +217,11 @@ pub fn count_sheet<T: Piece>(
 ) -> Result<usize, Refusal>
     ensures { Gives (sheet_judged (T.numbers list.now) count src.now (given (length (sheet_of g markers.now delims.now (T.numbers list.now) count src.now) ∷ []))) (told result) }
 {
-    let walk = begin(src, g, markers, delims, list, count)?;
-    Ok(count_items(walk, src, markers, delims, list, count))
+    let judged = judge(src, list, count)?;
+    Ok(judged.count_items(g, markers, delims))
 }
 
-// The beginning of a sheet that may have no more than `most` items: the same refusals, and 3 where it has more. Where the room is surely
-// enough, since an item has two bytes before its content, so that each scanner finds at most half as many as there are bytes, no
-// counting pass runs.
+// The beginning of a sheet that may have no more than `most` items: the same refusals, and 3 where it has more.
 pub fn begin_within<T: Piece>(
     src: &[u8],
     g: Grammar,
@@ -189,14 +233,8 @@ pub fn begin_within<T: Piece>(
 ) -> Result<Walk, Refusal>
     ensures { Gives (begun_within g markers.now delims.now (T.numbers list.now) count src.now most) result }
 {
-    let walk = begin(src, g, markers, delims, list, count)?;
-    if src.len() <= most {
-        return Ok(walk);
-    }
-    if most < count_items(walk, src, markers, delims, list, count) {
-        return Err(Refusal::NoRoom);
-    }
-    Ok(walk)
+    let judged = judge(src, list, count)?;
+    judged.begin_within(g, markers, delims, most)
 }
 
 // Writes the items that are shown over the front of `out`, which has room for them, and says how many there are.

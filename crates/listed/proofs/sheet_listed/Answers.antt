@@ -1,16 +1,12 @@
 -- `sheet_listed` meets its contract. Assumes nothing.
-use Rattle.sheet.specs.BeginLaws.{within_ready, within_fits}
-use Rattle.listed.specs.ListedLaws.{listed_off, listed_done}
+use Rattle.listed.specs.ListedLaws.{listed_off, listed_on}
 use Rattle.listed.proofs.sheet_listed.Goals as goal
 
 pub returns-in-Err : goal.returns-in-Err
-returns-in-Err c = search listed_off
+returns-in-Err c = listed_off _ _ _ _ _ _ _ _ c.in-Err.ensures c.number.ensures _
 
-pub fill-requires-clause-ready : goal.fill-requires-clause-ready
-fill-requires-clause-ready c = search within_ready
-
-pub fill-requires-clause-feed_len_bound : goal.fill-requires-clause-feed_len_bound
-fill-requires-clause-feed_len_bound c = search within_fits
-
-pub returns-in-Ok : goal.returns-in-Ok
-returns-in-Ok c = search listed_done
+pub returns : goal.returns
+returns c =
+    let p = c.in-Ok.ensures in
+    rw (← p.0, ← p.1, ← p.2)
+    (listed_on _ _ _ _ _ _ c.in-Ok.judged.short c.in-Ok.judged.shaped _ _ _ c.byte_set-marker_set.ensures c.byte_set-delim_set.ensures _ _ c.fill.ensures)

@@ -1,15 +1,13 @@
 -- `begin_within` meets its contract. Assumes nothing.
-use Rattle.sheet.specs.BeginLaws.{begun_ready, within_roomy, within_full, within_counted}
+use Rattle.std.proofs.lemmas.Result.{err_from_is_err_and}
+use Rattle.sheet.specs.BeginLaws.{within_off}
 use Rattle.sheet.proofs.begin_within.Goals as goal
 
-pub returns-then-src-most : goal.returns-then-src-most
-returns-then-src-most g c = let e = c.in_ok-walk.was in search within_roomy
-
-pub count_items-requires : goal.count_items-requires
-count_items-requires g c = let e = c.in_ok-walk.was in search begun_ready
-
-pub returns-then-most-count_items : goal.returns-then-most-count_items
-returns-then-most-count_items g c = let e = c.in_ok-walk.was in search within_full
+pub returns-in_err-judged : goal.returns-in_err-judged
+returns-in_err-judged g c =
+    let p = err_from_is_err_and c.from_residual.result c.from_residual.ensures.1 in
+    let h = rw c.in_err-judged.was at c.judge.ensures in
+    rw (p.1, p.2) (search within_off)
 
 pub returns : goal.returns
-returns g c = let e = c.in_ok-walk.was in search within_counted
+returns g c = let p = c.in_ok-judged.ensures in rw (← p.0, ← p.1, ← p.2) c.begin_within.ensures
