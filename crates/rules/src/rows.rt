@@ -1,12 +1,12 @@
 // Rules by byte: "the first rule with that byte decides", so all that a scan ever asks of the rules is a function of one byte. A row
 // for each byte holds it; the rows are filled from the last rule to the first. (Whether a line opens a fence is asked of the table in
 // `lines`, which is smaller.)
-ghost use Rattle.std.specs.Prelude.{◌%◌, [], get_or};
+ghost use Rattle.std.specs.Prelude.{◌%◌, get_or};
 ghost use Rattle.search.specs.Promise.{Gives};
 ghost use Rattle.rules.specs.Columns.{inline_of};
 ghost use Rattle.rules.specs.Rows.{cell, no_rows, pair_row, fenced_row, RulesLaid, twin, fencer, OpenersLaid, Folded};
 
-use crate::columns::{InlineColumns, RuleColumns};
+use crate::columns::RuleColumns;
 use cells::Piece;
 use common::sets::index;
 use search::byte_at;
@@ -100,16 +100,6 @@ fn put_symmetric<T: Piece>(rows: &mut Rows, symmetric: &[u8], times: &[T])
     }
 }
 
-// The inline rules of columns by byte.
-fn inline_rows<T: Piece>(rules: InlineColumns<T>) -> Rows
-    ensures { Folded [] (inline_of T.numbers rules.entry) result }
-{
-    let mut rows = no_rows();
-    put_openers(&mut rows, rules.openers, rules.closers, rules.counts);
-    put_symmetric(&mut rows, rules.symmetric, rules.times);
-    rows
-}
-
 // The indices of the fence rules over what stands in the rows.
 pub fn put_fences(rows: &mut Rows, fences: &[u8])
     ensures { RulesLaid fences.now fencer rows.old rows.new }
@@ -120,11 +110,21 @@ pub fn put_fences(rows: &mut Rows, fences: &[u8])
     }
 }
 
+// All rules of columns over rows of none.
+pub(crate) fn lay_rules<T: Piece>(rows: &mut Rows, rules: RuleColumns<T>)
+    ensures { Gives no_rows rows.old → Folded rules.entry.fences.now (inline_of T.numbers rules.entry.inline) rows.new }
+{
+    let inline = rules.inline;
+    put_openers(rows, inline.openers, inline.closers, inline.counts);
+    put_symmetric(rows, inline.symmetric, inline.times);
+    put_fences(rows, rules.fences);
+}
+
 // All rules of columns by byte.
 pub fn rule_rows<T: Piece>(rules: RuleColumns<T>) -> Rows
     ensures { Folded rules.entry.fences.now (inline_of T.numbers rules.entry.inline) result }
 {
-    let mut rows = inline_rows(rules.inline);
-    put_fences(&mut rows, rules.fences);
+    let mut rows = no_rows();
+    lay_rules(&mut rows, rules);
     rows
 }

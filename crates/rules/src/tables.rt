@@ -4,7 +4,7 @@ ghost use Rattle.rules.specs.Columns.{columns_of};
 ghost use Rattle.rules.specs.Tables.{TablesOf};
 
 use crate::columns::RuleColumns;
-use crate::rows::{Rows, rule_rows};
+use crate::rows::{Rows, lay_rules, no_rows};
 use crate::search_bytes::Alphabet;
 use cells::Piece;
 use common::grammar::Grammar;
@@ -18,14 +18,17 @@ pub struct Tables {
 }
 
 impl Tables {
-    // By rules given as columns.
+    // By rules given as columns. The rows have ten kilobytes, so they are filled where they stand, and not made elsewhere and copied.
+    #[inline(always)]
     pub fn of<T: Piece>(grammar: Grammar, rules: RuleColumns<T>) -> Self
         ensures { TablesOf grammar (columns_of T.numbers rules.entry) result }
     {
-        Tables {
+        let mut tables = Tables {
             alphabet: Alphabet::of(grammar, rules),
             fences: fence_table(rules.fences, rules.mins),
-            rows: rule_rows(rules),
-        }
+            rows: no_rows(),
+        };
+        lay_rules(&mut tables.rows, rules);
+        tables
     }
 }
