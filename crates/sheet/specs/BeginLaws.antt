@@ -144,10 +144,6 @@ module _ (g : Grammar) (markers delims : List Bool) (l : List ℕ) (n : ℕ) (s 
     pub within_ready : {a : Result Walk Refusal} (w : Walk) → a ≡ Ok w → Gives (begun_within g markers delims l n s most) a → Ready markers delims l n s w
     within_ready w e b = (within_told e b).0
 
-    pub within_judged : {a : Result Walk Refusal} (w : Walk) → a ≡ Ok w → Gives (begun_within g markers delims l n s most) a → (o : Outcome) → sheet_judged l n s o ≡ o
-    unfolding sheet_judged
-    within_judged w e b o = let t = within_told e b in rw (le-ltb 4294967295 (length s) t.3, t.4)
-
     pub within_left : {a : Result Walk Refusal} (w : Walk) → a ≡ Ok w → Gives (begun_within g markers delims l n s most) a → left markers delims s (rows wide n l) w.feed ≡ sheet_of g markers delims l n s
     within_left w e b = (within_told e b).1
 
