@@ -18,8 +18,11 @@ use common::grammar::Grammar;
 use common::list::{END, WIDE};
 use common::refusal::Refusal;
 use common::span::MAX_INPUT_LEN;
+use lines::fence_tests::fence_table;
 use region::{count_regions, next_region};
 use rules::columns::RuleColumns;
+use rules::rows::{lay_rules, no_rows};
+use rules::search_bytes::Alphabet;
 use rules::tables::Tables;
 
 // Writes region `n`, from `start` up to `end`, to its row, and answers the next region's number.
@@ -91,5 +94,12 @@ pub fn build(
     if rules.differ() {
         return Err(Refusal::ColumnsDiffer);
     }
-    fill(src, &Tables::of(g, rules), out)
+    // (`Tables::of` would copy them.)
+    let mut tables = Tables {
+        alphabet: Alphabet::of(g, rules),
+        fences: fence_table(rules.fences, rules.mins),
+        rows: no_rows(),
+    };
+    lay_rules(&mut tables.rows, rules);
+    fill(src, &tables, out)
 }

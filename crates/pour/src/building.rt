@@ -6,8 +6,11 @@ ghost use Rattle.rules.specs.ByteRules.{inline_runs, inline_runs_of, column_runs
 use crate::pouring::pour;
 use common::grammar::Grammar;
 use common::span::MAX_INPUT_LEN;
+use lines::fence_tests::fence_table;
 use rules::columns::{InlineColumns, RuleColumns};
 use rules::records::gather_rules;
+use rules::rows::{lay_rules, no_rows};
+use rules::search_bytes::Alphabet;
 use rules::tables::Tables;
 
 // All rules of columns into tables, once, and on.
@@ -22,7 +25,13 @@ fn with_columns(
         text.now (record { list = out.old; answer = answer.old })
         (record { list = out.new; answer = answer.new }) result }
 {
-    pour(text, &Tables::of(g, rules), out, answer)
+    let mut tables = Tables {
+        alphabet: Alphabet::of(g, rules),
+        fences: fence_table(rules.fences, rules.mins),
+        rows: no_rows(),
+    };
+    lay_rules(&mut tables.rows, rules);
+    pour(text, &tables, out, answer)
 }
 
 // Fence rules of two bytes each, by the columns of those that are kept.

@@ -9,8 +9,11 @@ ghost use Rattle.pour.specs.Building.{CountedBytes};
 use cells::reply;
 use common::grammar::Grammar;
 use common::span::MAX_INPUT_LEN;
+use lines::fence_tests::fence_table;
 use region::count_regions;
 use rules::columns::{InlineColumns, RuleColumns};
+use rules::rows::{lay_rules, no_rows};
+use rules::search_bytes::Alphabet;
 use rules::tables::Tables;
 
 // All rules of columns into tables, once, and counted by them.
@@ -18,7 +21,13 @@ fn count_by(text: &[u8], g: Grammar, rules: RuleColumns<u8>, answer: &mut [u8]) 
     ensures { Replied (given (length (built_by g (columns_in (runs_of rules.entry))
         text.now) ∷ [])) answer.old answer.new result }
 {
-    let all = [count_regions(text, &Tables::of(g, rules))];
+    let mut tables = Tables {
+        alphabet: Alphabet::of(g, rules),
+        fences: fence_table(rules.fences, rules.mins),
+        rows: no_rows(),
+    };
+    lay_rules(&mut tables.rows, rules);
+    let all = [count_regions(text, &tables)];
     reply::values(&all, answer)
 }
 

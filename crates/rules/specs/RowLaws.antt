@@ -22,7 +22,7 @@ use Rattle.lines.specs.RuleLaws.{table_has, table_least}
 use Rattle.rules.specs.Grammar.{Rule, plain, sym, asym, Gram}
 use Rattle.rules.specs.Columns.{inline_rules, columns, searched, gained_all, alphabet_of, open_rule, sym_rule, fence_index_of, gram_of}
 use Rattle.rules.specs.ColumnLaws.{pad_take, gathered-list}
-use Rattle.rules.specs.Rows.{rule_row, rule_rows, cell, rule_of, rule_in, gram_by, no_rows, pair_row, fenced_row, opener, twin, fencer, laid_row, laid_rows, RulesLaid, OpenersLaid, Folded}
+use Rattle.rules.specs.Rows.{rule_row, rule_rows, cell, rule_of, rule_in, gram_by, no_rows, pair_row, fenced_row, opener, twin, fencer, laid_row, laid_rows, RulesLaid, OpenersLaid, AllLaid, Folded}
 use Rattle.rules.specs.declared.search_bytes.Alphabet.{Alphabet}
 
 -- ---- what the promises leave open: nothing, of rows that are 256, as an array's are
@@ -264,3 +264,30 @@ module _ (f y t o k n : List ℕ) (rows : List (List ℕ)) (w : Folded f (inline
 
       with : List ℕ → (ℕ → Rule) → (ℕ → ℕ) → (ℕ → Bool) → (ℕ → ℕ) → Gram
       with l rule index has least = record { eol = g.eol; escape = g.escape; trigger = one_of l; rule = rule; fence_index = index; fences = reader g has least }
+
+-- ---- all rules, laid one kind over the other
+module _ (f y t o k n : List ℕ) (a : List (List ℕ)) where
+  pub whole_laid : (b c d : List (List ℕ)) → OpenersLaid o k n a b → RulesLaid y (twin t) b c → RulesLaid f fencer c d → AllLaid f (inline_rules y t o k n) a d
+  unfolding laid_rows
+  whole_laid b c d hb hc hd = record { answer = whole; closers = hb.closers }
+    where
+      whole : length a ≡ 256 → d ≡ laid_rows f fencer (laid_rows y (twin t) (laid_rows o (opener k n) a))
+      whole h =
+          let first = hb.laid.answer h in
+          let second = hc.answer (ap length first ∙ length-tabulate (laid_row o (opener k n) a) 256 0) in
+          let third = hd.answer (ap length second ∙ length-tabulate (laid_row y (twin t) b) 256 0) in
+          third ∙ ap (laid_rows f fencer) (second ∙ ap (laid_rows y (twin t)) first)
+
+  -- over rows of none they are folded
+  pub laid_folded : (d : List (List ℕ)) → Gives no_rows a → AllLaid f (inline_rules y t o k n) a d → Folded f (inline_rules y t o k n) d
+  laid_folded d g h =
+      let b = laid_rows o (opener k n) a in
+      let c = laid_rows y (twin t) b in
+      let openers : OpenersLaid o k n a b = record { laid = record { answer = λ z. refl }; closers = h.closers } in
+      let symmetric : RulesLaid y (twin t) b c = record { answer = λ z. refl } in
+      let fences : RulesLaid f fencer c d = record { answer = λ z. h.answer (ap length g.answer ∙ length-replicate 256 (replicate {A = ℕ} 5 0)) } in
+      all_folded f y t o k n c (all_inlined y t o k n a b c g openers symmetric) d fences
+
+  -- and leave one result
+  pub laid_one : (d e : List (List ℕ)) → length a ≡ 256 → AllLaid f (inline_rules y t o k n) a d → AllLaid f (inline_rules y t o k n) a e → d ≡ e
+  laid_one d e long v w = v.answer long ∙ inv (w.answer long)

@@ -84,6 +84,11 @@ pub record OpenersLaid (o k n : List ℕ) (rows rows' : List (List ℕ)) : Type 
   pub laid : RulesLaid o (opener k n) rows rows'
   pub closers : ByteClosers o k
 
+-- all rules of columns laid over what stands in the rows: the asymmetric ones, over them the symmetric ones, and the fences' indices
+pub record AllLaid (f : List ℕ) (i : InlineRules) (rows rows' : List (List ℕ)) : Type 0 where
+  pub answer : length rows ≡ 256 → rows' ≡ laid_rows f fencer (laid_rows i.sym_bytes (twin i.sym_counts) (laid_rows i.openers (opener i.closers i.open_counts) rows))
+  pub closers : ByteClosers i.openers i.closers
+
 -- what folding columns promises; of inline rules alone, with no fence rules
 pub record Folded (fences : List ℕ) (i : InlineRules) (rows : List (List ℕ)) : Type 0 where
   pub answer : rows ≡ rule_rows fences i

@@ -4,7 +4,7 @@
 ghost use Rattle.std.specs.Prelude.{◌%◌, get_or};
 ghost use Rattle.search.specs.Promise.{Gives};
 ghost use Rattle.rules.specs.Columns.{inline_of};
-ghost use Rattle.rules.specs.Rows.{cell, no_rows, pair_row, fenced_row, RulesLaid, twin, fencer, OpenersLaid, Folded};
+ghost use Rattle.rules.specs.Rows.{cell, no_rows, pair_row, fenced_row, RulesLaid, twin, fencer, OpenersLaid, AllLaid, Folded};
 
 use crate::columns::RuleColumns;
 use cells::Piece;
@@ -110,9 +110,9 @@ pub fn put_fences(rows: &mut Rows, fences: &[u8])
     }
 }
 
-// All rules of columns over rows of none.
-pub(crate) fn lay_rules<T: Piece>(rows: &mut Rows, rules: RuleColumns<T>)
-    ensures { Gives no_rows rows.old → Folded rules.entry.fences.now (inline_of T.numbers rules.entry.inline) rows.new }
+// All rules of columns over what stands in the rows: they have ten kilobytes, and are filled where they stand.
+pub fn lay_rules<T: Piece>(rows: &mut Rows, rules: RuleColumns<T>)
+    ensures { AllLaid rules.entry.fences.now (inline_of T.numbers rules.entry.inline) rows.old rows.new }
 {
     let inline = rules.inline;
     put_openers(rows, inline.openers, inline.closers, inline.counts);

@@ -18,8 +18,7 @@ pub struct Tables {
 }
 
 impl Tables {
-    // By rules given as columns. The rows have ten kilobytes, so they are filled where they stand, and not made elsewhere and copied.
-    #[inline(always)]
+    // By rules given as columns. A caller that makes many puts its own together, since what is answered here is copied to where it is wanted.
     pub fn of<T: Piece>(grammar: Grammar, rules: RuleColumns<T>) -> Self
         ensures { TablesOf grammar (columns_of T.numbers rules.entry) result }
     {

@@ -1,5 +1,6 @@
 -- `build` meets its contract. Assumes nothing.
 use Rattle.context.specs.BuildLaws.{built_long, built_differ, built_folded}
+use Rattle.rules.specs.TableLaws.{tables_laid}
 use Rattle.context.proofs.build.Goals as goal
 
 pub returns-then-src-gt-MAX_INPUT_LEN : goal.returns-then-src-gt-MAX_INPUT_LEN
@@ -9,4 +10,4 @@ pub returns-then-differ : goal.returns-then-differ
 returns-then-differ c = search built_differ
 
 pub returns : goal.returns
-returns c = search built_folded
+returns c = search (built_folded, tables_laid)
