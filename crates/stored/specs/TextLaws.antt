@@ -1,11 +1,16 @@
 -- Laws of the texts of a block. Assumes nothing.
-use Rattle.std.specs.Prelude.{◌≡◌, Bool, true, false, cond, Result, Ok, Err, List, ℕ, zero, suc, ◌+◌, ◌≤◌, ◌<◌, eqb, min, length, set, replicate}
+use Rattle.std.specs.Prelude.{◌≡◌, Bool, true, false, cond, Result, Ok, Err, List, ℕ, zero, suc, ◌+◌, ◌%◌, ◌≤◌, ◌<◌, eqb, min, length, get_or, set, replicate}
 use Rattle.std.proofs.Math.Path.{refl, sym, ap}
 use Rattle.std.proofs.Common.{◌∙◌, add-one, arith, ne_eqb}
 use Rattle.search.specs.Promise.{Gives}
 use Rattle.stored.specs.Parts.{front}
 use Rattle.stored.specs.PartLaws.{Fronts, fronts_first, fronts_again, fronts_all}
 use Rattle.stored.specs.Texts.{name_in, without_digit, shifted, letter, is_over, text_of, of_number, least_place, places_of}
+
+-- ---- the byte that a number's last digit names, where there is an alphabet
+module _ (alphabet : List ℕ) (n : ℕ) where
+  pub name_in_lem : (x : ℕ) → (length alphabet ≡ 0 → ⊥) → Gives (get_or alphabet (n % length alphabet) 0) x → x ≡ name_in alphabet n
+  name_in_lem x e g = simp (ne_eqb (length alphabet) 0 e, g.answer)
 
 -- a loop that has written the first i bytes of a text
 pub record Spells (alphabet : List ℕ) (n e : ℕ) (bytes : List ℕ) (left i : ℕ) : Type 0 where
