@@ -2,10 +2,12 @@
 use crate::lists;
 use common::grammar::Grammar;
 use common::refusal::Refusal;
+use lines::fence_tests::fence_table;
 use region::{Cause, Region, next_region};
 use rules::columns::{InlineColumns, RuleColumns};
 use rules::records::FenceRule;
-use rules::search_bytes::search_bytes;
+use rules::rows::{lay_rules, no_rows};
+use rules::search_bytes::{Alphabet, search_bytes};
 use rules::tables::Tables;
 use search::byte_at;
 use std::array;
@@ -100,7 +102,14 @@ fn searched(asked: Asked<'_>, reply: Numbers) -> Numbers {
 
 // The rules by byte that a step takes, and all steps from place 0 on.
 fn stepped(asked: Asked<'_>, reply: Numbers) -> Numbers {
-    let tables = Tables::of(grammar_of(asked, 0), rules_of(asked));
+    // Put together as in `context`, with no copy of the rows for each of many short texts.
+    let rules = rules_of(asked);
+    let mut tables = Tables {
+        alphabet: Alphabet::of(grammar_of(asked, 0), rules),
+        fences: fence_table(rules.fences, rules.mins),
+        rows: no_rows(),
+    };
+    lay_rules(&mut tables.rows, rules);
     run(asked.text, &tables, reply.entries())
 }
 
