@@ -16,7 +16,10 @@ use common::grammar::Grammar;
 use common::sets::byte_set;
 use common::span::MAX_INPUT_LEN;
 use feed::start;
+use lines::fence_tests::fence_table;
 use rules::columns::{InlineColumns, RuleColumns};
+use rules::rows::{lay_rules, no_rows};
+use rules::search_bytes::Alphabet;
 use rules::tables::Tables;
 
 // How many items of a text within the limit are shown.
@@ -50,7 +53,12 @@ fn count_by(
         (columns_in (runs_of rules.entry))
         text.now) text.now) ∷ [])) answer.old answer.new result }
 {
-    let tables = Tables::of(g, rules);
+    let mut tables = Tables {
+        alphabet: Alphabet::of(g, rules),
+        fences: fence_table(rules.fences, rules.mins),
+        rows: no_rows(),
+    };
+    lay_rules(&mut tables.rows, rules);
     let marker_set = byte_set(markers);
     let delim_set = byte_set(delims);
     let all = [count_shown(text, &marker_set, &delim_set, &tables)];

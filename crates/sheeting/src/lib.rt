@@ -22,7 +22,10 @@ use common::span::MAX_INPUT_LEN;
 use feed::item::{SheetItem, tested_place};
 use feed::{Feed, start, take};
 use hiding::{Hider, hides, pass};
+use lines::fence_tests::fence_table;
 use rules::columns::{InlineColumns, RuleColumns};
+use rules::rows::{lay_rules, no_rows};
+use rules::search_bytes::Alphabet;
 use rules::tables::Tables;
 use sheet::item::Seen;
 
@@ -254,7 +257,12 @@ fn by_columns(
         (record { list = out.old; answer = answer.old })
         (record { list = out.new; answer = answer.new }) result }
 {
-    let tables = Tables::of(g, rules);
+    let mut tables = Tables {
+        alphabet: Alphabet::of(g, rules),
+        fences: fence_table(rules.fences, rules.mins),
+        rows: no_rows(),
+    };
+    lay_rules(&mut tables.rows, rules);
     let marker_set = byte_set(markers);
     let delim_set = byte_set(delims);
     pour_sheet(text, &marker_set, &delim_set, &tables, out, answer)
