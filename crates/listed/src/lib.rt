@@ -15,7 +15,7 @@ use cells::reply;
 use common::grammar::Grammar;
 use common::sets::byte_set;
 use sheet::item::Seen;
-use sheet::{Judged, Walk, judge, turn};
+use sheet::{SheetInput, Walk, judge, turn};
 use sheeting::{item_room, put_item};
 
 // Writes the items that are shown over the front of `out`, which has room for them, and says how many there are.
@@ -57,7 +57,7 @@ fn write_items(
 // Writes the sheet of a text and a list that were judged, and replies how many items there are; or refuses where the answer run or `out` is
 // too short. The answer run is looked at first, so that nothing is counted where it is too short.
 fn fill(
-    judged: &Judged<u8>,
+    judged: &SheetInput<u8>,
     g: Grammar,
     markers: &[bool; 256],
     delims: &[bool; 256],

@@ -140,7 +140,7 @@ fn count_items<T: Piece>(
 
 // A text and a list that a sheet takes: the text is within the limit, and the list's first `count` regions are in order within it.
 #[derive(Drop)]
-pub struct Judged<'a, T: Piece> {
+pub struct SheetInput<'a, T: Piece> {
     pub src: &'a [u8],
     pub list: &'a [T],
     pub count: usize,
@@ -153,7 +153,7 @@ pub fn judge<'a, T: Piece>(
     src: &'a [u8],
     list: &'a [T],
     count: usize,
-) -> Result<Judged<'a, T>, Refusal>
+) -> Result<SheetInput<'a, T>, Refusal>
     ensures { Judges (λ j. (j.list.now ≡ list.now) × (j.count ≡ count) × (j.src.now ≡ src.now)) (T.numbers list.now) count src.now result }
 {
     if src.len() > MAX_INPUT_LEN {
@@ -162,10 +162,10 @@ pub fn judge<'a, T: Piece>(
     if is_misshapen(list, count, src.len()) {
         return Err(Refusal::ListMisshapen);
     }
-    Ok(Judged { src, list, count })
+    Ok(SheetInput { src, list, count })
 }
 
-impl<T: Piece> Judged<'_, T> {
+impl<T: Piece> SheetInput<'_, T> {
     // Both scanners and the cursor at the beginning of the sheet.
     fn begin(&self, g: Grammar, markers: &[bool; 256], delims: &[bool; 256]) -> Walk
         ensures { Gives (begun g markers.now delims.now (T.numbers self.now.list.now) self.now.count self.now.src.now) (Ok result) }

@@ -1,6 +1,6 @@
 -- `begin_within` of what was judged meets its contract. Assumes nothing.
 use Rattle.sheet.specs.BeginLaws.{begun_ready, within_roomy, within_full, within_counted}
-use Rattle.sheet.proofs.Judged.begin_within.Goals as goal
+use Rattle.sheet.proofs.SheetInput.begin_within.Goals as goal
 
 pub returns-then-self-most : goal.returns-then-self-most
 returns-then-self-most g c = search within_roomy
