@@ -6,7 +6,7 @@ use Rattle.search.specs.Promise.{Gives}
 use Rattle.common.specs.Entry.{flatten, rows, room, wide}
 use Rattle.common.specs.Lists.{Wrote, filled_answer}
 use Rattle.common.specs.RefusalLaws.{number_some}
-use Rattle.common.specs.Refusals.{Outcome, given, refused, refuse, number_of, too_long}
+use Rattle.common.specs.Refusals.{Outcome, given, refused, refuse, number_of, told, too_long}
 use Rattle.common.specs.declared.refusal.Refusal.{Refusal}
 use Rattle.common.specs.Sets.{set_of}
 use Rattle.common.specs.declared.grammar.Grammar.{Grammar}
@@ -16,7 +16,7 @@ use Rattle.feed.specs.declared.item.SheetItem.{SheetItem}
 use Rattle.feed.specs.declared.Feed.{Feed}
 use Rattle.sheet.specs.Sheet.{sheet_of, sheet_judged, sheet_answer}
 use Rattle.sheet.specs.Parts.{left, judgement, begun_within}
-use Rattle.sheet.specs.BeginLaws.{judged_off, within_refused, within_fits, within_left}
+use Rattle.sheet.specs.BeginLaws.{judged_off, within_refused, within_judged, within_fits, within_left}
 use Rattle.sheet.specs.declared.Walk.{Walk}
 use Rattle.sheet.specs.SheetLaws.{started_left, judged_long, judged-misshapen, judged_on}
 use Rattle.cells.specs.Bytes.{cells}
@@ -118,9 +118,9 @@ module _ (g : Grammar) (mb db l : List ℕ) (n : ℕ) (s : List ℕ) (k : ℕ) w
 -- ---- the ways out by what judging told
 module _ (g : Grammar) (mb db l : List ℕ) (n : ℕ) (s : List ℕ) where
   module _ (r : Refusal) (k : ℕ) (j : judgement (cells l) n s ≡ Some r) (h : Gives (number_of r) k) where
-    pub listed_off : (lent : ListRuns) → ListedSheet g mb db l n s lent lent k
+    pub listed_refused : (lent : ListRuns) → ListedSheet g mb db l n s lent lent k
     unfolding sheet_answer
-    listed_off lent =
+    listed_refused lent =
         let items = listed_items g mb db l n s in
         let z = judged_off (cells l) n s r j (filled_answer 20 items lent.list) in
         subst (λ (o : Outcome). Poured o (flatten item_bytes items) lent lent k) (sym z) (rw h.answer (poured_off (number_of r) (flatten item_bytes items) lent (number_some r)))
@@ -140,6 +140,28 @@ module _ (g : Grammar) (mb db l : List ℕ) (n : ℕ) (s : List ℕ) where
 
       pub count_on : (run run' : List ℕ) (k : ℕ) → Gives (length (sheet_of g markers delims (cells l) n s)) k → Replied (given (k ∷ [])) run run' r → ListedCount g mb db l n s run run' r
       count_on run run' k c v = count_replied g mb db l n s 0 refl accepted markers delims r hm hd run run' (subst (λ (x : ℕ). Replied (given (x ∷ [])) run run' r) c.answer v)
+
+-- ---- the same by what counting and the beginning of the sheet told
+module _ (g : Grammar) (mb db l : List ℕ) (n : ℕ) (s : List ℕ) (markers delims : List Bool) (hm : Gives (set_of mb) markers) (hd : Gives (set_of db) delims) where
+  set-items : sheet_of g markers delims (cells l) n s ≡ listed_items g mb db l n s
+  set-items = ap (λ (x : List Bool). sheet_of g x delims (cells l) n s) hm.answer ∙ ap (λ (x : List Bool). sheet_of g (set_of mb) x (cells l) n s) hd.answer
+
+  pub count_listed_by : (a : Result ℕ Refusal) (run run' : List ℕ) (r : ℕ) → Gives (sheet_judged (cells l) n s (given (length (sheet_of g markers delims (cells l) n s) ∷ []))) (told a) → Replied (told a) run run' r → ListedCount g mb db l n s run run' r
+  count_listed_by a run run' r b v =
+      subst (λ (o : Outcome). Replied o run run' r) (b.answer ∙ ap (λ (x : List SheetItem). sheet_judged (cells l) n s (given (length x ∷ []))) set-items) v
+
+  module _ (most : ℕ) (lent : ListRuns) (m : Gives (length lent.list / 20) most) {a : Result Walk Refusal} (b : Gives (begun_within g markers delims (cells l) n s most) a) where
+    pub listed_off : (r : Refusal) (k : ℕ) → a ≡ Err r → Gives (number_of r) k → ListedSheet g mb db l n s lent lent k
+    listed_off r k e h =
+        let sets = ap (λ (x : List Bool). sheet_answer 20 g x delims (cells l) n s lent.list) hm.answer ∙ ap (λ (x : List Bool). sheet_answer 20 g (set_of mb) x (cells l) n s lent.list) hd.answer in
+        let z = sym sets ∙ within_refused g markers delims (cells l) n s most 20 lent.list m.answer b r e in
+        subst (λ (o : Outcome). Poured o (flatten item_bytes (listed_items g mb db l n s)) lent lent k) (sym z) (rw h.answer (poured_off (number_of r) (flatten item_bytes (listed_items g mb db l n s)) lent (number_some r)))
+
+    pub listed_done : (after : ListRuns) (r : ℕ) (w : Walk) → a ≡ Ok w → SheetPoured (left markers delims s (rows wide n (cells l)) w.feed) lent after r → ListedSheet g mb db l n s lent after r
+    unfolding sheet_answer
+    listed_done after r w e v =
+        rw (within_judged g markers delims (cells l) n s most w e b (filled_answer 20 (listed_items g mb db l n s) lent.list))
+        (subst (λ (x : List SheetItem). SheetPoured x lent after r) (within_left g markers delims (cells l) n s most w e b ∙ set-items) v)
 
 -- items written, and the answer run long enough
 pub fill_replied : (l : List SheetItem) (lent after : ListRuns) (m k r : ℕ) → length l ≤ room 20 lent.list → 1 < m → Gives (length lent.answer / 4) m → Wrote item_bytes l lent.list after.list k

@@ -112,6 +112,9 @@ module _ (S : Type 0) {A : Type 0} (told : Result (Option A) Refusal → Outcome
   told_values (Ok x) q = ap (λ (o : Option A). (told (Ok o)).values) (sym q)
   told_values (Err r) q = denied r ∙ ap (λ (o : Option A). (told (Ok o)).values) (sym q)
 
+  unwrapped_step : (g : S) {n : S} {f : Result (Option A) Refusal} {o e : Option A} → o ≡ result_unwrap_or f None → o ≡ e → Steps (answer g) (state g) (told f) n → value_step answer state g ≡ step_for (λ v. v) (told (Ok e)).values n
+  unwrapped_step g {n} {f} q m w = value_step_lem S told answer state g refl w ∙ ap (λ (v : List ℕ). step_for (λ v. v) v n) (told_values f q ∙ ap (λ (o : Option A). (told (Ok o)).values) m)
+
   module _ {letter : ℕ} {row : List ℕ → List ℕ} {all : List ℕ} {n₀ k : ℕ} {out₀ out : List ℕ} {g : S} (i : Going (value_step answer state) letter row all n₀ out₀ g out k) {f : Result (Option A) Refusal} {o e : Option A} {n : S}
       (q : o ≡ result_unwrap_or f None) (m : o ≡ e) (w : Steps (answer g) (state g) (told f) n) where
     same_values : (told f).values ≡ (told (Ok e)).values
@@ -125,7 +128,7 @@ module _ (S : Type 0) {A : Type 0} (told : Result (Option A) Refusal → Outcome
     unwrapped_less y v = lines_less S told answer state i refl w (rw same_values y) (rw (← same_values) at v)
 
     pub unwrapped_end : step_for (λ v. v) (told (Ok e)).values n ≡ ends n → Laid all n₀ out₀ out k
-    unwrapped_end y = lines_end S told answer state i refl w (rw same_values y)
+    unwrapped_end y = going_end i (unwrapped_step g q m w ∙ y)
 
 -- ---- the beginning of such a loop, of things that have values and are read back from them
 module _ {S A : Type 0} (values : A → List ℕ) (back : List ℕ → A) where

@@ -40,17 +40,17 @@ module _ (l : List ℕ) (n : ℕ) (s : List ℕ) where
     pub judged_off : (o : Outcome) → sheet_judged l n s o ≡ refused (number_of r)
     judged_off = told_off.0
 
-    pub counted_off : (o : Outcome) → Gives (sheet_judged l n s o) (refused (number_of r))
-    counted_off o = record { answer = sym (judged_off o) }
+    pub judged_refused : (o : Outcome) → Gives (sheet_judged l n s o) (refused (number_of r))
+    judged_refused o = record { answer = sym (judged_off o) }
 
     pub within_off : (g : Grammar) (markers delims : List Bool) (most : ℕ) → Gives (begun_within g markers delims l n s most) (Err r)
     within_off g markers delims most = record { answer = sym (ap (at_most most (length (sheet_of g markers delims l n s))) (told_off.1 g markers delims)) }
 
 module _ (g : Grammar) (markers delims : List Bool) (l : List ℕ) (n : ℕ) (s : List ℕ) where
   -- how many items there are, told of what was judged
-  pub counted_on : length s ≤ 4294967295 → misshapen l n (length s) ≡ false → (k : ℕ) → Gives (length (sheet_of g markers delims l n s)) k → Gives (sheet_judged l n s (given (length (sheet_of g markers delims l n s) ∷ []))) (given (k ∷ []))
+  pub judged_counted : length s ≤ 4294967295 → misshapen l n (length s) ≡ false → (k : ℕ) → Gives (length (sheet_of g markers delims l n s)) k → Gives (sheet_judged l n s (given (length (sheet_of g markers delims l n s) ∷ []))) (given (k ∷ []))
   unfolding sheet_judged
-  counted_on short shaped k c = record { answer = rw (c.answer, le-ltb 4294967295 (length s) short, shaped) }
+  judged_counted short shaped k c = record { answer = rw (c.answer, le-ltb 4294967295 (length s) short, shaped) }
 
   -- ---- what the beginning tells
   abbrev pub Begins : Result Walk Refusal → Type 0
@@ -66,13 +66,24 @@ module _ (g : Grammar) (markers delims : List Bool) (l : List ℕ) (n : ℕ) (s 
       by (inr u) (inl v) = rw (u, v) (λ (o : Outcome). rw (u, v))
       by (inr u) (inr v) = let k = ltb-false 4294967295 (length s) u in rw (u, v) (k, v, refl)
 
+  begins_as : {r e : Result Walk Refusal} → r ≡ e → Gives (begun g markers delims l n s) r → Begins e
+  begins_as e b = subst Begins (sym b.answer ∙ e) begins
+
+  -- a refusal
+  module _ {a : Result Walk Refusal} (r : Refusal) (e : a ≡ Err r) (b : Gives (begun g markers delims l n s) a) where
+    pub begun_off : (o : Outcome) → sheet_judged l n s o ≡ refused (number_of r)
+    begun_off = begins_as e b
+
+    pub counted_off : (o : Outcome) → Gives (sheet_judged l n s o) (refused (number_of r))
+    counted_off o = record { answer = sym (begun_off o) }
+
   -- scanners and a cursor
   module _ (w : Walk) (b : Gives (begun g markers delims l n s) (Ok w)) where
     fresh : Walk
     fresh = record { feed = fresh_feed g markers delims s; index = 0 }
 
     told_on : (length s ≤ 4294967295) × (misshapen l n (length s) ≡ false) × (w ≡ record { feed = fresh_feed g markers delims s; index = 0 })
-    told_on = subst Begins (sym b.answer) begins
+    told_on = begins_as refl b
 
     pub begun_ready : Ready markers delims l n s w
     begun_ready = subst (Ready markers delims l n s) (sym told_on.2) (started_ready g markers delims l n s (fresh_feed g markers delims s) told_on.0 (record { answer = refl }) told_on.1)
@@ -85,6 +96,9 @@ module _ (g : Grammar) (markers delims : List Bool) (l : List ℕ) (n : ℕ) (s 
 
     pub all_counted : (k : ℕ) → Gives (length (left markers delims s (rows wide n l) w.feed)) k → Gives (length (sheet_of g markers delims l n s)) k
     all_counted k c = record { answer = c.answer ∙ ap length begun_left }
+
+    pub counted_on : (k : ℕ) → Gives (length (left markers delims s (rows wide n l) w.feed)) k → Gives (sheet_judged l n s (given (length (sheet_of g markers delims l n s) ∷ []))) (given (k ∷ []))
+    counted_on k c = judged_counted told_on.0 told_on.1 k (all_counted k c)
 
     within_is : (most : ℕ) → begun_within g markers delims l n s most ≡ at_most most (length (sheet_of g markers delims l n s)) (Ok w)
     within_is most = ap (at_most most (length (sheet_of g markers delims l n s))) (sym b.answer)
@@ -114,7 +128,7 @@ module _ (g : Grammar) (markers delims : List Bool) (l : List ℕ) (n : ℕ) (s 
       where
         by : (b : Result Walk Refusal) → begun g markers delims l n s ≡ b → (ltb most (length (sheet_of g markers delims l n s)) ≡ true) ⊎ (ltb most (length (sheet_of g markers delims l n s)) ≡ false)
             → BeginsWithin (at_most most (length (sheet_of g markers delims l n s)) b)
-        by (Err r) e v = λ (width : ℕ) (out : List ℕ) (m : most ≡ length out / width). subst Begins e begins (filled_answer width (sheet_of g markers delims l n s) out)
+        by (Err r) e v = λ (width : ℕ) (out : List ℕ) (m : most ≡ length out / width). begun_off r e (record { answer = refl }) (filled_answer width (sheet_of g markers delims l n s) out)
         by (Ok w) e (inl v) =
             let t = told_on w (record { answer = sym e }) in
             rw v (λ (width : ℕ) (out : List ℕ) (m : most ≡ length out / width). rw (le-ltb 4294967295 (length s) t.0, t.1, ← m, v))
@@ -143,6 +157,10 @@ module _ (g : Grammar) (markers delims : List Bool) (l : List ℕ) (n : ℕ) (s 
 
     pub within_ready : {a : Result Walk Refusal} (w : Walk) → a ≡ Ok w → Gives (begun_within g markers delims l n s most) a → Ready markers delims l n s w
     within_ready w e b = (within_told e b).0
+
+    pub within_judged : {a : Result Walk Refusal} (w : Walk) → a ≡ Ok w → Gives (begun_within g markers delims l n s most) a → (o : Outcome) → sheet_judged l n s o ≡ o
+    unfolding sheet_judged
+    within_judged w e b o = let t = within_told e b in rw (le-ltb 4294967295 (length s) t.3, t.4)
 
     pub within_left : {a : Result Walk Refusal} (w : Walk) → a ≡ Ok w → Gives (begun_within g markers delims l n s most) a → left markers delims s (rows wide n l) w.feed ≡ sheet_of g markers delims l n s
     within_left w e b = (within_told e b).1

@@ -1,9 +1,9 @@
 -- `sheet_listed` meets its contract. Assumes nothing.
-use Rattle.listed.specs.ListedLaws.{listed_off, listed_on}
+use Rattle.listed.specs.ListedLaws.{listed_refused, listed_on}
 use Rattle.listed.proofs.sheet_listed.Goals as goal
 
 pub returns-in-Err : goal.returns-in-Err
-returns-in-Err c = listed_off _ _ _ _ _ _ _ _ c.in-Err.ensures c.number.ensures _
+returns-in-Err c = listed_refused _ _ _ _ _ _ _ _ c.in-Err.ensures c.number.ensures _
 
 pub returns : goal.returns
 returns c =
