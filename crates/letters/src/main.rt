@@ -1,9 +1,10 @@
-// Replays stored answers by the library `replaying`, as `replay` and `recall` do by functions of their own: a page that says a number back,
-// and a section that says which byte stands at a place. It shows what a program of that library writes, and tests it.
+// Replays stored answers by the library `replaying`, as `replay` and `recall` do by functions of their own: a page that says a number back
+// or asks the section, and a section that says which byte stands at a place. It shows what a program of that library writes, and tests it.
 #![tactic(auto)]
 
-ghost use Rattle.letters.specs.Letters.{form_in, byte_said, page_said};
+ghost use Rattle.letters.specs.Letters.{form_in, byte_said, PageSays};
 
+use replaying::question;
 use replaying::sections::{Page, Sections};
 use stored::asked::Asked;
 use stored::form::Form;
@@ -35,13 +36,12 @@ impl Sections for Letters {
 }
 
 impl Page for Letters {
-    ghost use Rattle.std.specs.Prelude.{◌≡◌};
-
-    ghost pages = { λ letter numbers reply. reply ≡ page_said letter numbers };
+    ghost pages = { PageSays };
 
     fn reply(letter: u8, numbers: &[u32]) -> Numbers {
         match (letter, numbers) {
             (b'n', [number]) => Numbers::none().and(*number),
+            (b'b', _) => question::reply::<Letters>(1, letter, false, numbers),
             _ => Numbers::none(),
         }
     }
