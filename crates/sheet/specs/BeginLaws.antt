@@ -97,9 +97,6 @@ module _ (g : Grammar) (markers delims : List Bool) (l : List ℕ) (n : ℕ) (s 
     pub all_counted : (k : ℕ) → Gives (length (left markers delims s (rows wide n l) w.feed)) k → Gives (length (sheet_of g markers delims l n s)) k
     all_counted k c = record { answer = c.answer ∙ ap length begun_left }
 
-    pub counted_on : (k : ℕ) → Gives (length (left markers delims s (rows wide n l) w.feed)) k → Gives (sheet_judged l n s (given (length (sheet_of g markers delims l n s) ∷ []))) (given (k ∷ []))
-    counted_on k c = judged_counted told_on.0 told_on.1 k (all_counted k c)
-
     within_is : (most : ℕ) → begun_within g markers delims l n s most ≡ at_most most (length (sheet_of g markers delims l n s)) (Ok w)
     within_is most = ap (at_most most (length (sheet_of g markers delims l n s))) (sym b.answer)
 
@@ -115,6 +112,10 @@ module _ (g : Grammar) (markers delims : List Bool) (l : List ℕ) (n : ℕ) (s 
 
       pub within_counted : k ≤ most → Gives (begun_within g markers delims l n s most) (Ok w)
       within_counted h = let z : length (sheet_of g markers delims l n s) ≤ most = omega (arith, k-is) in record { answer = sym (within_is most ∙ rw (le-ltb most (length (sheet_of g markers delims l n s)) z)) }
+
+  module _ {a : Result Walk Refusal} (w : Walk) (e : a ≡ Ok w) (b : Gives (begun g markers delims l n s) a) where
+    pub counted_on : (k : ℕ) → Gives (length (left markers delims s (rows wide n l) w.feed)) k → Gives (sheet_judged l n s (given (length (sheet_of g markers delims l n s) ∷ []))) (given (k ∷ []))
+    counted_on k c = let t = begins_as e b in judged_counted t.0 t.1 k (all_counted w (record { answer = sym e ∙ b.answer }) k c)
 
   -- ---- what the beginning of a sheet that may have no more than `most` items tells
   module _ (most : ℕ) where
