@@ -3,19 +3,25 @@
 -- answer is how many questions were asked, and two sums." and "A capital letter with a star asks of texts that are drawn".
 use Rattle.std.specs.Prelude.{◌≡◌, ◌⊎◌, Bool, List, ℕ, zero, suc, ◌≤◌, get_or, Result, Ok, Err}
 use Rattle.stored.specs.Form.{small_of, question_of, part_of, rest_of, way_of}
+use Rattle.stored.specs.Line.{kind_of}
 use Rattle.stored.specs.Long.{no_text, in_runs, drawn_text}
 use Rattle.stored.specs.Numbers.{after_sums, no_numbers, said_sums, up_to_refusal}
 use Rattle.stored.specs.Parts.{numbers_between, bytes_of}
 use Rattle.stored.specs.Sums.{no_sums, fed_question, one_more}
+use Rattle.stored.specs.Tally.{new_tally, judged_by}
 use Rattle.stored.specs.Texts.{text_of, spot_of}
 use Rattle.stored.specs.declared.asked.Asked.{Asked}
 use Rattle.stored.specs.declared.form.Form.{Form}
 use Rattle.stored.specs.declared.form.Question.{Question}
 use Rattle.stored.specs.declared.form.Way.{Way}
 use Rattle.stored.specs.declared.form.Way.TheVariants.{One, Runs, All, Drawn, Unknown}
+use Rattle.stored.specs.declared.line.Line.{Line}
+use Rattle.stored.specs.declared.line.Kind.{Kind}
+use Rattle.stored.specs.declared.line.Kind.TheVariants as line
 use Rattle.stored.specs.declared.long.Long.{Long}
 use Rattle.stored.specs.declared.numbers.Numbers.{Numbers}
 use Rattle.stored.specs.declared.sums.Sums.{Sums}
+use Rattle.stored.specs.declared.tally.Tally.{Tally}
 use Rattle.stored.specs.declared.texts.Spot.{Spot}
 
 -- ---- a question as sections are asked it
@@ -116,3 +122,19 @@ pub record Answered (forms : ℕ → ℕ → Form → Type 0) (says : Posed → 
 pub record AnsweredIn (pages : ℕ → List ℕ → Numbers → Type 0) (forms : ℕ → ℕ → Form → Type 0) (says : Posed → Numbers → Numbers → Type 0) (section letter : ℕ) (starred : Bool) (l : List ℕ) (r : Numbers) : Type 0 where
   pub page : section ≡ 0 → pages letter l r
   pub other : (section ≡ 0 → ⊥) → (n : Numbers) × Answered forms says section letter starred l n × (r ≡ up_to_refusal n)
+
+-- ---- what is counted after a line that begins at a place: a section begins anew, and what is found is compared with what is stored
+module _ (pages : ℕ → List ℕ → Numbers → Type 0) (forms : ℕ → ℕ → Form → Type 0) (says : Posed → Numbers → Numbers → Type 0) (at : ℕ) (l : Line) (before after : Tally) where
+  pub record LineCompared : Type 0 where
+    pub found : Numbers
+    pub answer : AnsweredIn pages forms says before.section l.letter l.starred (numbers_between l.numbers.cells 0 l.asked) found
+    pub counted : after ≡ judged_by before l found
+
+  abbrev pub LineCountedBy : Kind → Type 0
+  LineCountedBy line.Comment = after ≡ before
+  LineCountedBy (line.Section number) = after ≡ new_tally before.line number at
+  LineCountedBy line.Question = LineCompared
+  LineCountedBy line.Broken = after ≡ judged_by before l no_numbers
+
+  abbrev pub LineCounted : Type 0
+  LineCounted = LineCountedBy (kind_of l)

@@ -1,6 +1,8 @@
 // The lines of a list: what ours answer is compared with what is stored.
+ghost use Rattle.search.specs.Promise.{Gives};
 ghost use Rattle.stored.specs.Parts.{numbers_between};
-ghost use Rattle.replaying.specs.Replying.{AnsweredIn};
+ghost use Rattle.stored.specs.Tally.{judged_by};
+ghost use Rattle.replaying.specs.Replying.{AnsweredIn, LineCounted};
 
 use crate::sections::Page;
 use crate::{question, report};
@@ -24,7 +26,9 @@ pub(crate) fn judge<P: Page>(rt: &impl Print, text: &[u8]) {
 }
 
 // The line that begins at `at`.
-fn judged<P: Page>(rt: &impl Print, text: &[u8], at: usize, line: Line, tally: Tally) -> Tally {
+fn judged<P: Page>(rt: &impl Print, text: &[u8], at: usize, line: Line, tally: Tally) -> Tally
+    ensures { LineCounted P.pages P.forms P.says at line tally result }
+{
     match line.kind() {
         Kind::Comment => tally,
         Kind::Section(number) => {
@@ -36,7 +40,9 @@ fn judged<P: Page>(rt: &impl Print, text: &[u8], at: usize, line: Line, tally: T
     }
 }
 
-fn compared(rt: &impl Print, line: Line, reply: Numbers, before: Tally) -> Tally {
+fn compared(rt: &impl Print, line: Line, reply: Numbers, before: Tally) -> Tally
+    ensures { Gives (judged_by before line reply) result }
+{
     let tally = before.judged(line, reply);
     report::told(rt, before, tally, reply);
     tally
